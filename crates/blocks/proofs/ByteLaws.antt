@@ -1,0 +1,225 @@
+-- Laws of parts, splices, 32-bit numbers, blocks and stores.
+use mathlib.Core.Path.{_≡_, refl, sym, ap, _∙_}
+use mathlib.Core.Logic.{_⊎_, inl, inr}
+use mathlib.Core.List.{List, [], _∷_, _++_, append-assoc, append-nil}
+use Prim.Native.Nat.{ℕ, suc, _+_, _*_, _-_, _≤_, _<_, _/_, _%_, _^_}
+use native.Mathlib.Numerals.{add-one}
+use native.Mathlib.Omega.{arith}
+use native.Mathlib.Nat.{add-assoc, zero-add, add-zero, div-div-eq-div-mul, div-add-mod'}
+use mathlib.Core.Bool.{Bool, true, false}
+use lib.Dec.{ltb}
+use borrow.Author.Tests.{ltb-true, ltb-false}
+use lib.ListN.{length, take, drop, getD, set, length-append, length-take, length-drop, List·getD-append}
+use lib.Seq.{take-length, drop-length, paste, paste-zero, paste-suc, take-at, drop-at, getD-take, getD-drop, getD-append-add, ext-getD, drop-drop, drop-append-add}
+use Rattle.blocks.specs.Bytes.{u32At, le32, splice, part, blockAt, storeBlock}
+
+-- area after the first n elements of s were copied in from index at. Shut, so that `_` and `rw` find its arguments
+unfoldable pub copied : List ℕ → ℕ → List ℕ → ℕ → List ℕ
+copied d at s n = paste d at s n
+
+module _ (d : List ℕ) (at : ℕ) (s : List ℕ) where
+  pub copied-none : d ≡ copied d at s 0
+  unfolding copied
+  copied-none = paste-zero d at s
+
+  pub copied-more : (j : ℕ) → at + j < length d → j < length s → set (copied d at s j) (at + j) (getD s j 0) ≡ copied d at s (j + 1)
+  unfolding copied
+  copied-more j hd hs = rw add-one (paste-suc d at s j 0 hd hs)
+
+  pub copied-all : (j : ℕ) → j ≡ length s → copied d at s j ≡ splice d at s
+  unfolding copied splice
+  copied-all j e = rw (e, take-length)
+
+  pub length-splice : at + length s ≤ length d → length (splice d at s) ≡ length d
+  unfolding splice
+  length-splice h = simp (length-append, length-take, length-drop) (omega arith)
+
+pub splice-whole : (d s : List ℕ) → length s ≡ length d → splice d 0 s ≡ s
+unfolding splice
+splice-whole d s h = rw (zero-add, h, drop-length) (append-nil s)
+
+-- a splice at the start is the new elements and then the rest
+pub splice-start : (d s : List ℕ) → splice d 0 s ≡ s ++ drop (length s) d
+unfolding splice
+splice-start d s = rw zero-add
+
+-- a copy of a part of c over the whole of d
+pub part-copied : (c d : List ℕ) (at : ℕ) → at + length d ≤ length c → splice d 0 (part c at (at + length d - at)) ≡ part c at (length d)
+part-copied c d at h =
+    let e : at + length d - at ≡ length d = omega arith in
+    rw e (splice-whole d (part c at (length d)) (simp (length-take, length-drop) (omega arith)))
+
+pub length-part : (c : List ℕ) (at n : ℕ) → at + n ≤ length c → length (part c at n) ≡ n
+length-part c at n h = simp (length-take, length-drop) (omega arith)
+
+pub part-at : (c : List ℕ) (b n i : ℕ) → i < n → getD (part c b n) i 0 ≡ getD c (b + i) 0
+part-at c b n i h = rw (getD-take, getD-drop)
+
+-- a part of a part
+pub part-part : (c : List ℕ) (b n k m : ℕ) → k + m ≤ n → b + n ≤ length c → part (part c b n) k m ≡ part c (b + k) m
+part-part c b n k m h l =
+    ext-getD 0 (part (part c b n) k m) (part c (b + k) m)
+    (length-part (part c b n) k m (rw (length-part c b n l) h) ∙ sym (length-part c (b + k) m (omega arith)))
+    (λ i j.
+    let i-in : i < m = omega (arith, simp length-take at j) in
+    part-at (part c b n) k m i i-in
+    ∙ part-at c b n (k + i) (omega arith)
+    ∙ ap (λ (x : ℕ). getD c x 0) (sym (add-assoc b k i))
+    ∙ sym (part-at c (b + k) m i i-in))
+
+-- two parts are equal where their elements are
+pub part-ext : (x y : List ℕ) (b n : ℕ) → length x ≡ length y → ((i : ℕ) → b ≤ i → i < b + n → getD x i 0 ≡ getD y i 0) → part x b n ≡ part y b n
+part-ext x y b n e f =
+    ext-getD 0 (part x b n) (part y b n) (simp (length-take, length-drop, e))
+    (λ i h.
+    let l : i < n = omega (arith, simp length-take at h) in
+    part-at x b n i l ∙ f (b + i) (omega arith) (omega arith) ∙ sym (part-at y b n i l))
+
+-- what stands at each index of a splice: before, in and after what was put in
+module _ (c : List ℕ) (at : ℕ) (d : List ℕ) (fits : at + length d ≤ length c) where
+  head-length : length (take at c ++ d) ≡ at + length d
+  head-length = simp (length-append, length-take) (omega arith)
+
+  take-is : length (take at c) ≡ at
+  take-is = simp length-take (omega arith)
+
+  pub splice-before : (i : ℕ) → i < at → getD (splice c at d) i 0 ≡ getD c i 0
+  unfolding splice
+  splice-before i h =
+      List·getD-append (take at c ++ d) (drop (at + length d) c) 0 i (rw head-length (omega arith))
+      ∙ List·getD-append (take at c) d 0 i (rw take-is (omega arith))
+      ∙ getD-take at c i 0 h
+
+  pub splice-in : (k : ℕ) → k < length d → getD (splice c at d) (at + k) 0 ≡ getD d k 0
+  unfolding splice
+  splice-in k h =
+      List·getD-append (take at c ++ d) (drop (at + length d) c) 0 (at + k) (rw head-length (omega arith))
+      ∙ ap (λ (n : ℕ). getD (take at c ++ d) (n + k) 0) (sym take-is)
+      ∙ getD-append-add (take at c) d k 0
+
+  pub splice-after : (i : ℕ) → at + length d ≤ i → getD (splice c at d) i 0 ≡ getD c i 0
+  unfolding splice
+  splice-after i h =
+      let e : i ≡ length (take at c ++ d) + (i - (at + length d)) = rw head-length (omega arith) in
+      let f : at + length d + (i - (at + length d)) ≡ i = omega arith in
+      ap (λ (n : ℕ). getD (take at c ++ d ++ drop (at + length d) c) n 0) e
+      ∙ getD-append-add (take at c ++ d) (drop (at + length d) c) (i - (at + length d)) 0
+      ∙ getD-drop (at + length d) c (i - (at + length d)) 0
+      ∙ ap (λ (n : ℕ). getD c n 0) f
+
+  -- elsewhere, an element, a number and a part are as they were
+  pub splice-other : (i : ℕ) → (i < at) ⊎ (at + length d ≤ i) → getD (splice c at d) i 0 ≡ getD c i 0
+  splice-other i (inl h) = splice-before i h
+  splice-other i (inr h) = splice-after i h
+
+  pub u32-before : (i : ℕ) → i + 4 ≤ at → u32At (splice c at d) i ≡ u32At c i
+  unfolding u32At
+  u32-before i h = rw (splice-before i (omega arith), splice-before (i + 1) (omega arith), splice-before (i + 2) (omega arith), splice-before (i + 3) (omega arith))
+
+  pub u32-after : (i : ℕ) → at + length d ≤ i → u32At (splice c at d) i ≡ u32At c i
+  unfolding u32At
+  u32-after i h = rw (splice-after i (omega arith), splice-after (i + 1) (omega arith), splice-after (i + 2) (omega arith), splice-after (i + 3) (omega arith))
+
+  pub part-before : (b n : ℕ) → b + n ≤ at → part (splice c at d) b n ≡ part c b n
+  part-before b n h = part-ext (splice c at d) c b n (length-splice c at d fits) (λ i l m. splice-before i (omega arith))
+
+  pub part-after : (b n : ℕ) → at + length d ≤ b → part (splice c at d) b n ≡ part c b n
+  part-after b n h = part-ext (splice c at d) c b n (length-splice c at d fits) (λ i l m. splice-after i (omega arith))
+
+  -- inside what was put in, they are those of what was put in
+  pub u32-within : (k : ℕ) → k + 4 ≤ length d → u32At (splice c at d) (at + k) ≡ u32At d k
+  unfolding u32At
+  u32-within k h =
+      rw (add-assoc at k 1, add-assoc at k 2, add-assoc at k 3, splice-in k (omega arith), splice-in (k + 1) (omega arith), splice-in (k + 2) (omega arith), splice-in (k + 3) (omega arith))
+
+  pub part-within : (k n : ℕ) → k + n ≤ length d → part (splice c at d) (at + k) n ≡ part d k n
+  part-within k n h =
+      ext-getD 0 (part (splice c at d) (at + k) n) (part d k n) (simp (length-take, length-drop, length-splice c at d fits) (omega arith))
+      (λ i l.
+      let i-in : i < n = omega (arith, simp length-take at l) in
+      part-at (splice c at d) (at + k) n i i-in
+      ∙ ap (λ (j : ℕ). getD (splice c at d) j 0) (add-assoc at k i)
+      ∙ splice-in (k + i) (omega arith)
+      ∙ sym (part-at d k n i i-in))
+
+-- omega does not prove nested quotients in one go: name them, and it is a sum
+digit-sum : (v a b c r s t : ℕ) → a * 256 + r ≡ v → b * 256 + s ≡ a → c * 256 + t ≡ b → r + 256 * s + 65536 * t + 16777216 * c ≡ v
+digit-sum v a b c r s t p q w = omega arith
+
+pub digits : (v : ℕ) → v < 2 ^ 32 → v % 256 + 256 * (v / 256 % 256) + 65536 * (v / 65536 % 256) + 16777216 * (v / 16777216 % 256) ≡ v
+digits v h =
+    let c : v / 16777216 % 256 ≡ v / 16777216 = omega arith in
+    rw c
+    (digit-sum v (v / 256) (v / 65536) (v / 16777216) (v % 256) (v / 256 % 256) (v / 65536 % 256) (omega arith)
+    (ap (λ (n : ℕ). n * 256 + v / 256 % 256) (sym (div-div-eq-div-mul v 256 256)) ∙ div-add-mod' (v / 256) 256)
+    (ap (λ (n : ℕ). n * 256 + v / 65536 % 256) (sym (div-div-eq-div-mul v 65536 256)) ∙ div-add-mod' (v / 65536) 256))
+
+pub length-le32 : (v : ℕ) → length (le32 v) ≡ 4
+unfolding le32
+length-le32 v = refl
+
+-- a number that was put is the one that is read
+pub u32-le32 : (v : ℕ) → v < 2 ^ 32 → u32At (le32 v) 0 ≡ v
+unfolding le32 u32At
+u32-le32 v h = digits v h
+
+pub u32-in : (c : List ℕ) (at v : ℕ) → at + 4 ≤ length c → v < 2 ^ 32 → u32At (splice c at (le32 v)) at ≡ v
+u32-in c at v h hv =
+    let fits : at + length (le32 v) ≤ length c = rw length-le32 h in
+    let e = u32-within c at (le32 v) fits 0 (rw length-le32 (omega arith)) in
+    (rw add-zero at e) ∙ u32-le32 v hv
+
+-- a number in a part of a card
+pub u32-part : (c : List ℕ) (at n k : ℕ) → k + 4 ≤ n → u32At (part c at n) k ≡ u32At c (at + k)
+unfolding u32At
+u32-part c at n k h =
+    rw (part-at c at n k (omega arith), part-at c at n (k + 1) (omega arith), part-at c at n (k + 2) (omega arith), part-at c at n (k + 3) (omega arith), add-assoc at k 1, add-assoc at k 2, add-assoc at k 3)
+
+-- two puts, the second where the first ends, are one
+pub splice-join : (c : List ℕ) (at : ℕ) (x : List ℕ) (b : ℕ) (y : List ℕ) → at + length x ≡ b → b + length y ≤ length c → splice (splice c at x) b y ≡ splice c at (x ++ y)
+unfolding splice
+splice-join c at x b y e h =
+    let hd : List ℕ = take at c ++ x in
+    let tl : List ℕ = drop (at + length x) c in
+    let hl : length hd ≡ b = head-length c at x (omega arith) ∙ e in
+    let f : at + length x + length y ≡ at + (length x + length y) = omega arith in
+    ap (λ (l : List ℕ). l ++ y ++ drop (b + length y) (hd ++ tl)) (take-at hd tl b hl)
+    ∙ ap (λ (l : List ℕ). hd ++ y ++ l)
+    (ap (λ (n : ℕ). drop (n + length y) (hd ++ tl)) (sym hl) ∙ drop-append-add hd tl (length y) ∙ drop-drop (length y) (at + length x) c ∙ ap (λ (n : ℕ). drop n c) f)
+    ∙ ap (λ (l : List ℕ). l ++ drop (at + (length x + length y)) c) (append-assoc (take at c) x y)
+    ∙ ap (λ (n : ℕ). take at c ++ (x ++ y) ++ drop (at + n) c) (sym (length-append x y))
+
+-- the same, from what two calls ensure
+pub put-next : (c : List ℕ) {c′ c″ : List ℕ} (at : ℕ) (x : List ℕ) (b : ℕ) (y : List ℕ) → c′ ≡ splice c at x → c″ ≡ splice c′ b y → at + length x ≡ b → b + length y ≤ length c
+    → c″ ≡ splice c at (x ++ y)
+put-next c at x b y p q e h = rw (q, p) (splice-join c at x b y e h)
+
+-- blocks: the length of a block of the card, and what a store of a block changes
+pub length-blockAt : (c : List ℕ) (p : ℕ) → 512 * p + 512 ≤ length c → length (blockAt c p) ≡ 512
+unfolding blockAt
+length-blockAt c p h = length-part c (512 * p) 512 h
+
+module _ (c : List ℕ) (p : ℕ) (b : List ℕ) (whole : length b ≡ 512) (inside : 512 * p + 512 ≤ length c) where
+  store-fits : 512 * p + length b ≤ length c
+  store-fits = omega arith
+
+  pub store-length : length (storeBlock c p b) ≡ length c
+  unfolding storeBlock
+  store-length = length-splice c (512 * p) b store-fits
+
+  pub store-same : blockAt (storeBlock c p b) p ≡ b
+  unfolding storeBlock blockAt
+  store-same =
+      ap (λ (n : ℕ). part (splice c (512 * p) b) n 512) (sym (add-zero (512 * p)))
+      ∙ part-within c (512 * p) b store-fits 0 512 (omega arith)
+      ∙ rw (← whole) (take-length b)
+
+  pub store-other : (q : ℕ) → (q ≡ p → ⊥) → blockAt (storeBlock c p b) q ≡ blockAt c q
+  unfolding storeBlock blockAt
+  store-other q n =
+      part-ext (splice c (512 * p) b) c (512 * q) 512 (length-splice c (512 * p) b store-fits)
+      (λ i l m. splice-other c (512 * p) b store-fits i (outside i n l m (ltb i (512 * p)) refl))
+    where
+      outside : (i : ℕ) → (q ≡ p → ⊥) → 512 * q ≤ i → i < 512 * q + 512 → (t : Bool) → ltb i (512 * p) ≡ t → (i < 512 * p) ⊎ (512 * p + length b ≤ i)
+      outside i n l m true e = inl (ltb-true i (512 * p) e)
+      outside i n l m false e = inr (omega (arith, ltb-false i (512 * p) e, n))

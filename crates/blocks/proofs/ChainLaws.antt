@@ -1,0 +1,257 @@
+-- Laws of the walk along the chain, as the code asks them.
+use mathlib.Core.Path.{_≡_, refl, sym, ap, _∙_, subst}
+use mathlib.Core.Bool.{Bool, true, false, not, _&&_, _||_}
+use mathlib.Core.List.{List, [], _∷_, _++_}
+use Prim.Native.Nat.{ℕ, zero, suc, _+_, _*_, _-_, _/_, _≤_, _<_}
+use native.Mathlib.Numerals.{add-one}
+use native.Mathlib.Omega.{arith}
+use lib.ListN.{length, take, drop, getD, set, replicate, length-append, length-take, length-set, length-replicate, drop-of-length-le}
+use lib.Seq.{drop-cons, take-suc, getD-take, take-set-le, getD-set-same, getD-set-other, set-at, append-snoc}
+use lib.Dec.{eqb, ltb, leb}
+use borrow.Author.Tests.{eq-eqb, ne-eqb, lt-ltb, le-ltb, le-leb, lt-leb, eqb-true, eqb-false, ltb-true, ltb-false, leb-true, not-true, not-false}
+use Rattle.blocks.specs.Pick.{pick, same}
+use Rattle.blocks.specs.Bytes.{blockCount}
+use Rattle.blocks.specs.Descriptor.{physical, tableCount, cost, costOf, descriptorAt}
+use Rattle.blocks.specs.Chain.{formOk, regionOk, named, sound, Chain, Unsound, Sound, descriptorsAt, chainFrom, chain, ends, startsOf, regionsOf}
+use Rattle.blocks.specs.declared.descriptor.Descriptor.{Descriptor}
+use Rattle.blocks.specs.declared.chain.Regions.{Regions}
+use Rattle.blocks.proofs.Tests.{and-left, and-right}
+
+-- whether one of the blocks from index j up to index k holds a descriptor with the name
+unfoldable pub namedFrom : List ℕ → List ℕ → ℕ → List ℕ → ℕ → Bool
+namedFrom c starts k name j = named (descriptorsAt c (drop j (take k starts))) name
+
+module _ (c starts : List ℕ) (k : ℕ) (name : List ℕ) where
+  pub named-start : named (descriptorsAt c (take k starts)) name ≡ namedFrom c starts k name 0
+  unfolding namedFrom
+  named-start = refl
+
+  module _ (j : ℕ) (more : j < k) (long : k ≤ length starts) where
+    named-step : namedFrom c starts k name j ≡ (same (descriptorAt c (getD starts j 0) .name) name || namedFrom c starts k name (j + 1))
+    unfolding namedFrom named descriptorsAt
+    named-step = rw (add-one, drop-cons (take k starts) j 0 (simp length-take (omega arith)), getD-take k starts j 0 more)
+
+    pub named-stop : (b : Bool) → b ≡ same (descriptorAt c (getD starts j 0) .name) name → b ≡ true → namedFrom c starts k name j ≡ true
+    named-stop b e h = named-step ∙ rw (← e, h)
+
+    pub named-more : (b : Bool) → b ≡ same (descriptorAt c (getD starts j 0) .name) name → b ≡ false → namedFrom c starts k name j ≡ namedFrom c starts k name (j + 1)
+    named-more b e h = named-step ∙ rw (← e, h)
+
+  pub named-end : (j : ℕ) → k ≤ j → namedFrom c starts k name j ≡ false
+  unfolding namedFrom named descriptorsAt
+  named-end j h = rw (drop-of-length-le (take k starts) {i = j} (simp length-take (omega arith)))
+
+-- descriptors of one more block, and how many there are
+pub descriptors-snoc : (c : List ℕ) (ps : List ℕ) (p : ℕ) → descriptorsAt c (ps ++ (p ∷ [])) ≡ descriptorsAt c ps ++ (descriptorAt c p ∷ [])
+unfolding descriptorsAt
+descriptors-snoc c [] p = refl
+descriptors-snoc c (q ∷ ps) p = rw (descriptors-snoc c ps p)
+
+pub length-descriptors : (c : List ℕ) (ps : List ℕ) → length (descriptorsAt c ps) ≡ length ps
+unfolding descriptorsAt
+length-descriptors c [] = refl
+length-descriptors c (p ∷ ps) = ap suc (length-descriptors c ps)
+
+-- one more region
+ends-snoc : (ds : List Descriptor) (d : Descriptor) → ends (ds ++ (d ∷ [])) ≡ ends ds ++ (d .beta .0 ∷ [])
+unfolding ends
+ends-snoc [] d = refl
+ends-snoc (e ∷ ds) d = rw (ends-snoc ds d)
+
+length-ends : (ds : List Descriptor) → length (ends ds) ≡ length ds
+unfolding ends
+length-ends [] = refl
+length-ends (d ∷ ds) = ap suc (length-ends ds)
+
+pub starts-snoc : (ds : List Descriptor) (d : Descriptor) (k : ℕ) → length ds ≡ k → k < 256 → set (startsOf ds) (k + 1) (d .beta .0) ≡ startsOf (ds ++ (d ∷ []))
+unfolding startsOf
+starts-snoc ds d k e h =
+    let m : ℕ = 256 - length (ds ++ (d ∷ [])) in
+    let f : 256 - length ds ≡ suc m = omega (arith, length-append ds (d ∷ [])) in
+    rw (add-one, ends-snoc, f)
+    (ap (λ (t : List ℕ). 0 ∷ t) (set-at (ends ds) 0 (replicate m 0) (d .beta .0) k (length-ends ds ∙ e) ∙ sym (append-snoc (ends ds) (d .beta .0) (replicate m 0))))
+
+-- what a region test gives: its length, its end and its link
+module _ (first : Descriptor) (n p : ℕ) (d : Descriptor) (ok : regionOk first n p d ≡ true) where
+  abbrev link : Bool
+  link = eqb (d .next .0) 0 || (eqb (d .next .0) (d .beta .0) && ltb (d .beta .0) n)
+
+  abbrev test : ℕ → Bool
+  test zero = eqb (d .layout) (first .layout)
+  test (suc zero) = eqb (d .volume) (first .volume)
+  test (suc (suc zero)) = eqb (d .alpha .0) p
+  test (suc (suc (suc zero))) = leb (d .alpha .0 + costOf d) (d .beta .0)
+  test (suc (suc (suc (suc k)))) = leb (d .beta .0) n
+
+  parts : ((test 0 && test 1 && test 2 && test 3 && test 4) ≡ true) × (link ≡ true)
+  unfolding regionOk
+  parts = (and-left (test 0 && test 1 && test 2 && test 3 && test 4) link ok, and-right (test 0 && test 1 && test 2 && test 3 && test 4) link ok)
+
+  parts₄ : ((test 0 && test 1 && test 2 && test 3) ≡ true) × (test 4 ≡ true)
+  parts₄ = (and-left (test 0 && test 1 && test 2 && test 3) (test 4) (parts .0), and-right (test 0 && test 1 && test 2 && test 3) (test 4) (parts .0))
+
+  parts₃ : ((test 0 && test 1 && test 2) ≡ true) × (test 3 ≡ true)
+  parts₃ = (and-left (test 0 && test 1 && test 2) (test 3) (parts₄ .0), and-right (test 0 && test 1 && test 2) (test 3) (parts₄ .0))
+
+  parts₂ : ((test 0 && test 1) ≡ true) × (test 2 ≡ true)
+  parts₂ = (and-left (test 0 && test 1) (test 2) (parts₃ .0), and-right (test 0 && test 1) (test 2) (parts₃ .0))
+
+  pub region-layout : d .layout ≡ first .layout
+  region-layout = eqb-true _ _ (and-left (test 0) (test 1) (parts₂ .0))
+
+  pub region-volume : d .volume ≡ first .volume
+  region-volume = eqb-true _ _ (and-right (test 0) (test 1) (parts₂ .0))
+
+  pub region-alpha : d .alpha .0 ≡ p
+  region-alpha = eqb-true _ _ (parts₂ .1)
+
+  pub region-long : d .alpha .0 + costOf d ≤ d .beta .0
+  region-long = leb-true _ _ (parts₃ .1)
+
+  pub region-end : d .beta .0 ≤ n
+  region-end = leb-true _ _ (parts₄ .1)
+
+  link-by : (t : Bool) → eqb (d .next .0) 0 ≡ t → (d .next .0 ≡ 0 → ⊥) → (d .next .0 ≡ d .beta .0) × (d .beta .0 < n)
+  link-by true e z = absurd (z (eqb-true (d .next .0) 0 e))
+  link-by false e z =
+      let q : (eqb (d .next .0) (d .beta .0) && ltb (d .beta .0) n) ≡ true = rw e at (parts .1) in
+      (eqb-true _ _ (and-left (eqb (d .next .0) (d .beta .0)) (ltb (d .beta .0) n) q), ltb-true _ _ (and-right (eqb (d .next .0) (d .beta .0)) (ltb (d .beta .0) n) q))
+
+  pub region-next : (d .next .0 ≡ 0 → ⊥) → (d .next .0 ≡ d .beta .0) × (d .beta .0 < n)
+  region-next z = link-by (eqb (d .next .0) 0) refl z
+
+cost-by : (n : ℕ) (t : Bool) → 1 ≤ pick t (1 + n) 1
+cost-by n true = omega arith
+cost-by n false = omega arith
+
+pub cost-least : (layout volume : ℕ) → 1 ≤ cost layout volume
+unfolding cost
+cost-least layout volume = cost-by (tableCount volume) (eqb layout 1)
+
+-- an area with no whole block has no sound descriptor
+region-none : (first d : Descriptor) (p : ℕ) (t : Bool) → regionOk first 0 p d ≡ t → t ≡ false
+region-none first d p true e = absurd (omega (arith, region-long first 0 p d e, region-end first 0 p d e, cost-least (d .layout) (d .volume)))
+region-none first d p false e = refl
+
+sound-none : (a b : Bool) → (a && false && b) ≡ false
+sound-none true b = refl
+sound-none false b = refl
+
+none-from : (c : List ℕ) (n f : ℕ) → n ≡ 0 → blockCount c ≡ n → chainFrom c (suc f) [] 0 ≡ Unsound 0
+unfolding chainFrom sound
+none-from c n f h e =
+    let z = region-none (descriptorAt c 0) (descriptorAt c 0) 0 (regionOk (descriptorAt c 0) 0 0 (descriptorAt c 0)) refl in
+    rw (e, h, z, sound-none (formOk c 0 (descriptorAt c 0)))
+
+pub walk-none : (c : List ℕ) → length c / 512 ≡ 0 → (r : Regions) → r ≡ regionsOf (Unsound 0) → r ≡ regionsOf (chain c)
+unfolding chain blockCount
+walk-none c h r e = e ∙ sym (ap regionsOf (none-from c (length c / 512) 255 h refl))
+
+regions-equal : (a b : ℕ) (x y : List ℕ) → a ≡ b → x ≡ y → _≡_ {A = Regions} (record { sound = true; place = physical 0; count = a; starts = x }) (record { sound = true; place = physical 0; count = b; starts = y })
+regions-equal a b x y p q = rw (p, q)
+
+-- where a walk stands after k sound descriptors: block p is next, and starts holds the regions so far
+pub record Walked (c starts : List ℕ) (p k : ℕ) : Type 0 where
+  pub few : k ≤ 256
+  pub long : length starts ≡ 257
+  pub here : getD starts k 0 ≡ p
+  pub inside : (j : ℕ) → j ≤ k → 512 * getD starts j 0 + 512 ≤ length c
+  pub so-far : starts ≡ startsOf (descriptorsAt c (take k starts))
+  pub rest : chain c ≡ chainFrom c (256 - k) (descriptorsAt c (take k starts)) p
+
+pub walked-none : (c : List ℕ) → (length c / 512 ≡ 0 → ⊥) → Walked c (replicate 257 0) 0 0
+unfolding chain startsOf ends descriptorsAt
+walked-none c h =
+    record {
+      few = omega arith;
+      long = refl;
+      here = refl;
+      inside = λ j l. let e : j ≡ 0 = omega arith in rw e (omega (arith, h));
+      so-far = refl;
+      rest = refl;
+    }
+
+module _ (c starts : List ℕ) (p k : ℕ) (w : Walked c starts p k) where
+  abbrev ds : List Descriptor
+  ds = descriptorsAt c (take k starts)
+
+  length-ds : length ds ≡ k
+  length-ds = length-descriptors c (take k starts) ∙ (simp length-take (omega (arith, w .few, w .long)))
+
+  -- block p and the blocks passed are on the card
+  pub walked-here : 512 * p + 512 ≤ length c
+  walked-here = rw (← (w .here)) (w .inside k (omega arith))
+
+  pub walked-passed : (k ≤ length starts) × ((j : ℕ) → j < k → 512 * getD starts j 0 + 512 ≤ length c)
+  walked-passed = (omega (arith, w .few, w .long), λ j h. w .inside j (omega arith))
+
+  -- all 256 descriptors have passed
+  pub walk-out : 256 ≤ k → (r : Regions) → r ≡ regionsOf (Unsound p) → r ≡ regionsOf (chain c)
+  unfolding chainFrom
+  walk-out h r e = let z : 256 - k ≡ zero = omega arith in e ∙ sym (ap regionsOf (w .rest ∙ rw z))
+
+  module _ (more : k < 256) (d : Descriptor) (is : d ≡ descriptorAt c p) (first : Descriptor) (first-is : first ≡ descriptorAt c 0) (n : ℕ) (count : n ≡ length c / 512) where
+    one : 256 - k ≡ suc (256 - (k + 1))
+    one = omega arith
+
+    walk-step : chain c ≡ pick (formOk c p d && regionOk first n p d && not (named ds (d .name))) (pick (eqb (d .next .0) 0) (Sound (ds ++ (d ∷ []))) (chainFrom c (256 - (k + 1)) (ds ++ (d ∷ [])) (d .next .0))) (Unsound p)
+    unfolding chainFrom sound blockCount
+    walk-step = w .rest ∙ rw (one, is, first-is, count)
+
+    module _ (f : Bool) (formed : f ≡ formOk c p d) where
+      pub walk-unformed : not f ≡ true → (r : Regions) → r ≡ regionsOf (Unsound p) → r ≡ regionsOf (chain c)
+      walk-unformed h r e = e ∙ sym (ap regionsOf (walk-step ∙ rw (← formed, not-true f h)))
+
+      module _ (f-is : not f ≡ false) (g : Bool) (placed : g ≡ regionOk first n p d) where
+        pub walk-unplaced : not g ≡ true → (r : Regions) → r ≡ regionsOf (Unsound p) → r ≡ regionsOf (chain c)
+        walk-unplaced h r e = e ∙ sym (ap regionsOf (walk-step ∙ rw (← formed, not-false f f-is, ← placed, not-true g h)))
+
+        module _ (g-is : not g ≡ false) (m : Bool) (called : m ≡ named ds (d .name)) where
+          pub walk-repeated : m ≡ true → (r : Regions) → r ≡ regionsOf (Unsound p) → r ≡ regionsOf (chain c)
+          walk-repeated h r e = e ∙ sym (ap regionsOf (walk-step ∙ rw (← formed, not-false f f-is, ← placed, not-false g g-is, ← called, h)))
+
+          module _ (fresh : m ≡ false) where
+            walk-on : chain c ≡ pick (eqb (d .next .0) 0) (Sound (ds ++ (d ∷ []))) (chainFrom c (256 - (k + 1)) (ds ++ (d ∷ [])) (d .next .0))
+            walk-on = walk-step ∙ rw (← formed, not-false f f-is, ← placed, not-false g g-is, ← called, fresh)
+
+            abbrev starts′ : List ℕ
+            starts′ = set starts (k + 1) (d .beta .0)
+
+            ok : regionOk first n p d ≡ true
+            ok = sym placed ∙ not-false g g-is
+
+            take-more : take (k + 1) starts′ ≡ take k starts ++ (p ∷ [])
+            take-more =
+                take-set-le (k + 1) starts (k + 1) (d .beta .0) (omega arith)
+                ∙ rw add-one (take-suc starts k 0 (omega (arith, w .long)))
+                ∙ ap (λ (q : ℕ). take k starts ++ (q ∷ [])) (w .here)
+
+            ds-more : descriptorsAt c (take (k + 1) starts′) ≡ ds ++ (d ∷ [])
+            ds-more = rw take-more (descriptors-snoc c (take k starts) p ∙ rw (← is))
+
+            starts-more : starts′ ≡ startsOf (ds ++ (d ∷ []))
+            starts-more = ap (λ (l : List ℕ). set l (k + 1) (d .beta .0)) (w .so-far) ∙ starts-snoc ds d k length-ds more
+
+            pub walk-end : d .next .0 ≡ 0 → _≡_ {A = Regions} (record { sound = true; place = physical 0; count = k + 1; starts = starts′ }) (regionsOf (chain c))
+            unfolding regionsOf
+            walk-end z =
+                let l : length (ds ++ (d ∷ [])) ≡ k + 1 = length-append ds (d ∷ []) ∙ ap (λ (x : ℕ). x + 1) length-ds in
+                let last : pick (eqb (d .next .0) 0) (Sound (ds ++ (d ∷ []))) (chainFrom c (256 - (k + 1)) (ds ++ (d ∷ [])) (d .next .0)) ≡ Sound (ds ++ (d ∷ [])) = rw z in
+                regions-equal (k + 1) (length (ds ++ (d ∷ []))) starts′ (startsOf (ds ++ (d ∷ []))) (sym l) starts-more ∙ sym (ap regionsOf (walk-on ∙ last))
+
+            pub walked-more : (d .next .0 ≡ 0 → ⊥) → Walked c starts′ (d .next .0) (k + 1)
+            walked-more z =
+                let link = region-next first n p d ok z in
+                let at-end : getD starts′ (k + 1) 0 ≡ d .next .0 = getD-set-same starts (k + 1) (d .beta .0) 0 (omega (arith, w .long)) ∙ sym (link .0) in
+                record {
+                  few = omega arith;
+                  long = length-set starts (k + 1) (d .beta .0) ∙ w .long;
+                  here = at-end;
+                  inside = λ j l. inside-by j l at-end (omega (arith, link .0, link .1, count)) (ltb j (k + 1)) refl;
+                  so-far = rw ds-more starts-more;
+                  rest = rw ds-more (walk-on ∙ rw (ne-eqb (d .next .0) 0 z));
+                }
+              where
+                inside-by : (j : ℕ) → j ≤ k + 1 → getD starts′ (k + 1) 0 ≡ d .next .0 → 512 * d .next .0 + 512 ≤ length c → (t : Bool) → ltb j (k + 1) ≡ t → 512 * getD starts′ j 0 + 512 ≤ length c
+                inside-by j l e fits true t = rw (getD-set-other starts (k + 1) j (d .beta .0) 0 (omega (arith, ltb-true j (k + 1) t))) (w .inside j (omega (arith, ltb-true j (k + 1) t)))
+                inside-by j l e fits false t = let q : j ≡ k + 1 = omega (arith, ltb-false j (k + 1) t) in rw (q, e) fits

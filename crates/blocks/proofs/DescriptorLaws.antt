@@ -1,0 +1,104 @@
+-- Laws of a descriptor's bytes: its fields put one after the other are its bytes, and a descriptor that was stored is the one that is read.
+use mathlib.Core.Path.{_≡_, refl, sym, ap, _∙_}
+use mathlib.Core.List.{List, [], _∷_, _++_}
+use Prim.Native.Nat.{ℕ, _+_, _*_, _≤_, _<_, _^_}
+use native.Mathlib.Omega.{arith}
+use lib.ListN.{length, take, drop, length-append, length-drop}
+use lib.Seq.{take-all, drop-drop}
+use Rattle.blocks.specs.Bytes.{u32At, le32, splice, part, blockAt, storeBlock}
+use Rattle.blocks.specs.Descriptor.{mark, descriptorAt, headBytes, tailAt, descriptorBlock}
+use Rattle.blocks.specs.declared.descriptor.Descriptor.{Descriptor}
+use Rattle.blocks.proofs.ByteLaws.{put-next, u32-within, part-within, digits, splice-start, length-part, part-part}
+
+-- the fields, put one after the other from the start of a block
+pub head-put : (c₀ c₁ c₂ c₃ c₄ c₅ c₆ c₇ : List ℕ) (d : Descriptor) → 40 ≤ length c₀ → length (d .name) ≡ 16
+    → c₁ ≡ splice c₀ 0 mark
+    → c₂ ≡ splice c₁ 4 (le32 (d .layout))
+    → c₃ ≡ splice c₂ 8 (le32 (d .volume))
+    → c₄ ≡ splice c₃ 12 (le32 (d .alpha .0))
+    → c₅ ≡ splice c₄ 16 (le32 (d .beta .0))
+    → c₆ ≡ splice c₅ 20 (le32 (d .next .0))
+    → c₇ ≡ splice c₆ 24 (d .name)
+    → c₇ ≡ splice c₀ 0 (headBytes d)
+unfolding headBytes le32
+head-put c₀ c₁ c₂ c₃ c₄ c₅ c₆ c₇ d h n e₁ e₂ e₃ e₄ e₅ e₆ e₇ =
+    let x₂ : List ℕ = mark ++ le32 (d .layout) in
+    let x₃ : List ℕ = x₂ ++ le32 (d .volume) in
+    let x₄ : List ℕ = x₃ ++ le32 (d .alpha .0) in
+    let x₅ : List ℕ = x₄ ++ le32 (d .beta .0) in
+    let x₆ : List ℕ = x₅ ++ le32 (d .next .0) in
+    let f₂ = put-next c₀ 0 mark 4 (le32 (d .layout)) e₁ e₂ refl (omega arith) in
+    let f₃ = put-next c₀ 0 x₂ 8 (le32 (d .volume)) f₂ e₃ refl (omega arith) in
+    let f₄ = put-next c₀ 0 x₃ 12 (le32 (d .alpha .0)) f₃ e₄ refl (omega arith) in
+    let f₅ = put-next c₀ 0 x₄ 16 (le32 (d .beta .0)) f₄ e₅ refl (omega arith) in
+    let f₆ = put-next c₀ 0 x₅ 20 (le32 (d .next .0)) f₅ e₆ refl (omega arith) in
+    put-next c₀ 0 x₆ 24 (d .name) f₆ e₇ refl (omega arith)
+
+pub head-length : (d : Descriptor) → length (d .name) ≡ 16 → length (headBytes d) ≡ 40
+unfolding headBytes le32
+head-length d n = rw n
+
+-- a block whose first 40 bytes are replaced keeps its tail
+pub block-made : (c : List ℕ) (p : ℕ) (b b′ : List ℕ) (d : Descriptor) → 512 * p + 512 ≤ length c → length (headBytes d) ≡ 40 → b ≡ blockAt c p → b′ ≡ splice b 0 (headBytes d)
+    → b′ ≡ descriptorBlock d (tailAt c p)
+unfolding descriptorBlock blockAt
+block-made c p b b′ d h n e f =
+    rw (f, e) (splice-start (part c (512 * p) 512) (headBytes d) ∙ rw n (ap (λ (t : List ℕ). headBytes d ++ t) rest))
+  where
+    rest : drop 40 (part c (512 * p) 512) ≡ part c (512 * p + 40) 472
+    rest = sym (take-all 472 (drop 40 (part c (512 * p) 512)) (simp (length-drop, length-part c (512 * p) 512 h) (omega arith))) ∙ part-part c (512 * p) 512 40 472 (omega arith) h
+
+-- the numbers are of 32 bits, and the name has sixteen bytes
+pub record Fits (d : Descriptor) : Type 0 where
+  pub layout : d .layout < 2 ^ 32
+  pub volume : d .volume < 2 ^ 32
+  pub alpha : d .alpha .0 < 2 ^ 32
+  pub beta : d .beta .0 < 2 ^ 32
+  pub next : d .next .0 < 2 ^ 32
+  pub name : length (d .name) ≡ 16
+
+module _ (d : Descriptor) (f : Fits d) where
+  at-layout : u32At (headBytes d) 4 ≡ d .layout
+  unfolding headBytes le32 u32At
+  at-layout = digits (d .layout) (f .layout)
+
+  at-volume : u32At (headBytes d) 8 ≡ d .volume
+  unfolding headBytes le32 u32At
+  at-volume = digits (d .volume) (f .volume)
+
+  at-alpha : u32At (headBytes d) 12 ≡ d .alpha .0
+  unfolding headBytes le32 u32At
+  at-alpha = digits (d .alpha .0) (f .alpha)
+
+  at-beta : u32At (headBytes d) 16 ≡ d .beta .0
+  unfolding headBytes le32 u32At
+  at-beta = digits (d .beta .0) (f .beta)
+
+  at-next : u32At (headBytes d) 20 ≡ d .next .0
+  unfolding headBytes le32 u32At
+  at-next = digits (d .next .0) (f .next)
+
+  at-name : part (headBytes d) 24 16 ≡ d .name
+  unfolding headBytes le32
+  at-name = take-all 16 (d .name) (omega (arith, f .name))
+
+  -- a descriptor that was put into block p is the one that is read there
+  pub read-back : (c : List ℕ) (p : ℕ) → 512 * p + 40 ≤ length c → descriptorAt (splice c (512 * p) (headBytes d)) p ≡ d
+  unfolding descriptorAt
+  read-back c p h =
+      let long = head-length d (f .name) in
+      let fits : 512 * p + length (headBytes d) ≤ length c = omega arith in
+      rw (
+        u32-within c (512 * p) (headBytes d) fits 4 (omega arith),
+        at-layout,
+        u32-within c (512 * p) (headBytes d) fits 8 (omega arith),
+        at-volume,
+        u32-within c (512 * p) (headBytes d) fits 12 (omega arith),
+        at-alpha,
+        u32-within c (512 * p) (headBytes d) fits 16 (omega arith),
+        at-beta,
+        u32-within c (512 * p) (headBytes d) fits 20 (omega arith),
+        at-next,
+        part-within c (512 * p) (headBytes d) fits 24 16 (omega arith),
+        at-name,
+      )

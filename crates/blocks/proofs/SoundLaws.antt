@@ -1,0 +1,82 @@
+-- Laws of soundness: the tests of the code, in their order, and what a sound descriptor's fields satisfy.
+use mathlib.Core.Path.{_≡_, refl, sym, ap, _∙_}
+use mathlib.Core.Logic.{_⊎_, inl, inr}
+use mathlib.Core.Bool.{Bool, true, false, not, _&&_, _||_}
+use mathlib.Core.List.{List, [], _∷_, _++_}
+use Prim.Native.Nat.{ℕ, _+_, _*_, _-_, _≤_, _<_}
+use native.Mathlib.Omega.{arith}
+use native.Mathlib.Nat.{add-sub-cancel-left}
+use lib.ListN.{length, take, drop}
+use lib.Dec.{eqb, ltb, leb}
+use borrow.Author.Tests.{eq-eqb, ne-eqb, lt-ltb, le-ltb, le-leb, lt-leb, eqb-true, eqb-false, ltb-true, leb-true, not-true, not-false}
+use Rattle.blocks.specs.Pick.{pick, same, allZero}
+use Rattle.blocks.specs.Bytes.{part, blockCount}
+use Rattle.blocks.specs.Name.{isName}
+use Rattle.blocks.specs.Descriptor.{mark, cost, costOf, descriptorAt, reservedOk, phiOk}
+use Rattle.blocks.specs.Chain.{formOk, regionOk, named, sound}
+use Rattle.blocks.specs.declared.descriptor.Descriptor.{Descriptor}
+use Rattle.blocks.proofs.Tests.{and-left, and-right}
+
+-- formOk, by the tests of the code
+module _ (c : List ℕ) (p : ℕ) (d : Descriptor) (m : Bool) (marked : m ≡ same (part c (512 * p) 4) mark) where
+  pub form-unmarked : not m ≡ true → false ≡ formOk c p d
+  unfolding formOk
+  form-unmarked h = rw (← marked, not-true m h)
+
+  module _ (is : not m ≡ false) where
+    pub form-layout-low : d .layout ≡ 0 → false ≡ formOk c p d
+    unfolding formOk
+    form-layout-low h = rw (← marked, not-false m is, h)
+
+    pub form-layout-high : 2 < d .layout → false ≡ formOk c p d
+    unfolding formOk
+    form-layout-high h = rw (← marked, not-false m is, ne-eqb (d .layout) 1 (omega arith), ne-eqb (d .layout) 2 (omega arith))
+
+    module _ (some : d .layout ≡ 0 → ⊥) (low : d .layout ≤ 2) where
+      layout-by : (t : Bool) → eqb (d .layout) 1 ≡ t → (eqb (d .layout) 1 || eqb (d .layout) 2) ≡ true
+      layout-by true e = rw e
+      layout-by false e = rw (e, eq-eqb (d .layout) 2 (omega (arith, some, eqb-false (d .layout) 1 e)))
+
+      layout-ok : (eqb (d .layout) 1 || eqb (d .layout) 2) ≡ true
+      layout-ok = layout-by (eqb (d .layout) 1) refl
+
+      pub form-no-volume : d .volume ≡ 0 → false ≡ formOk c p d
+      unfolding formOk
+      form-no-volume h = rw (← marked, not-false m is, layout-ok, h)
+
+      module _ (least : d .volume ≡ 0 → ⊥) where
+        volume-ok : ltb 0 (d .volume) ≡ true
+        volume-ok = lt-ltb 0 (d .volume) (omega (arith, least))
+
+        pub form-large-volume : 14336 < d .volume → false ≡ formOk c p d
+        unfolding formOk
+        form-large-volume h = rw (← marked, not-false m is, layout-ok, volume-ok, lt-leb (d .volume) 14336 h)
+
+        module _ (most : d .volume ≤ 14336) (n : Bool) (called : n ≡ isName (d .name)) where
+          pub form-unnamed : not n ≡ true → false ≡ formOk c p d
+          unfolding formOk
+          form-unnamed h = rw (← marked, not-false m is, layout-ok, volume-ok, le-leb (d .volume) 14336 most, ← called, not-true n h)
+
+          module _ (yes-name : not n ≡ false) (z : Bool) (zero : z ≡ allZero (take (512 * p + 64 - (512 * p + 40)) (drop (512 * p + 40) c))) where
+            reserved-is : z ≡ reservedOk (part c (512 * p + 40) 24)
+            unfolding reservedOk
+            reserved-is = let e : 512 * p + 64 - (512 * p + 40) ≡ 24 = omega arith in zero ∙ rw e
+
+            pub form-reserved : not z ≡ true → false ≡ formOk c p d
+            unfolding formOk
+            form-reserved h = rw (← marked, not-false m is, layout-ok, volume-ok, le-leb (d .volume) 14336 most, ← called, not-false n yes-name, ← reserved-is, not-true z h)
+
+            module _ (clear : not z ≡ false) where
+              form-so-far : formOk c p d ≡ phiOk (d .layout) (part c (512 * p + 64) 448)
+              unfolding formOk
+              form-so-far = rw (← marked, not-false m is, layout-ok, volume-ok, le-leb (d .volume) 14336 most, ← called, not-false n yes-name, ← reserved-is, not-false z clear)
+
+              pub form-layout-2 : (d .layout ≡ 1 → ⊥) → true ≡ formOk c p d
+              unfolding phiOk
+              form-layout-2 h = sym (form-so-far ∙ rw (ne-eqb (d .layout) 1 h))
+
+              pub form-layout-1 : d .layout ≡ 1 → (y : Bool) → y ≡ allZero (take (512 * p + 512 - (512 * p + 64)) (drop (512 * p + 64) c)) → y ≡ formOk c p d
+              unfolding phiOk
+              form-layout-1 h y e =
+                  let f : 512 * p + 512 - (512 * p + 64) ≡ 448 = omega arith in
+                  sym (form-so-far ∙ rw (eq-eqb (d .layout) 1 h, e, f))

@@ -1,0 +1,118 @@
+-- `walk_chain` meets its contract: after k turns k sound descriptors have passed.
+use mathlib.Core.Path.{_≡_, refl, sym, _∙_}
+use Prim.Native.Nat.{ℕ, _≤_, _-_, _<_, _/_}
+use native.Mathlib.Omega.{arith}
+use lib.ListN.{length}
+use borrow.Author.Needs.{needs}
+use Rattle.blocks.specs.Descriptor.{descriptorAt}
+use Rattle.blocks.proofs.ChainLaws.{Walked, walked-here, walked-passed, walk-none, walked-none, walk-out, walk-unformed, walk-unplaced, walk-repeated, walk-end, walked-more}
+use Rattle.blocks.proofs.chain.walk_chain.Statement.{statement}
+use Rattle.blocks.proofs.chain.walk_chain.Tie as tie
+
+abbrev Inv-loop : tie.InvT-loop
+Inv-loop card n first starts₀ p₀ k₀ starts p k = Walked card starts p k
+
+abbrev μ-loop : tie.MeasureT-loop
+μ-loop card n first starts₀ p₀ k₀ starts p k = 256 - k
+
+unsound-requires : tie.Need-unsound-requires Inv-loop μ-loop
+unsound-requires c κs = search needs
+
+returns : tie.Need-returns Inv-loop μ-loop
+returns c = search walk-none
+
+read-descriptor-requires : tie.Need-read-descriptor-requires Inv-loop μ-loop
+read-descriptor-requires c κs = omega arith
+
+loop-holds : tie.Need-loop-holds Inv-loop μ-loop
+loop-holds c = search walked-none
+
+read-descriptor-requires-2 : tie.Need-read-descriptor-requires-2 Inv-loop μ-loop
+read-descriptor-requires-2 c κs = search walked-here
+
+is-formed-requires : tie.Need-is-formed-requires Inv-loop μ-loop
+is-formed-requires c κs = search walked-here
+
+unsound-requires-2 : tie.Need-unsound-requires-2 Inv-loop μ-loop
+unsound-requires-2 c κs = search needs
+
+returns-2 : tie.Need-returns-2 Inv-loop μ-loop
+returns-2 c =
+    let f = c .before .before in
+    let l = f .before .before .before in
+    walk-unformed _ _ _ _ (l .loop .inv) (omega arith) _ (f .before .read-descriptor2 .ensures) _ (l .before .read-descriptor .ensures) _ refl _ (f .is-formed .ensures) (c .before .if2 .taken) _ (c .unsound2 .ensures)
+
+is-placed-requires : tie.Need-is-placed-requires Inv-loop μ-loop
+is-placed-requires c κs = search needs
+
+unsound-requires-3 : tie.Need-unsound-requires-3 Inv-loop μ-loop
+unsound-requires-3 c κs = search needs
+
+returns-3 : tie.Need-returns-3 Inv-loop μ-loop
+returns-3 c = search walk-unplaced
+
+slice-aggregate-is-named : tie.Need-slice-aggregate-is-named Inv-loop μ-loop
+slice-aggregate-is-named c = search needs
+
+is-named-requires : tie.Need-is-named-requires Inv-loop μ-loop
+is-named-requires c κs = search walked-passed
+
+unsound-requires-4 : tie.Need-unsound-requires-4 Inv-loop μ-loop
+unsound-requires-4 c κs = search needs
+
+returns-4 : tie.Need-returns-4 Inv-loop μ-loop
+returns-4 c = search walk-repeated
+
+add-k : tie.Need-add-k Inv-loop μ-loop
+add-k c = search needs
+
+mul-starts : tie.Need-mul-starts Inv-loop μ-loop
+mul-starts c = search needs
+
+array-write-starts : tie.Need-array-write-starts Inv-loop μ-loop
+array-write-starts c = search needs
+
+returns-5 : tie.Need-returns-5 Inv-loop μ-loop
+returns-5 c = search walk-end
+
+loop-less : tie.Need-loop-less Inv-loop μ-loop
+loop-less c = search needs
+
+loop-again : tie.Need-loop-again Inv-loop μ-loop
+loop-again c = search walked-more
+
+unsound-requires-5 : tie.Need-unsound-requires-5 Inv-loop μ-loop
+unsound-requires-5 c κs = search needs
+
+returns-6 : tie.Need-returns-6 Inv-loop μ-loop
+returns-6 c = search walk-out
+
+pub walk-chain-spec : {M : Type 1} → statement M
+walk-chain-spec =
+    tie.close
+    (tie.spec
+    Inv-loop
+    μ-loop
+    unsound-requires
+    returns
+    read-descriptor-requires
+    loop-holds
+    read-descriptor-requires-2
+    is-formed-requires
+    unsound-requires-2
+    returns-2
+    is-placed-requires
+    unsound-requires-3
+    returns-3
+    slice-aggregate-is-named
+    is-named-requires
+    unsound-requires-4
+    returns-4
+    add-k
+    mul-starts
+    array-write-starts
+    returns-5
+    loop-less
+    loop-again
+    unsound-requires-5
+    returns-6)

@@ -1,0 +1,98 @@
+-- The chain of descriptors: soundness, the walk from block 0, and the regions of the chain.
+use mathlib.Core.Bool.{Bool, true, false, not, _&&_, _||_}
+use mathlib.Core.List.{List, [], _∷_, _++_}
+use Prim.Native.Nat.{ℕ, zero, suc, _+_, _*_, _-_}
+use lib.ListN.{length, replicate}
+use lib.Dec.{eqb, ltb, leb}
+use Rattle.blocks.specs.Pick.{pick, same}
+use Rattle.blocks.specs.Bytes.{blockSize, part, blockCount}
+use Rattle.blocks.specs.Name.{isName}
+use Rattle.blocks.specs.Descriptor.{physical, mark, mostVolume, phiStart, headSize, costOf, descriptorAt, reservedOk, phiOk}
+use Rattle.blocks.specs.declared.descriptor.Descriptor.{Descriptor}
+use Rattle.blocks.specs.declared.chain.Regions.{Regions}
+
+-- the most descriptors of a chain
+abbrev pub mostDescriptors : ℕ
+mostDescriptors = 256
+
+-- mark, layout, L, name and zero bytes are those of a descriptor
+unfoldable pub formOk : List ℕ → ℕ → Descriptor → Bool
+formOk c p d =
+    same (part c (blockSize * p) 4) mark
+    && (eqb (d .layout) 1 || eqb (d .layout) 2)
+    && ltb 0 (d .volume)
+    && leb (d .volume) mostVolume
+    && isName (d .name)
+    && reservedOk (part c (blockSize * p + headSize) 24)
+    && phiOk (d .layout) (part c (blockSize * p + phiStart) 448)
+
+-- layout and L equal those of block 0; alpha is its own block p; alpha + c ≤ beta ≤ N; next is 0, or equals beta with beta < N
+unfoldable pub regionOk : Descriptor → ℕ → ℕ → Descriptor → Bool
+regionOk first n p d =
+    eqb (d .layout) (first .layout)
+    && eqb (d .volume) (first .volume)
+    && eqb (d .alpha .0) p
+    && leb (d .alpha .0 + costOf d) (d .beta .0)
+    && leb (d .beta .0) n
+    && (eqb (d .next .0) 0 || (eqb (d .next .0) (d .beta .0) && ltb (d .beta .0) n))
+
+-- whether a descriptor of the list has the name
+unfoldable pub named : List Descriptor → List ℕ → Bool
+named [] name = false
+named (d ∷ ds) name = same (d .name) name || named ds name
+
+-- the descriptors in the blocks of a list
+unfoldable pub descriptorsAt : List ℕ → List ℕ → List Descriptor
+descriptorsAt c [] = []
+descriptorsAt c (p ∷ ps) = descriptorAt c p ∷ descriptorsAt c ps
+
+-- whether the descriptor in block p is sound, after the earlier ones of the chain
+unfoldable pub sound : List ℕ → List Descriptor → ℕ → Bool
+sound c earlier p =
+    formOk c p (descriptorAt c p)
+    && regionOk (descriptorAt c 0) (blockCount c) p (descriptorAt c p)
+    && not (named earlier (descriptorAt c p .name))
+
+-- a chain: the block of its first unsound descriptor, or its descriptors, of which the last is active and the others are snapshots
+pub data Chain : Type 0 where
+  Unsound : ℕ → Chain
+  Sound : List Descriptor → Chain
+
+-- the walk that goes on at block p, with the descriptors passed and at most fuel more: a descriptor past those is not among the first 256
+unfoldable pub chainFrom : List ℕ → ℕ → List Descriptor → ℕ → Chain
+chainFrom c zero earlier p = Unsound p
+chainFrom c (suc fuel) earlier p =
+    let d = descriptorAt c p in
+    let rest = chainFrom c fuel (earlier ++ (d ∷ [])) (d .next .0) in
+    pick (sound c earlier p) (pick (eqb (d .next .0) 0) (Sound (earlier ++ (d ∷ []))) rest) (Unsound p)
+
+-- the chain starts at block 0 and follows next
+unfoldable pub chain : List ℕ → Chain
+chain c = chainFrom c mostDescriptors [] 0
+
+-- whether it is sound; its descriptors, none where it is unsound; the place of its fault, 0 where it is sound
+unfoldable pub chainSound : Chain → Bool
+chainSound (Unsound p) = false
+chainSound (Sound ds) = true
+
+unfoldable pub descriptors : Chain → List Descriptor
+descriptors (Unsound p) = []
+descriptors (Sound ds) = ds
+
+unfoldable pub chainPlace : Chain → ℕ
+chainPlace (Unsound p) = p
+chainPlace (Sound ds) = 0
+
+-- where the regions of the descriptors end, in chain order
+unfoldable pub ends : List Descriptor → List ℕ
+ends [] = []
+ends (d ∷ ds) = d .beta .0 ∷ ends ds
+
+-- region k runs from number k up to number k + 1: block 0, then where each region ends; zeros fill the 257 places
+unfoldable pub startsOf : List Descriptor → List ℕ
+startsOf ds = (0 ∷ ends ds) ++ replicate (mostDescriptors - length ds) 0
+
+-- the same as the walk in code gives it
+unfoldable pub regionsOf : Chain → Regions
+regionsOf (Unsound p) = record { sound = false; place = physical p; count = 0; starts = replicate (mostDescriptors + 1) 0 }
+regionsOf (Sound ds) = record { sound = true; place = physical 0; count = length ds; starts = startsOf ds }

@@ -1,0 +1,113 @@
+-- A descriptor: its bytes both ways, n and c, its three changes, and the blocks that a format leaves.
+use mathlib.Core.Bool.{Bool, true, false, _&&_, _||_}
+use mathlib.Core.List.{List, [], _∷_, _++_}
+use Prim.Native.Nat.{ℕ, zero, suc, _+_, _*_, _/_}
+use lib.ListN.{length, replicate}
+use lib.Dec.{eqb, ltb, leb}
+use Rattle.blocks.specs.Pick.{pick, allZero}
+use Rattle.blocks.specs.Bytes.{blockSize, part, u32At, le32, blockAt, Store, store}
+use Rattle.blocks.specs.declared.numbers.Physical.{Physical}
+use Rattle.blocks.specs.declared.descriptor.Descriptor.{Descriptor}
+
+abbrev pub physical : ℕ → Physical
+physical p = record { 0 = p }
+
+-- entries in a table block; entries in Phi; the most logical blocks of a volume
+abbrev pub tableSize : ℕ
+tableSize = 128
+
+abbrev pub phiSize : ℕ
+phiSize = 112
+
+abbrev pub mostVolume : ℕ
+mostVolume = 14336
+
+-- bytes 0 to 3 of a descriptor block: the ASCII bytes `snap`
+abbrev pub mark : List ℕ
+mark = 115 ∷ 110 ∷ 97 ∷ 112 ∷ []
+
+-- the first byte after those of the record, and the first of Phi
+abbrev pub headSize : ℕ
+headSize = 40
+
+abbrev pub phiStart : ℕ
+phiStart = 64
+
+-- n: L divided by 128, rounded up
+unfoldable pub tableCount : ℕ → ℕ
+tableCount volume = (volume + 127) / tableSize
+
+-- c, the opening cost: 1 + n in layout 1, 1 in layout 2
+unfoldable pub cost : ℕ → ℕ → ℕ
+cost layout volume = pick (eqb layout 1) (1 + tableCount volume) 1
+
+abbrev pub costOf : Descriptor → ℕ
+costOf d = cost (d .layout) (d .volume)
+
+-- the descriptor whose bytes are those of block p
+unfoldable pub descriptorAt : List ℕ → ℕ → Descriptor
+descriptorAt c p =
+    record {
+      layout = u32At c (blockSize * p + 4);
+      volume = u32At c (blockSize * p + 8);
+      alpha = physical (u32At c (blockSize * p + 12));
+      beta = physical (u32At c (blockSize * p + 16));
+      next = physical (u32At c (blockSize * p + 20));
+      name = part c (blockSize * p + 24) 16;
+    }
+
+-- bytes 0 to 39 of its block
+unfoldable pub headBytes : Descriptor → List ℕ
+headBytes d = mark ++ le32 (d .layout) ++ le32 (d .volume) ++ le32 (d .alpha .0) ++ le32 (d .beta .0) ++ le32 (d .next .0) ++ d .name
+
+-- bytes 40 to 511 of block p, which travel as they are
+abbrev pub tailAt : List ℕ → ℕ → List ℕ
+tailAt c p = part c (blockSize * p + headSize) 472
+
+-- the whole block of a descriptor, with bytes 40 to 511 given
+unfoldable pub descriptorBlock : Descriptor → List ℕ → List ℕ
+descriptorBlock d tail = headBytes d ++ tail
+
+-- the descriptor under another name
+abbrev pub renamedOf : Descriptor → List ℕ → Descriptor
+renamedOf d n = record { layout = d .layout; volume = d .volume; alpha = d .alpha; beta = d .beta; next = d .next; name = n }
+
+-- the descriptor with another next
+abbrev pub linkedOf : Descriptor → Physical → Descriptor
+linkedOf d p = record { layout = d .layout; volume = d .volume; alpha = d .alpha; beta = d .beta; next = p; name = d .name }
+
+-- the descriptor with k more blocks in its region
+abbrev pub extendedOf : Descriptor → ℕ → Descriptor
+extendedOf d k = record { layout = d .layout; volume = d .volume; alpha = d .alpha; beta = physical (d .beta .0 + k); next = d .next; name = d .name }
+
+-- the descriptor of a region opened at its beta: alpha' = beta, beta' = alpha' + c
+abbrev pub reopenedOf : Descriptor → Descriptor
+reopenedOf d = record { layout = d .layout; volume = d .volume; alpha = d .beta; beta = physical (d .beta .0 + costOf d); next = d .next; name = d .name }
+
+-- bytes 40 to 63: zero
+unfoldable pub reservedOk : List ℕ → Bool
+reservedOk bytes = allZero bytes
+
+-- bytes 64 to 511: zero in layout 1; in layout 2 Phi, of which soundness asks nothing
+unfoldable pub phiOk : ℕ → List ℕ → Bool
+phiOk layout bytes = pick (eqb layout 1) (allZero bytes) true
+
+-- the descriptor that a format makes
+abbrev pub firstOf : ℕ → ℕ → List ℕ → Descriptor
+firstOf layout volume name =
+    record { layout = layout; volume = volume; alpha = physical 0; beta = physical (cost layout volume); next = physical 0; name = name }
+
+-- stores of zeros to the n blocks from block p, rising
+unfoldable pub clearing : ℕ → ℕ → List Store
+clearing p zero = []
+clearing p (suc n) = store p (replicate blockSize 0) ∷ clearing (suc p) n
+
+-- stores of copies of the n blocks from block from to those from block p, rising
+unfoldable pub copying : List ℕ → ℕ → ℕ → ℕ → List Store
+copying c from p zero = []
+copying c from p (suc n) = store p (blockAt c from) ∷ copying c (suc from) (suc p) n
+
+-- the stores of a format: its layout 1 tables, rising, then the first descriptor with a cleared Phi
+unfoldable pub opening : ℕ → ℕ → List ℕ → List Store
+opening layout volume name =
+    clearing 1 (pick (eqb layout 1) (tableCount volume) 0) ++ (store 0 (descriptorBlock (firstOf layout volume name) (replicate 472 0)) ∷ [])

@@ -1,0 +1,36 @@
+-- Names: sixteen bytes, 1 to 16 of `a-z`, `0-9`, `.`, `-`, then zero bytes; and how a text becomes such sixteen bytes.
+use mathlib.Core.Bool.{Bool, true, false, _&&_, _||_}
+use mathlib.Core.List.{List, [], _∷_, _++_}
+use Prim.Native.Nat.{ℕ, zero, suc, _-_}
+use lib.ListN.{length, drop, replicate}
+use lib.Dec.{eqb, ltb, leb}
+use Rattle.blocks.specs.Pick.{pick, allZero}
+
+-- bytes in a name
+abbrev pub nameSize : ℕ
+nameSize = 16
+
+-- a byte that a name may have: a-z, 0-9, '.', '-'
+unfoldable pub nameByte : ℕ → Bool
+nameByte b = (leb 97 b && leb b 122) || (leb 48 b && leb b 57) || eqb b 46 || eqb b 45
+
+-- how many such bytes a list starts with
+unfoldable pub nameLength : List ℕ → ℕ
+nameLength [] = 0
+nameLength (b ∷ bs) = pick (nameByte b) (suc (nameLength bs)) 0
+
+-- what makes sixteen bytes a name
+unfoldable pub isName : List ℕ → Bool
+isName n = eqb (length n) nameSize && ltb 0 (nameLength n) && allZero (drop (nameLength n) n)
+
+-- no name at all: what stands for a text that is none
+abbrev pub noName : List ℕ
+noName = replicate nameSize 0
+
+-- a text that can be a name: 1 to 16 bytes, each of them one that a name may have
+unfoldable pub isText : List ℕ → Bool
+isText t = ltb 0 (length t) && leb (length t) nameSize && eqb (nameLength t) (length t)
+
+-- any text as sixteen bytes: the text and zeros after it, or sixteen zeros where it is too long, empty or has another byte in it
+unfoldable pub padded : List ℕ → List ℕ
+padded t = pick (isText t) (t ++ replicate (nameSize - length t) 0) noName

@@ -1,0 +1,108 @@
+// Bytes, 32-bit numbers and whole blocks of a lent area.
+use crate::numbers::Physical;
+ghost use mathlib.Core.Path.{_≡_};
+ghost use Prim.Native.Nat.{_+_, _*_, _≤_, _<_};
+ghost use lib.ListN.{length};
+ghost use Rattle.blocks.specs.Pick.{same, allZero};
+ghost use Rattle.blocks.specs.Bytes.{u32At, le32, splice, part, blockAt, storeBlock};
+
+fn wide(x: u8) -> u32
+    ensures { λ r. ⌜ r ≡ x ⌝ }
+    ensures { λ r. ⌜ r < 256 ⌝ }
+{
+    x as u32
+}
+
+// The number of 32 bits at `at`, lowest byte first.
+pub fn get_u32(area: &[u8], at: usize) -> u32
+    requires { ⌜ at + 4 ≤ length (now area) ⌝ }
+    ensures { λ r. ⌜ r ≡ u32At (now (area .entry)) at ⌝ }
+{
+    wide(area[at])
+        + 256 * wide(area[at + 1])
+        + 65536 * wide(area[at + 2])
+        + 16777216 * wide(area[at + 3])
+}
+
+// Copies all of `from` into `area` from index `at`.
+pub fn put_bytes(area: &mut [u8], at: usize, from: &[u8])
+    requires { ⌜ at + length (now from) ≤ length (now area) ⌝ }
+    ensures { λ _. ⌜ now (area .exit) ≡ splice (now (area .entry)) at (now (from .entry)) ⌝ }
+{
+    let mut i = 0;
+    while i < from.len() {
+        area[at + i] = from[i];
+        i += 1;
+    }
+}
+
+// Stores `v` at `at`, lowest byte first.
+pub fn put_u32(area: &mut [u8], at: usize, v: u32)
+    requires { ⌜ at + 4 ≤ length (now area) ⌝ }
+    ensures { λ _. ⌜ now (area .exit) ≡ splice (now (area .entry)) at (le32 v) ⌝ }
+{
+    let b = [
+        (v % 256) as u8,
+        (v / 256 % 256) as u8,
+        (v / 65536 % 256) as u8,
+        (v / 16777216 % 256) as u8,
+    ];
+    put_bytes(area, at, &b);
+}
+
+// Copies the part of `area` from `at` that is as long as `out` to `out`.
+pub fn get_bytes(area: &[u8], at: usize, out: &mut [u8])
+    requires { ⌜ at + length (now out) ≤ length (now area) ⌝ }
+    ensures { λ _. ⌜ now (out .exit) ≡ part (now (area .entry)) at (length (now (out .entry))) ⌝ }
+{
+    put_bytes(out, 0, &area[at..at + out.len()]);
+}
+
+// The bytes of block `p`.
+pub fn load_block(card: &[u8], p: Physical) -> [u8; 512]
+    requires { ⌜ 512 * p .0 + 512 ≤ length (now card) ⌝ }
+    ensures { λ r. ⌜ r ≡ blockAt (now (card .entry)) (p .0) ⌝ }
+{
+    let mut b = [0u8; 512];
+    get_bytes(card, 512 * (p.0 as usize), &mut b);
+    b
+}
+
+// Block `p` is now `block`.
+pub fn store_block(card: &mut [u8], p: Physical, block: &[u8])
+    requires { ⌜ (length (now block) ≡ 512) × (512 * p .0 + 512 ≤ length (now card)) ⌝ }
+    ensures { λ _. ⌜ now (card .exit) ≡ storeBlock (now (card .entry)) (p .0) (now (block .entry)) ⌝ }
+{
+    put_bytes(card, 512 * (p.0 as usize), block);
+}
+
+// Whether two lists of bytes are the same.
+pub fn same_bytes(a: &[u8], b: &[u8]) -> bool
+    ensures { λ r. ⌜ r ≡ same (now (a .entry)) (now (b .entry)) ⌝ }
+{
+    if a.len() != b.len() {
+        return false;
+    }
+    let mut i = 0;
+    while i < a.len() {
+        if a[i] != b[i] {
+            return false;
+        }
+        i += 1;
+    }
+    true
+}
+
+// Whether all bytes are zero.
+pub fn all_zero(a: &[u8]) -> bool
+    ensures { λ r. ⌜ r ≡ allZero (now (a .entry)) ⌝ }
+{
+    let mut i = 0;
+    while i < a.len() {
+        if a[i] != 0 {
+            return false;
+        }
+        i += 1;
+    }
+    true
+}

@@ -1,0 +1,142 @@
+// A descriptor by value: the first 40 bytes of its block. Bytes 40 to 511 travel as they are.
+use crate::bytes;
+use crate::numbers::Physical;
+ghost use mathlib.Core.Path.{_≡_};
+ghost use Prim.Native.Nat.{_+_, _*_, _≤_, _<_, _^_};
+ghost use lib.ListN.{length};
+ghost use Rattle.blocks.specs.Bytes.{splice, storeBlock};
+ghost use Rattle.blocks.specs.Descriptor.{tableCount, cost, costOf, renamedOf, linkedOf, extendedOf, reopenedOf, descriptorAt, headBytes, tailAt, descriptorBlock};
+
+// The fields of a descriptor block, the paper's SDB.
+pub struct Descriptor {
+    pub layout: u32,
+    pub volume: u32,
+    pub alpha: Physical,
+    pub beta: Physical,
+    pub next: Physical,
+    pub name: [u8; 16],
+}
+
+// n, the table blocks of a volume.
+pub fn table_count(volume: u32) -> u32
+    ensures { λ r. ⌜ r ≡ tableCount volume ⌝ }
+    ensures { λ r. ⌜ r ≤ 33554432 ⌝ }
+{
+    volume / 128 + (volume % 128 + 127) / 128
+}
+
+// c, the blocks that opening a region takes.
+pub fn opening_cost(layout: u32, volume: u32) -> u32
+    ensures { λ r. ⌜ r ≡ cost layout volume ⌝ }
+{
+    if layout == 1 {
+        return 1 + table_count(volume);
+    }
+    1
+}
+
+impl Descriptor {
+    // The descriptor under another name.
+    pub fn renamed(self, name: [u8; 16]) -> Descriptor
+        ensures { λ r. ⌜ r ≡ renamedOf self name ⌝ }
+    {
+        let mut d = self;
+        d.name = name;
+        d
+    }
+
+    // The descriptor with another next.
+    pub fn linked(self, next: Physical) -> Descriptor
+        ensures { λ r. ⌜ r ≡ linkedOf self next ⌝ }
+    {
+        let mut d = self;
+        d.next = next;
+        d
+    }
+
+    // The descriptor with `k` more blocks in its region.
+    pub fn extended(self, k: u32) -> Descriptor
+        requires { ⌜ self .beta .0 + k < 2 ^ 32 ⌝ }
+        ensures { λ r. ⌜ r ≡ extendedOf self k ⌝ }
+    {
+        let mut d = self;
+        let end = Physical(self.beta.0 + k);
+        d.beta = end;
+        d
+    }
+
+    // The descriptor of a region that opens at this one's beta.
+    pub fn reopened(self) -> Descriptor
+        requires { ⌜ self .beta .0 + costOf self < 2 ^ 32 ⌝ }
+        ensures { λ r. ⌜ r ≡ reopenedOf self ⌝ }
+    {
+        let mut d = self;
+        let start = self.beta;
+        let end = Physical(start.0 + opening_cost(self.layout, self.volume));
+        d.alpha = start;
+        d.beta = end;
+        d
+    }
+}
+
+// The descriptor in block `p`.
+pub fn read_descriptor(card: &[u8], p: Physical) -> Descriptor
+    requires { ⌜ 512 * p .0 + 512 ≤ length (now card) ⌝ }
+    ensures { λ r. ⌜ r ≡ descriptorAt (now (card .entry)) (p .0) ⌝ }
+{
+    let at = 512 * (p.0 as usize);
+    let mut name = [0u8; 16];
+    bytes::get_bytes(card, at + 24, &mut name);
+    Descriptor {
+        layout: bytes::get_u32(card, at + 4),
+        volume: bytes::get_u32(card, at + 8),
+        alpha: Physical(bytes::get_u32(card, at + 12)),
+        beta: Physical(bytes::get_u32(card, at + 16)),
+        next: Physical(bytes::get_u32(card, at + 20)),
+        name,
+    }
+}
+
+// Stores sixteen bytes at `at`.
+fn put_name(block: &mut [u8], at: usize, name: [u8; 16])
+    requires { ⌜ at + 16 ≤ length (now block) ⌝ }
+    ensures { λ _. ⌜ now (block .exit) ≡ splice (now (block .entry)) at name ⌝ }
+    ensures { λ _. ⌜ length name ≡ 16 ⌝ }
+{
+    bytes::put_bytes(block, at, &name);
+}
+
+// The first 40 bytes of a block are now the mark and the descriptor.
+pub fn put_head(block: &mut [u8], d: Descriptor)
+    requires { ⌜ 40 ≤ length (now block) ⌝ }
+    ensures { λ _. ⌜ now (block .exit) ≡ splice (now (block .entry)) 0 (headBytes d) ⌝ }
+    ensures { λ _. ⌜ length (headBytes d) ≡ 40 ⌝ }
+{
+    let name = d.name;
+    bytes::put_bytes(block, 0, b"snap");
+    bytes::put_u32(block, 4, d.layout);
+    bytes::put_u32(block, 8, d.volume);
+    bytes::put_u32(block, 12, d.alpha.0);
+    bytes::put_u32(block, 16, d.beta.0);
+    bytes::put_u32(block, 20, d.next.0);
+    put_name(block, 24, name);
+}
+
+// The whole block of a descriptor, with bytes 40 to 511 as they stand in block `from`.
+pub fn descriptor_block(card: &[u8], from: Physical, d: Descriptor) -> [u8; 512]
+    requires { ⌜ 512 * from .0 + 512 ≤ length (now card) ⌝ }
+    ensures { λ r. ⌜ r ≡ descriptorBlock d (tailAt (now (card .entry)) (from .0)) ⌝ }
+{
+    let mut b = bytes::load_block(card, from);
+    put_head(&mut b, d);
+    b
+}
+
+// Block `p` is now the descriptor, with bytes 40 to 511 as they stand in block `from`.
+pub fn store_descriptor(card: &mut [u8], from: Physical, p: Physical, d: Descriptor)
+    requires { ⌜ (512 * from .0 + 512 ≤ length (now card)) × (512 * p .0 + 512 ≤ length (now card)) ⌝ }
+    ensures { λ _. ⌜ now (card .exit) ≡ storeBlock (now (card .entry)) (p .0) (descriptorBlock d (tailAt (now (card .entry)) (from .0))) ⌝ }
+{
+    let b = descriptor_block(card, from, d);
+    bytes::store_block(card, p, &b);
+}

@@ -1,0 +1,6 @@
+// Block bytes and descriptors: the lowest layer of the card store.
+pub mod numbers; // logical and physical block numbers
+pub mod bytes; // bytes, 32-bit numbers and whole blocks of a lent area
+pub mod name; // names of sixteen bytes
+pub mod descriptor; // a descriptor by value, read and stored
+pub mod chain; // the walk along the chain of descriptors

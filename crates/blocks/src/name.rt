@@ -1,0 +1,90 @@
+// Names: sixteen bytes by value, judged, compared and made of a text.
+use crate::bytes;
+ghost use mathlib.Core.Path.{_≡_};
+ghost use Prim.Native.Nat.{_≤_};
+ghost use lib.ListN.{length};
+ghost use Rattle.blocks.specs.Pick.{same};
+ghost use Rattle.blocks.specs.Name.{nameByte, nameLength, isName, padded};
+
+// Whether a name may have the byte.
+pub fn is_name_byte(b: u8) -> bool
+    ensures { λ r. ⌜ r ≡ nameByte b ⌝ }
+{
+    if b == 45 {
+        return true;
+    }
+    if b == 46 {
+        return true;
+    }
+    if b < 48 {
+        return false;
+    }
+    if b <= 57 {
+        return true;
+    }
+    if b < 97 {
+        return false;
+    }
+    b <= 122
+}
+
+// How many bytes that a name may have the list starts with.
+pub fn name_length(text: &[u8]) -> usize
+    ensures { λ r. ⌜ r ≡ nameLength (now (text .entry)) ⌝ }
+    ensures { λ r. ⌜ r ≤ length (now (text .entry)) ⌝ }
+{
+    let mut i = 0;
+    while i < text.len() {
+        if !is_name_byte(text[i]) {
+            return i;
+        }
+        i += 1;
+    }
+    i
+}
+
+// Whether bytes of a card are a name.
+pub fn are_name(bytes: &[u8]) -> bool
+    ensures { λ r. ⌜ r ≡ isName (now (bytes .entry)) ⌝ }
+{
+    if bytes.len() != 16 {
+        return false;
+    }
+    let n = name_length(bytes);
+    if n == 0 {
+        return false;
+    }
+    bytes::all_zero(&bytes[n..])
+}
+
+// Whether sixteen bytes by value are a name.
+pub fn is_name(name: [u8; 16]) -> bool
+    ensures { λ r. ⌜ r ≡ isName name ⌝ }
+{
+    are_name(&name)
+}
+
+// Whether two names are the same.
+pub fn same_name(a: [u8; 16], b: [u8; 16]) -> bool
+    ensures { λ r. ⌜ r ≡ same a b ⌝ }
+{
+    bytes::same_bytes(&a, &b)
+}
+
+// Any text as sixteen bytes: padded with zeros, or sixteen zeros where it is no name.
+pub fn pad_name(text: &[u8]) -> [u8; 16]
+    ensures { λ r. ⌜ r ≡ padded (now (text .entry)) ⌝ }
+{
+    let mut name = [0u8; 16];
+    if text.len() == 0 {
+        return name;
+    }
+    if 16 < text.len() {
+        return name;
+    }
+    if name_length(text) != text.len() {
+        return name;
+    }
+    bytes::put_bytes(&mut name, 0, text);
+    name
+}

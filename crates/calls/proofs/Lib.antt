@@ -1,0 +1,3 @@
+-- Theorems about the definitions of the calls.
+pub mod Running
+pub mod Bench

@@ -1,0 +1,34 @@
+-- A call with its arguments and its lent memory at entry, and an outcome with the lent memory at exit.
+use mathlib.Core.List.{List}
+use Prim.Native.Nat.{ℕ}
+use Rattle.calls.specs.declared.answer.Answer.{Answer}
+use Rattle.calls.specs.declared.answer.Target.{Target}
+use Rattle.calls.specs.declared.answer.Record.{Record}
+
+-- Each call stands with its arguments and the content, at its entry, of what is lent besides the card: a read's block, a write's block, a list.
+-- A name is any sixteen bytes; a block and a list have any length. The name beside a read of the active store is not looked at.
+pub data Call : Type 0 where
+  Ream : (layout volume : ℕ) → (name : List ℕ) → Call
+  Read : (target : Target) → (name : List ℕ) → (l : ℕ) → (block : List ℕ) → Call
+  Write : (l : ℕ) → (block : List ℕ) → Call
+  Snap : (name : List ℕ) → Call
+  Revert : (name : List ℕ) → Call
+  Listing : (records : List Record) → Call
+  Check : Call
+
+-- what is lent to a call besides the card
+pub data Lent : Type 0 where
+  None : Lent
+  Block : List ℕ → Lent
+  Records : List Record → Lent
+
+-- what a call answers: number and place, and the content at exit of what was lent besides the card. No call returns anything else
+pub record Outcome : Type 0 where
+  pub answer : Answer
+  pub lent : Lent
+
+abbrev pub answer : ℕ → ℕ → Answer
+answer n p = record { number = n; place = p }
+
+abbrev pub accepted : Answer
+accepted = answer 0 0

@@ -1,0 +1,133 @@
+-- The two large propositions, written down before they are proved: the ledger over whole lists of calls, and the rollback claim.
+use mathlib.Core.Path.{_≡_}
+use mathlib.Core.Logic.{_⊎_, _↔_}
+use mathlib.Core.Bool.{Bool, true, false, not, _&&_, _||_}
+use mathlib.Core.List.{List, [], _∷_, _++_, map}
+use Prim.Native.Nat.{ℕ, zero, suc, _+_, _<_, _≤_}
+use lib.ListN.{length, take, drop, getD, replicate}
+use Rattle.blocks.specs.Pick.{pick}
+use Rattle.blocks.specs.Bytes.{blockCount, zeroBlock}
+use Rattle.blocks.specs.Descriptor.{costOf}
+use Rattle.blocks.specs.Chain.{chain, chainSound, named}
+use Rattle.entries.specs.Entry.{need}
+use Rattle.calls.specs.declared.answer.Target.{Target}
+use Rattle.calls.specs.declared.answer.Record.{Record}
+use Rattle.calls.specs.Call.{Call, Ream, Read, Write, Snap, Revert, Listing, Check, Lent, None, Block, Records, Outcome}
+use Rattle.calls.specs.Parts.{descriptorsOf, activeOf, snapshotsOf, foundThrough}
+use Rattle.calls.specs.Check.{Passes}
+use Rattle.calls.specs.Ladder.{answerOf}
+use Rattle.calls.specs.Step.{step, after, outcomes, isAccepted}
+use Rattle.calls.specs.History.{betaOf, Agree, isFormat, NoFormat, Position, Nowhere, At, latestSnap, without, formatted}
+use Rattle.calls.specs.Ledger.{Ledger, ledgerStep, ledgerNumber, cellRead, ledgerNames, ledgerOf}
+
+-- The ledger.
+
+-- the ledger carried along a run: its own step for each accepted call, nothing for a refused one
+unfoldable pub ledgerAfter : List Call → List ℕ → Ledger → Ledger
+ledgerAfter [] c g = g
+ledgerAfter (k ∷ ks) c g = ledgerAfter ks (step k c .card) (pick (isAccepted (answerOf k c)) (ledgerStep k g) g)
+
+-- the blocks that a call takes on a card: a write's need, a snap's c
+unfoldable pub blocksNeeded : Call → List ℕ → ℕ
+blocksNeeded (Ream layout volume name) c = 0
+blocksNeeded (Read target name l block) c = 0
+blocksNeeded (Write l block) c = let d = activeOf (descriptorsOf c) in need (d .alpha .0) (foundThrough c d l)
+blocksNeeded (Snap name) c = costOf (activeOf (descriptorsOf c))
+blocksNeeded (Revert name) c = 0
+blocksNeeded (Listing records) c = 0
+blocksNeeded Check c = 0
+
+unfoldable pub isReam : Call → Bool
+isReam (Ream layout volume name) = true
+isReam (Read target name l block) = false
+isReam (Write l block) = false
+isReam (Snap name) = false
+isReam (Revert name) = false
+isReam (Listing records) = false
+isReam Check = false
+
+-- the names of the first n records
+unfoldable pub recordNames : ℕ → List Record → List (List ℕ)
+recordNames n rs = map (λ (r : Record). r .name) (take n rs)
+
+-- Demand 2 of one call on a card c whose ledger is g: "on a card that passes its check, reads match a plain ledger of named volumes;
+-- 'no room' comes only if the blocks needed exceed those free".
+pub record Told (k : Call) (c : List ℕ) (g : Ledger) : Type 0 where
+  -- "reads match": what the card holds is the ledger, before the call
+  pub matches : ledgerOf c ≡ g
+  -- 4, 7, 8, 9, 12, 13 and 14 are the ledger's, in its order; besides them only 11 arises, so that 6 and 10 never do
+  pub number : isReam k ≡ false → (answerOf k c .number ≡ ledgerNumber k g) ⊎ ((ledgerNumber k g ≡ 0) × (answerOf k c .number ≡ 11))
+  pub place : answerOf k c .place ≡ 0
+  -- 11 exactly where the ledger has nothing against the call and the blocks needed exceed those free
+  pub no-room : isReam k ≡ false → (answerOf k c .number ≡ 11) ↔ ((ledgerNumber k g ≡ 0) × (blockCount c < betaOf c + blocksNeeded k c))
+  -- an accepted read gives the ledger's cell, whole
+  pub reads : (target : Target) (name : List ℕ) (l : ℕ) (block : List ℕ) → k ≡ Read target name l block → isAccepted (answerOf k c) ≡ true
+      → step k c .outcome .lent ≡ Block (cellRead g target name l)
+  -- an accepted listing gives the ledger's names in their order
+  pub lists : (records filled : List Record) → k ≡ Listing records → isAccepted (answerOf k c) ≡ true → step k c .outcome .lent ≡ Records filled
+      → recordNames (length (ledgerNames g)) filled ≡ ledgerNames g
+  -- "accepted calls leave one that passes, and the ledger holds"; a refused call changes nothing
+  pub passes : Passes (step k c .card)
+  pub next : ledgerOf (step k c .card) ≡ pick (isAccepted (answerOf k c)) (ledgerStep k g) g
+
+-- The ledger over whole lists: from any card that passes check, for every list of calls in which no format is accepted, and for each call of it,
+-- the card before that call matches the ledger carried so far by the ledger's own step, and Told holds of the call.
+pub LedgerClaim : Type 0
+LedgerClaim =
+    (c : List ℕ) (ks : List Call) → Passes c → NoFormat c ks
+    → ((i : ℕ) → i < length ks → Told (getD ks i Check) (after (take i ks) c) (ledgerAfter (take i ks) c (ledgerOf c)))
+    × Passes (after ks c)
+    × (ledgerOf (after ks c) ≡ ledgerAfter ks c (ledgerOf c))
+
+-- From a format the ledger starts with no visits and a volume of zeros, and the card passes, whatever the area held.
+pub FormatClaim : Type 0
+FormatClaim =
+    (area : List ℕ) (layout volume : ℕ) (name : List ℕ) → isAccepted (answerOf (Ream layout volume name) area) ≡ true
+    → Passes (formatted area layout volume name)
+    × (ledgerOf (formatted area layout volume name) ≡ record { visits = []; active = record { name = name; cells = replicate volume zeroBlock } })
+
+-- The rollback claim.
+
+-- Two runs from one card, of ks from position a on and of js from position b on: "right after, and after each later call, beta and every byte
+-- below it are equal in the two runs, and each later call gives the same answer". An outcome is number, place and lent memory at exit.
+pub record Matched (s : List ℕ) (ks : List Call) (a : ℕ) (js : List Call) (b : ℕ) : Type 0 where
+  pub agree : (m : ℕ) → a + m ≤ length ks → Agree (after (take (a + m) ks) s) (after (take (b + m) js) s)
+  pub alike : drop a (outcomes ks s) ≡ drop b (outcomes js s)
+
+-- What a rollback to the visit v at position k comes to, given the latest accepted snap of v before it.
+-- There: "forget the calls from that visit's latest accepted snapshot up to and including the rollback and run the shorter list from the same start";
+-- the card right after the revert is compared with the card after the calls before the forgotten ones.
+-- Nowhere: v stands on the starting card; all calls before the rollback are forgotten, the rollback stays and is accepted there too.
+unfoldable pub Forgets : List ℕ → List ℕ → List Call → ℕ → Position → Type 0
+Forgets s v ks k (At i) = Matched s ks (suc k) (without ks i k) i
+Forgets s v ks k Nowhere =
+    (named (snapshotsOf (descriptorsOf s)) v ≡ true) × (isAccepted (answerOf (Revert v) s) ≡ true) × Matched s ks (suc k) (drop k ks) 1
+
+-- the call at position k is a revert to v, and it is accepted there
+pub record RevertedAt (s : List ℕ) (ks : List Call) (k : ℕ) (v : List ℕ) : Type 0 where
+  pub inside : k < length ks
+  pub is : getD ks k Check ≡ Revert v
+  pub taken : isAccepted (answerOf (Revert v) (after (take k ks) s)) ≡ true
+
+-- For any card with a sound chain, any list of calls in which no format is accepted, and every accepted revert in it, by itself.
+pub RollbackClaim : Type 0
+RollbackClaim =
+    (s : List ℕ) (ks : List Call) → chainSound (chain s) ≡ true → NoFormat s ks
+    → (k : ℕ) (v : List ℕ) → RevertedAt s ks k v → Forgets s v ks k (latestSnap v s (take k ks))
+
+-- "That visit's snapshot" exists on a card that a format made, whatever the area held.
+pub SnapshotClaim : Type 0
+SnapshotClaim =
+    (area : List ℕ) (layout volume : ℕ) (name : List ℕ) → isAccepted (answerOf (Ream layout volume name) area) ≡ true
+    → (ks : List Call) → NoFormat (formatted area layout volume name) ks
+    → (k : ℕ) (v : List ℕ) → RevertedAt (formatted area layout volume name) ks k v
+    → (i : ℕ) × (i < k) × (latestSnap v (formatted area layout volume name) (take k ks) ≡ At i)
+
+-- Demand 3, whole: the list starts from all N blocks as an accepted ream left them, in either layout.
+pub Demand3 : Type 0
+Demand3 =
+    (area : List ℕ) (layout volume : ℕ) (name : List ℕ) → isAccepted (answerOf (Ream layout volume name) area) ≡ true
+    → (ks : List Call) → NoFormat (formatted area layout volume name) ks
+    → (k : ℕ) (v : List ℕ) → RevertedAt (formatted area layout volume name) ks k v
+    → (i : ℕ) × (i < k) × (latestSnap v (formatted area layout volume name) (take k ks) ≡ At i)
+    × Matched (formatted area layout volume name) ks (suc k) (without ks i k) i

@@ -1,0 +1,63 @@
+-- The effect of each accepted call: the whole-block stores that it makes, in order, computed from the card at entry; and what it leaves in lent memory.
+use mathlib.Core.Bool.{Bool, true, false}
+use mathlib.Core.List.{List, [], _∷_, _++_}
+use Prim.Native.Nat.{ℕ, zero, suc, _+_, _-_}
+use lib.ListN.{length, drop}
+use Rattle.blocks.specs.Bytes.{Store, store}
+use Rattle.blocks.specs.Descriptor.{physical, costOf, tailAt, descriptorBlock, renamedOf, linkedOf, reopenedOf, copying, opening}
+use Rattle.blocks.specs.declared.descriptor.Descriptor.{Descriptor}
+use Rattle.entries.specs.Entry.{writing}
+use Rattle.calls.specs.declared.answer.Target.{Target}
+use Rattle.calls.specs.declared.answer.Record.{Record}
+use Rattle.calls.specs.Call.{Call, Ream, Read, Write, Snap, Revert, Listing, Check, Lent, None, Block, Records}
+use Rattle.calls.specs.Parts.{descriptorsOf, activeOf, snapshotsOf, withName, targetOf, foundThrough, blockFound}
+
+-- a snapshot of the active descriptor d: the copy at beta, tables first and rising, then the old descriptor under the visit's name, linked to the copy
+unfoldable pub snapping : List ℕ → Descriptor → List ℕ → List Store
+snapping c d name =
+    copying c (d .alpha .0 + 1) (d .beta .0 + 1) (costOf d - 1)
+    ++ (store (d .beta .0) (descriptorBlock (reopenedOf d) (tailAt c (d .alpha .0)))
+    ∷ store (d .alpha .0) (descriptorBlock (linkedOf (renamedOf d name) (d .beta)) (tailAt c (d .alpha .0)))
+    ∷ [])
+
+-- a revert to the snapshot v: its descriptor with the active name and a nil next
+unfoldable pub reverting : List ℕ → Descriptor → List ℕ → List Store
+reverting c v activeName = store (v .alpha .0) (descriptorBlock (linkedOf (renamedOf v activeName) (physical 0)) (tailAt c (v .alpha .0))) ∷ []
+
+-- the stores of an accepted call
+unfoldable pub storesOf : Call → List ℕ → List Store
+storesOf (Ream layout volume name) c = opening layout volume name
+storesOf (Read target name l block) c = []
+storesOf (Write l block) c = let d = activeOf (descriptorsOf c) in writing c d (foundThrough c d l) l block
+storesOf (Snap name) c = snapping c (activeOf (descriptorsOf c)) name
+storesOf (Revert name) c = let ds = descriptorsOf c in reverting c (withName (snapshotsOf ds) name) (activeOf ds .name)
+storesOf (Listing records) c = []
+storesOf Check c = []
+
+-- the record of a descriptor, and those of a chain followed by the records that a listing leaves unchanged
+abbrev pub recordOf : Descriptor → Record
+recordOf d = record { name = d .name; alpha = d .alpha .0; beta = d .beta .0; next = d .next .0 }
+
+unfoldable pub listed : List Descriptor → List Record → List Record
+listed [] rest = rest
+listed (d ∷ ds) rest = recordOf d ∷ listed ds rest
+
+-- what is lent to a call, at entry
+unfoldable pub lentOf : Call → Lent
+lentOf (Ream layout volume name) = None
+lentOf (Read target name l block) = Block block
+lentOf (Write l block) = Block block
+lentOf (Snap name) = None
+lentOf (Revert name) = None
+lentOf (Listing records) = Records records
+lentOf Check = None
+
+-- the same as an accepted call leaves it: a read fills the block, a listing the first records
+unfoldable pub filledOf : Call → List ℕ → Lent
+filledOf (Ream layout volume name) c = None
+filledOf (Read target name l block) c = Block (blockFound c (foundThrough c (targetOf (descriptorsOf c) target name) l))
+filledOf (Write l block) c = Block block
+filledOf (Snap name) c = None
+filledOf (Revert name) c = None
+filledOf (Listing records) c = let ds = descriptorsOf c in Records (listed ds (drop (length ds) records))
+filledOf Check c = None

@@ -1,0 +1,117 @@
+-- Where each refusal is made: for each call the rows of 01's table that it meets, from top to bottom; the first that holds is given.
+use mathlib.Core.Bool.{Bool, true, false, not, _&&_, _||_}
+use mathlib.Core.List.{List, [], _∷_}
+use Prim.Native.Nat.{ℕ, _+_}
+use lib.ListN.{length}
+use lib.Dec.{eqb, ltb, leb}
+use Rattle.blocks.specs.Pick.{pick}
+use Rattle.blocks.specs.Bytes.{blockSize, blockCount}
+use Rattle.blocks.specs.Name.{isName}
+use Rattle.blocks.specs.Descriptor.{cost, costOf, mostVolume}
+use Rattle.blocks.specs.Chain.{chain, chainSound, chainPlace, named}
+use Rattle.entries.specs.Entry.{need}
+use Rattle.calls.specs.declared.answer.Answer.{Answer}
+use Rattle.calls.specs.declared.answer.Target.{Target}
+use Rattle.calls.specs.declared.answer.Record.{Record}
+use Rattle.calls.specs.Call.{Call, Ream, Read, Write, Snap, Revert, Listing, Check, answer, accepted}
+use Rattle.calls.specs.Parts.{areaBad, descriptorsOf, activeOf, snapshotsOf, targetOf, isSnapshot, foundThrough, isMisplaced, holderOf, mostSnapshots}
+use Rattle.calls.specs.Check.{checkCard, isFault, faultHolder}
+
+-- a row: its condition, the number that it gives and the place
+pub record Row : Type 0 where
+  pub holds : Bool
+  pub number : ℕ
+  pub place : ℕ
+
+abbrev pub row : Bool → ℕ → ℕ → Row
+row b n p = record { holds = b; number = n; place = p }
+
+-- the first row that holds, or acceptance
+unfoldable pub firstRow : List Row → Answer
+firstRow [] = accepted
+firstRow (r ∷ rs) = pick (r .holds) (answer (r .number) (r .place)) (firstRow rs)
+
+-- the rows that several calls share
+abbrev pub areaRow : List ℕ → Row
+areaRow c = row (areaBad c) 1 0
+
+abbrev pub nameRow : List ℕ → Row
+nameRow name = row (not (isName name)) 4 0
+
+abbrev pub blockRow : List ℕ → Row
+blockRow block = row (not (eqb (length block) blockSize)) 9 0
+
+abbrev pub chainRow : List ℕ → Row
+chainRow c = row (not (chainSound (chain c))) 6 (chainPlace (chain c))
+
+abbrev pub volumeRow : List ℕ → ℕ → Row
+volumeRow c l = row (leb (activeOf (descriptorsOf c) .volume) l) 8 0
+
+unfoldable pub reamRows : List ℕ → ℕ → ℕ → List ℕ → List Row
+reamRows c layout volume name =
+    areaRow c
+    ∷ row (not (eqb layout 1 || eqb layout 2)) 2 0
+    ∷ row (eqb volume 0 || ltb mostVolume volume) 3 0
+    ∷ nameRow name
+    ∷ row (ltb (blockCount c) (cost layout volume)) 5 0
+    ∷ []
+
+unfoldable pub readRows : List ℕ → Target → List ℕ → ℕ → List ℕ → List Row
+readRows c target name l block =
+    let ds = descriptorsOf c in
+    let found = foundThrough c (targetOf ds target name) l in
+    areaRow c
+    ∷ row (isSnapshot target && not (isName name)) 4 0
+    ∷ blockRow block
+    ∷ chainRow c
+    ∷ row (isSnapshot target && not (named (snapshotsOf ds) name)) 7 0
+    ∷ volumeRow c l
+    ∷ row (isMisplaced found) 10 (holderOf found)
+    ∷ []
+
+unfoldable pub writeRows : List ℕ → ℕ → List ℕ → List Row
+writeRows c l block =
+    let d = activeOf (descriptorsOf c) in
+    let found = foundThrough c d l in
+    areaRow c
+    ∷ blockRow block
+    ∷ chainRow c
+    ∷ volumeRow c l
+    ∷ row (isMisplaced found) 10 (holderOf found)
+    ∷ row (ltb (blockCount c) (d .beta .0 + need (d .alpha .0) found)) 11 0
+    ∷ []
+
+unfoldable pub snapRows : List ℕ → List ℕ → List Row
+snapRows c name =
+    let ds = descriptorsOf c in
+    let d = activeOf ds in
+    areaRow c
+    ∷ nameRow name
+    ∷ chainRow c
+    ∷ row (named ds name) 12 0
+    ∷ row (leb mostSnapshots (length (snapshotsOf ds))) 13 0
+    ∷ row (ltb (blockCount c) (d .beta .0 + costOf d)) 11 0
+    ∷ []
+
+unfoldable pub revertRows : List ℕ → List ℕ → List Row
+revertRows c name = areaRow c ∷ nameRow name ∷ chainRow c ∷ row (not (named (snapshotsOf (descriptorsOf c)) name)) 7 0 ∷ []
+
+unfoldable pub listRows : List ℕ → List Record → List Row
+listRows c records = areaRow c ∷ chainRow c ∷ row (ltb (length records) (length (descriptorsOf c))) 14 0 ∷ []
+
+unfoldable pub checkRows : List ℕ → List Row
+checkRows c = areaRow c ∷ chainRow c ∷ row (isFault (checkCard c)) 10 (faultHolder (checkCard c)) ∷ []
+
+-- the rows of a call on a card
+unfoldable pub rowsOf : Call → List ℕ → List Row
+rowsOf (Ream layout volume name) c = reamRows c layout volume name
+rowsOf (Read target name l block) c = readRows c target name l block
+rowsOf (Write l block) c = writeRows c l block
+rowsOf (Snap name) c = snapRows c name
+rowsOf (Revert name) c = revertRows c name
+rowsOf (Listing records) c = listRows c records
+rowsOf Check c = checkRows c
+
+-- number and place of a call's answer
+unfoldable pub answerOf : Call → List ℕ → Answer
+answerOf k c = firstRow (rowsOf k c)

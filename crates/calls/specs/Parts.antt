@@ -1,0 +1,83 @@
+-- Parts of a card that the calls speak of: its area, its chain, the active descriptor, a snapshot by name, the block that a read gives.
+use mathlib.Core.Bool.{Bool, true, false, not, _&&_, _||_}
+use mathlib.Core.List.{List, [], _∷_, _++_}
+use Prim.Native.Nat.{ℕ, zero, suc, _+_, _%_}
+use lib.ListN.{length}
+use lib.Dec.{eqb, ltb, leb}
+use Rattle.blocks.specs.Pick.{pick, same}
+use Rattle.blocks.specs.Bytes.{blockSize, blockCount, blockAt, zeroBlock}
+use Rattle.blocks.specs.Name.{noName}
+use Rattle.blocks.specs.Descriptor.{firstOf}
+use Rattle.blocks.specs.Chain.{chain, descriptors}
+use Rattle.blocks.specs.declared.descriptor.Descriptor.{Descriptor}
+use Rattle.entries.specs.Entry.{find}
+use Rattle.entries.specs.declared.find.Found.{Found}
+use Rattle.entries.specs.declared.find.Found.the-variants.{Misplaced, Entry}
+use Rattle.calls.specs.declared.answer.Target.{Target}
+use Rattle.calls.specs.declared.answer.Target.the-variants.{Active, Snapshot}
+
+abbrev pub fewestBlocks : ℕ
+fewestBlocks = 2
+
+abbrev pub mostBlocks : ℕ
+mostBlocks = 65536
+
+abbrev pub mostSnapshots : ℕ
+mostSnapshots = 255
+
+-- the area is no card: its length is no multiple of 512, or N is outside 2..65,536
+unfoldable pub areaBad : List ℕ → Bool
+areaBad c = not (eqb (length c % blockSize) 0) || ltb (blockCount c) fewestBlocks || ltb mostBlocks (blockCount c)
+
+-- the descriptors of the card's chain, in chain order
+abbrev pub descriptorsOf : List ℕ → List Descriptor
+descriptorsOf c = descriptors (chain c)
+
+-- what stands for a descriptor where there is none
+abbrev pub noDescriptor : Descriptor
+noDescriptor = firstOf 0 0 noName
+
+-- the last descriptor is active
+unfoldable pub activeOf : List Descriptor → Descriptor
+activeOf [] = noDescriptor
+activeOf (d ∷ []) = d
+activeOf (d ∷ e ∷ ds) = activeOf (e ∷ ds)
+
+-- the others are snapshots
+unfoldable pub snapshotsOf : List Descriptor → List Descriptor
+snapshotsOf [] = []
+snapshotsOf (d ∷ []) = []
+snapshotsOf (d ∷ e ∷ ds) = d ∷ snapshotsOf (e ∷ ds)
+
+-- the descriptor of the list that has the name
+unfoldable pub withName : List Descriptor → List ℕ → Descriptor
+withName [] name = noDescriptor
+withName (d ∷ ds) name = pick (same (d .name) name) d (withName ds name)
+
+-- whether a read's target is a snapshot, so that a name is given
+abbrev pub isSnapshot : Target → Bool
+isSnapshot Active = false
+isSnapshot Snapshot = true
+
+-- the descriptor that a read goes through
+unfoldable pub targetOf : List Descriptor → Target → List ℕ → Descriptor
+targetOf ds Active name = activeOf ds
+targetOf ds Snapshot name = withName (snapshotsOf ds) name
+
+-- whether an entry followed is not in place, and the block that holds it
+unfoldable pub isMisplaced : Found → Bool
+isMisplaced (Misplaced h) = true
+isMisplaced (Entry m p) = false
+
+unfoldable pub holderOf : Found → ℕ
+holderOf (Misplaced h) = h .0
+holderOf (Entry m p) = m .0
+
+-- the block that is read through what was found: zeros where the entry is nil
+unfoldable pub blockFound : List ℕ → Found → List ℕ
+blockFound c (Misplaced h) = zeroBlock
+blockFound c (Entry m p) = pick (eqb (p .0) 0) zeroBlock (blockAt c (p .0))
+
+-- the entry of logical block l through a descriptor of the card
+abbrev pub foundThrough : List ℕ → Descriptor → ℕ → Found
+foundThrough c d l = find c (descriptorsOf c) d l

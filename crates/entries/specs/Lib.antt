@@ -1,0 +1,5 @@
+-- The definitions of entry finding, in reading order.
+pub mod InPlace
+pub mod Entry
+pub mod Naming
+pub mod Rules

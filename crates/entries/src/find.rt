@@ -1,0 +1,10 @@
+// Finding the entry of a logical block through a descriptor.
+use blocks::numbers::Physical;
+
+// What finding an entry gives.
+pub enum Found {
+    // An entry on the way is not in place: the block that holds it.
+    Misplaced(Physical),
+    // The block that holds the entry, nil where the table block itself is nil, and the entry, nil or in place.
+    Entry(Physical, Physical),
+}
