@@ -58,7 +58,7 @@ unfolding ends
 ends-snoc [] d = refl
 ends-snoc (e ∷ ds) d = rw (ends-snoc ds d)
 
-length-ends : (ds : List Descriptor) → length (ends ds) ≡ length ds
+pub length-ends : (ds : List Descriptor) → length (ends ds) ≡ length ds
 unfolding ends
 length-ends [] = refl
 length-ends (d ∷ ds) = ap suc (length-ends ds)

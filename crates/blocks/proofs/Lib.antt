@@ -6,3 +6,4 @@ pub mod NameLaws
 pub mod DescriptorLaws
 pub mod SoundLaws
 pub mod ChainLaws
+pub mod LinkedLaws

@@ -80,3 +80,33 @@ module _ (c : List ℕ) (p : ℕ) (d : Descriptor) (m : Bool) (marked : m ≡ sa
               form-layout-1 h y e =
                   let f : 512 * p + 512 - (512 * p + 64) ≡ 448 = omega arith in
                   sym (form-so-far ∙ rw (eq-eqb (d .layout) 1 h, e, f))
+
+-- what a formed descriptor's fields satisfy
+module _ (c : List ℕ) (p : ℕ) (d : Descriptor) (ok : formOk c p d ≡ true) where
+  abbrev of-mark : Bool
+  of-mark = same (part c (512 * p) 4) mark
+
+  abbrev of-layout : Bool
+  of-layout = eqb (d .layout) 1 || eqb (d .layout) 2
+
+  abbrev to-volume : Bool
+  to-volume = of-mark && of-layout && ltb 0 (d .volume) && leb (d .volume) 14336
+
+  form-to-volume : to-volume ≡ true
+  unfolding formOk
+  form-to-volume =
+      and-left to-volume (isName (d .name))
+      (and-left (to-volume && isName (d .name)) (reservedOk (part c (512 * p + 40) 24))
+      (and-left (to-volume && isName (d .name) && reservedOk (part c (512 * p + 40) 24)) (phiOk (d .layout) (part c (512 * p + 64) 448)) ok))
+
+  form-to-least : (of-mark && of-layout && ltb 0 (d .volume)) ≡ true
+  form-to-least = and-left (of-mark && of-layout && ltb 0 (d .volume)) (leb (d .volume) 14336) form-to-volume
+
+  pub form-most : d .volume ≤ 14336
+  form-most = leb-true _ _ (and-right (of-mark && of-layout && ltb 0 (d .volume)) (leb (d .volume) 14336) form-to-volume)
+
+  pub form-least : 0 < d .volume
+  form-least = ltb-true _ _ (and-right (of-mark && of-layout) (ltb 0 (d .volume)) form-to-least)
+
+  pub form-layout : (eqb (d .layout) 1 || eqb (d .layout) 2) ≡ true
+  form-layout = and-right of-mark of-layout (and-left (of-mark && of-layout) (ltb 0 (d .volume)) form-to-least)

@@ -6,6 +6,7 @@ use lib.ListN.{length, replicate}
 use lib.Dec.{eqb, ltb, leb}
 use Rattle.blocks.specs.Pick.{pick, allZero}
 use Rattle.blocks.specs.Bytes.{blockSize, part, u32At, le32, blockAt, Store, store}
+use Rattle.blocks.specs.Name.{noName}
 use Rattle.blocks.specs.declared.numbers.Physical.{Physical}
 use Rattle.blocks.specs.declared.descriptor.Descriptor.{Descriptor}
 
@@ -96,6 +97,10 @@ phiOk layout bytes = pick (eqb layout 1) (allZero bytes) true
 abbrev pub firstOf : ℕ → ℕ → List ℕ → Descriptor
 firstOf layout volume name =
     record { layout = layout; volume = volume; alpha = physical 0; beta = physical (cost layout volume); next = physical 0; name = name }
+
+-- what stands for a descriptor where there is none
+abbrev pub noDescriptor : Descriptor
+noDescriptor = firstOf 0 0 noName
 
 -- stores of zeros to the n blocks from block p, rising
 unfoldable pub clearing : ℕ → ℕ → List Store

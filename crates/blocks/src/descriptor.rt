@@ -126,6 +126,7 @@ pub fn put_head(block: &mut [u8], d: Descriptor)
 pub fn descriptor_block(card: &[u8], from: Physical, d: Descriptor) -> [u8; 512]
     requires { ⌜ 512 * from .0 + 512 ≤ length (now card) ⌝ }
     ensures { λ r. ⌜ r ≡ descriptorBlock d (tailAt (now (card .entry)) (from .0)) ⌝ }
+    ensures { λ _. ⌜ length (headBytes d) ≡ 40 ⌝ }
 {
     let mut b = bytes::load_block(card, from);
     put_head(&mut b, d);

@@ -4,11 +4,12 @@ use mathlib.Core.Bool.{Bool, true, false}
 use mathlib.Core.List.{List, [], _∷_}
 use Prim.Native.Nat.{ℕ, _<_}
 use lib.ListN.{length, getD}
+use Rattle.blocks.specs.Descriptor.{noDescriptor}
 use Rattle.blocks.specs.Chain.{chain, chainSound}
 use Rattle.blocks.specs.declared.descriptor.Descriptor.{Descriptor}
 use Rattle.entries.specs.Naming.{Verdict, Passed, Fault, checkOne}
 use Rattle.entries.specs.Rules.{Rules}
-use Rattle.calls.specs.Parts.{areaBad, descriptorsOf, noDescriptor}
+use Rattle.calls.specs.Parts.{areaBad, descriptorsOf}
 
 -- the first of two verdicts that is a fault
 unfoldable pub orElse : Verdict → Verdict → Verdict

@@ -6,8 +6,7 @@ use lib.ListN.{length}
 use lib.Dec.{eqb, ltb, leb}
 use Rattle.blocks.specs.Pick.{pick, same}
 use Rattle.blocks.specs.Bytes.{blockSize, blockCount, blockAt, zeroBlock}
-use Rattle.blocks.specs.Name.{noName}
-use Rattle.blocks.specs.Descriptor.{firstOf}
+use Rattle.blocks.specs.Descriptor.{noDescriptor}
 use Rattle.blocks.specs.Chain.{chain, descriptors}
 use Rattle.blocks.specs.declared.descriptor.Descriptor.{Descriptor}
 use Rattle.entries.specs.Entry.{find}
@@ -32,10 +31,6 @@ areaBad c = not (eqb (length c % blockSize) 0) || ltb (blockCount c) fewestBlock
 -- the descriptors of the card's chain, in chain order
 abbrev pub descriptorsOf : List ℕ → List Descriptor
 descriptorsOf c = descriptors (chain c)
-
--- what stands for a descriptor where there is none
-abbrev pub noDescriptor : Descriptor
-noDescriptor = firstOf 0 0 noName
 
 -- the last descriptor is active
 unfoldable pub activeOf : List Descriptor → Descriptor

@@ -1,8 +1,10 @@
 -- 'In place': which blocks an entry may name.
 use mathlib.Core.Bool.{Bool, true, false, not, _&&_, _||_}
 use mathlib.Core.List.{List, [], _∷_}
-use Prim.Native.Nat.{ℕ, _+_}
+use Prim.Native.Nat.{ℕ, zero, suc, _+_}
+use lib.ListN.{getD}
 use lib.Dec.{eqb, ltb, leb}
+use Rattle.blocks.specs.Pick.{pick}
 use Rattle.blocks.specs.Descriptor.{tableCount}
 use Rattle.blocks.specs.declared.descriptor.Descriptor.{Descriptor}
 
@@ -19,3 +21,13 @@ isTable (d ∷ ds) p = (eqb (d .layout) 1 && ltb (d .alpha .0) p && leb p (d .al
 -- an entry is in place if it is nil, or below its descriptor's beta and neither a descriptor of the chain nor a layout 1 table block
 unfoldable pub inPlace : List Descriptor → Descriptor → ℕ → Bool
 inPlace ds d p = eqb p 0 || (ltb p (d .beta .0) && not (isDescriptor ds p || isTable ds p))
+
+-- the index of the region that contains block p: the first that ends above p. Region k runs from number k up to number k + 1 of the list
+unfoldable pub regionOf : List ℕ → ℕ → ℕ
+regionOf [] p = 0
+regionOf (s ∷ []) p = 0
+regionOf (s ∷ t ∷ starts) p = let rest = suc (regionOf (t ∷ starts) p) in pick (ltb p t) 0 rest
+
+-- the same of regions in rising order: nil, or below beta and outside the opening of the region that contains it (the law `in-place-region`)
+unfoldable pub inPlaceAt : List ℕ → ℕ → ℕ → ℕ → Bool
+inPlaceAt starts cost beta p = eqb p 0 || (ltb p beta && leb (getD starts (regionOf starts p) 0 + cost) p)

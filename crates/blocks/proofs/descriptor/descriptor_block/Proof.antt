@@ -14,7 +14,7 @@ put-head-requires : tie.Need-put-head-requires
 put-head-requires c κs = search needs
 
 returns : tie.Need-returns
-returns c = search block-made
+returns c = (search block-made, c .before .put-head .ensures .1)
 
 pub descriptor-block-spec : {M : Type 1} → statement M
 descriptor-block-spec =

@@ -16,7 +16,7 @@ same-length : tie.Need-same-length
 same-length c = search needs
 
 returns : tie.Need-returns
-returns c = rw (c .before .before .store-block .ensures, c .before .before .before .before .before .descriptor-block .ensures)
+returns c = rw (c .before .before .store-block .ensures, c .before .before .before .before .before .descriptor-block .ensures .0)
 
 pub store-descriptor-spec : {M : Type 1} → statement M
 store-descriptor-spec =

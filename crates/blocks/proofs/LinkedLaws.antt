@@ -1,0 +1,167 @@
+-- What a sound chain is: descriptors, each sound after those before it and each where the one before it ends.
+use mathlib.Core.Path.{_≡_, refl, sym, ap, _∙_, subst}
+use mathlib.Core.Bool.{Bool, true, false, not, _&&_, _||_}
+use mathlib.Core.List.{List, [], _∷_, _++_, append-nil}
+use Prim.Native.Nat.{ℕ, zero, suc, _+_, _*_, _-_, _≤_, _<_}
+use native.Mathlib.Numerals.{add-one}
+use native.Mathlib.Omega.{arith}
+use lib.ListN.{length, getD, replicate, List·getD-append, length-append}
+use lib.Seq.{append-snoc}
+use lib.Dec.{eqb}
+use borrow.Author.Tests.{eqb-true, eqb-false}
+use Rattle.blocks.specs.Pick.{pick}
+use Rattle.blocks.specs.Bytes.{blockCount}
+use Rattle.blocks.specs.Descriptor.{physical, cost, costOf, noDescriptor, descriptorAt}
+use Rattle.blocks.specs.Chain.{formOk, regionOk, named, sound, Chain, Unsound, Sound, chainFrom, chain, descriptors, ends, startsOf, regionsOf}
+use Rattle.blocks.specs.declared.descriptor.Descriptor.{Descriptor}
+use Rattle.blocks.specs.declared.chain.Regions.{Regions}
+use Rattle.blocks.proofs.Tests.{and-left, and-right}
+use Rattle.blocks.proofs.ChainLaws.{region-layout, region-volume, region-alpha, region-long, region-end, region-next, cost-least, length-ends}
+
+-- the descriptors from block p on, after the earlier ones
+pub data Linked (c : List ℕ) : List Descriptor → ℕ → List Descriptor → Type 0 where
+  last : {es : List Descriptor} {p : ℕ} {d : Descriptor} → d ≡ descriptorAt c p → sound c es p ≡ true → d .next .0 ≡ 0 → Linked c es p (d ∷ [])
+  more : {es : List Descriptor} {p : ℕ} {d : Descriptor} {ds : List Descriptor} → d ≡ descriptorAt c p → sound c es p ≡ true → (d .next .0 ≡ 0 → ⊥)
+      → Linked c (es ++ (d ∷ [])) (d .next .0) ds → Linked c es p (d ∷ ds)
+
+-- a walk that finds no fault has gone along such descriptors
+module _ (c : List ℕ) where
+  walk-by : (f : ℕ) (es : List Descriptor) (p : ℕ) (ds : List Descriptor) (s z : Bool) → sound c es p ≡ s → eqb (descriptorAt c p .next .0) 0 ≡ z
+      → ((es′ : List Descriptor) (q : ℕ) → chainFrom c f es′ q ≡ Sound ds → (rest : List Descriptor) × (ds ≡ es′ ++ rest) × Linked c es′ q rest)
+      → pick s (pick z (Sound (es ++ (descriptorAt c p ∷ []))) (chainFrom c f (es ++ (descriptorAt c p ∷ [])) (descriptorAt c p .next .0))) (Unsound p) ≡ Sound ds
+      → (rest : List Descriptor) × (ds ≡ es ++ rest) × Linked c es p rest
+  walk-by f es p ds true true hs hz more-of e = (descriptorAt c p ∷ [], cc, last refl hs (eqb-true _ _ hz))
+  walk-by f es p ds true false hs hz more-of e =
+      let r = more-of (es ++ (descriptorAt c p ∷ [])) (descriptorAt c p .next .0) e in
+      (descriptorAt c p ∷ r .0, r .1 ∙ append-snoc es (descriptorAt c p) (r .0), more refl hs (eqb-false _ _ hz) (r .2))
+  walk-by f es p ds false z hs hz more-of e = let y : _≡_ {A = ℕ} 0 1 = cc in absurd (omega arith)
+
+  pub walk-linked : (fuel : ℕ) (es : List Descriptor) (p : ℕ) (ds : List Descriptor) → chainFrom c fuel es p ≡ Sound ds
+      → (rest : List Descriptor) × (ds ≡ es ++ rest) × Linked c es p rest
+  unfolding chainFrom
+  walk-linked zero es p ds e = let y : _≡_ {A = ℕ} 0 1 = cc in absurd (omega arith)
+  walk-linked (suc f) es p ds e =
+      walk-by f es p ds (sound c es p) (eqb (descriptorAt c p .next .0) 0) refl refl (λ es′ q h. walk-linked f es′ q ds h) e
+
+  pub chain-linked : (ds : List Descriptor) → chain c ≡ Sound ds → Linked c [] 0 ds
+  unfolding chain
+  chain-linked ds e = let r = walk-linked 256 [] 0 ds e in rw (r .1) (r .2)
+
+-- what soundness gives of each
+module _ (c : List ℕ) (es : List Descriptor) (p : ℕ) (d : Descriptor) (is : d ≡ descriptorAt c p) (ok : sound c es p ≡ true) where
+  abbrev first : Descriptor
+  first = descriptorAt c 0
+
+  abbrev formed : Bool
+  formed = formOk c p (descriptorAt c p)
+
+  abbrev placed : Bool
+  placed = regionOk first (blockCount c) p (descriptorAt c p)
+
+  pub sound-form : formOk c p d ≡ true
+  unfolding sound
+  sound-form = rw is (and-left formed placed (and-left (formed && placed) (not (named es (descriptorAt c p .name))) ok))
+
+  pub sound-region : regionOk first (blockCount c) p d ≡ true
+  unfolding sound
+  sound-region = rw is (and-right formed placed (and-left (formed && placed) (not (named es (descriptorAt c p .name))) ok))
+
+  pub sound-alpha : d .alpha .0 ≡ p
+  sound-alpha = region-alpha first (blockCount c) p d sound-region
+
+  pub sound-cost : costOf d ≡ costOf first
+  sound-cost = rw (region-layout first (blockCount c) p d sound-region, region-volume first (blockCount c) p d sound-region)
+
+  pub sound-long : p + costOf first ≤ d .beta .0
+  sound-long = omega (arith, region-long first (blockCount c) p d sound-region, sound-alpha, sound-cost)
+
+  pub sound-next : (d .next .0 ≡ 0 → ⊥) → d .next .0 ≡ d .beta .0
+  sound-next z = region-next first (blockCount c) p d sound-region z .0
+
+-- where region k starts, the first region starting at block p; at the number of regions, where the last one ends
+unfoldable pub fence : ℕ → List Descriptor → ℕ → ℕ
+fence p ds k = getD (p ∷ ends ds) k 0
+
+pub fence-zero : (p : ℕ) (ds : List Descriptor) → fence p ds 0 ≡ p
+unfolding fence
+fence-zero p ds = refl
+
+pub fence-suc : (p : ℕ) (d : Descriptor) (ds : List Descriptor) (k : ℕ) → fence p (d ∷ ds) (suc k) ≡ fence (d .beta .0) ds k
+unfolding fence ends
+fence-suc p d ds k = refl
+
+pub fence-starts : (ds : List Descriptor) (k : ℕ) → k ≤ length ds → getD (startsOf ds) k 0 ≡ fence 0 ds k
+unfolding startsOf fence
+fence-starts ds k h = List·getD-append (0 ∷ ends ds) (replicate (256 - length ds) 0) 0 k (omega (arith, length-ends ds))
+
+pub starts-long : (ds : List Descriptor) → length ds < length (startsOf ds)
+unfolding startsOf
+starts-long ds = rw (length-append (0 ∷ ends ds) (replicate (256 - length ds) 0)) (omega (arith, length-ends ds))
+
+-- the block after a region is where the next one starts
+module _ {c : List ℕ} where
+  -- the last region ends on the card
+  pub linked-end : {es : List Descriptor} {p : ℕ} {ds : List Descriptor} → Linked c es p ds → fence p ds (length ds) ≤ blockCount c
+  linked-end (last {es = es} {p = p} {d = d} is ok z) =
+      rw (fence-suc p d [] 0, fence-zero (d .beta .0) []) (region-end (descriptorAt c 0) (blockCount c) p d (sound-region c es p d is ok))
+  linked-end (more {es = es} {p = p} {d = d} {ds = ds} is ok z rest) =
+      rw (fence-suc p d ds (length ds), ← (sound-next c es p d is ok z)) (linked-end rest)
+
+  -- the regions rise
+  pub linked-low : {es : List Descriptor} {p : ℕ} {ds : List Descriptor} → Linked c es p ds → (j : ℕ) → j ≤ length ds → p ≤ fence p ds j
+  linked-low {p = p} {ds = ds} h zero l = rw (fence-zero p ds) (omega arith)
+  linked-low (last {es = es} {p = p} {d = d} is ok z) (suc j) l =
+      let e : j ≡ 0 = omega arith in
+      rw (e, fence-suc p d [] 0, fence-zero (d .beta .0) []) (omega (arith, sound-long c es p d is ok))
+  linked-low (more {es = es} {p = p} {d = d} {ds = ds} is ok z rest) (suc j) l =
+      rw (fence-suc p d ds j, ← (sound-next c es p d is ok z)) (omega (arith, linked-low rest j (omega arith), sound-long c es p d is ok, sound-next c es p d is ok z))
+
+  pub linked-rise : {es : List Descriptor} {p : ℕ} {ds : List Descriptor} → Linked c es p ds → (i j : ℕ) → i ≤ j → j ≤ length ds → fence p ds i ≤ fence p ds j
+  linked-rise {p = p} {ds = ds} h zero j m l = rw (fence-zero p ds) (linked-low h j l)
+  linked-rise h (suc i) zero m l = absurd (omega arith)
+  linked-rise (last {p = p} {d = d} is ok z) (suc i) (suc j) m l = let e : suc i ≡ suc j = omega arith in rw e (omega arith)
+  linked-rise (more {es = es} {p = p} {d = d} {ds = ds} is ok z rest) (suc i) (suc j) m l =
+      rw (fence-suc p d ds i, fence-suc p d ds j, ← (sound-next c es p d is ok z)) (linked-rise rest i j (omega arith) (omega arith))
+
+-- a descriptor in block p whose region ends at block end
+pub record RegionAt (c : List ℕ) (p end : ℕ) (d : Descriptor) : Type 0 where
+  pub is : d ≡ descriptorAt c p
+  pub form : formOk c p d ≡ true
+  pub region : regionOk (descriptorAt c 0) (blockCount c) p d ≡ true
+  pub beta : d .beta .0 ≡ end
+
+module _ (c : List ℕ) (p end : ℕ) (d : Descriptor) (r : RegionAt c p end d) where
+  pub at-alpha : d .alpha .0 ≡ p
+  at-alpha = region-alpha (descriptorAt c 0) (blockCount c) p d (r .region)
+
+  pub at-cost : costOf d ≡ costOf (descriptorAt c 0)
+  at-cost = rw (region-layout (descriptorAt c 0) (blockCount c) p d (r .region), region-volume (descriptorAt c 0) (blockCount c) p d (r .region))
+
+  pub at-long : p + costOf d ≤ end
+  at-long = omega (arith, region-long (descriptorAt c 0) (blockCount c) p d (r .region), at-alpha, r .beta)
+
+  pub at-end : end ≤ blockCount c
+  at-end = omega (arith, region-end (descriptorAt c 0) (blockCount c) p d (r .region), r .beta)
+
+module _ {c : List ℕ} where
+  region-at : (es : List Descriptor) (p : ℕ) (d : Descriptor) (ds : List Descriptor) → d ≡ descriptorAt c p → sound c es p ≡ true
+      → RegionAt c (fence p (d ∷ ds) 0) (fence p (d ∷ ds) 1) d
+  region-at es p d ds is ok =
+      rw (fence-zero p (d ∷ ds), fence-suc p d ds 0, fence-zero (d .beta .0) ds)
+      record { is = is; form = sound-form c es p d is ok; region = sound-region c es p d is ok; beta = refl }
+
+  -- the k-th descriptor stands where region k starts
+  pub linked-at : {es : List Descriptor} {p : ℕ} {ds : List Descriptor} → Linked c es p ds → (k : ℕ) → k < length ds
+      → RegionAt c (fence p ds k) (fence p ds (suc k)) (getD ds k noDescriptor)
+  linked-at (last {es = es} {p = p} {d = d} is ok z) zero l = region-at es p d [] is ok
+  linked-at (last {es = es} {p = p} {d = d} is ok z) (suc k) l = absurd (omega arith)
+  linked-at (more {es = es} {p = p} {d = d} {ds = ds} is ok z rest) zero l = region-at es p d ds is ok
+  linked-at (more {es = es} {p = p} {d = d} {ds = ds} is ok z rest) (suc k) l =
+      rw (fence-suc p d ds k, fence-suc p d ds (suc k), ← (sound-next c es p d is ok z)) (linked-at rest k (omega arith))
+
+-- the regions of a chain without fault are those of its descriptors
+pub regions-sound : (ch : Chain) (n : ℕ) (starts : List ℕ) → regionsOf ch ≡ record { sound = true; place = physical 0; count = n; starts = starts }
+    → (ch ≡ Sound (descriptors ch)) × (n ≡ length (descriptors ch)) × (starts ≡ startsOf (descriptors ch))
+unfolding regionsOf descriptors
+regions-sound (Unsound p) n starts e = let f : false ≡ true = ap (λ (r : Regions). r .sound) e in let y : _≡_ {A = ℕ} 0 1 = cc in absurd (omega arith)
+regions-sound (Sound ds) n starts e = (refl, ap (λ (r : Regions). r .count) (sym e), ap (λ (r : Regions). r .starts) (sym e))

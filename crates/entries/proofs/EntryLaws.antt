@@ -1,0 +1,100 @@
+-- Laws of finding, as the code asks them.
+use mathlib.Core.Path.{_≡_, refl, sym, ap, _∙_}
+use mathlib.Core.Bool.{Bool, true, false, not, _&&_, _||_}
+use mathlib.Core.List.{List, [], _∷_}
+use Prim.Native.Nat.{ℕ, _+_, _*_, _/_, _%_, _≤_, _<_, _^_}
+use native.Mathlib.Omega.{arith}
+use lib.ListN.{length, getD}
+use lib.Dec.{eqb, ltb, leb}
+use borrow.Author.Tests.{eq-eqb, ne-eqb, le-ltb, not-true, not-false, ltb-true, ltb-false}
+use Rattle.blocks.specs.Pick.{pick}
+use Rattle.blocks.specs.Bytes.{blockCount}
+use Rattle.blocks.specs.Descriptor.{physical, tableCount, cost, costOf, descriptorAt}
+use Rattle.blocks.specs.Chain.{chain, descriptors}
+use Rattle.blocks.specs.declared.numbers.Physical.{Physical}
+use Rattle.blocks.specs.declared.descriptor.Descriptor.{Descriptor}
+use Rattle.blocks.proofs.SoundLaws.{form-most}
+use Rattle.blocks.proofs.ChainLaws.{cost-least}
+use Rattle.blocks.proofs.LinkedLaws.{at-alpha, at-long, at-end}
+use Rattle.entries.specs.InPlace.{regionOf, inPlaceAt, inPlace}
+use Rattle.entries.specs.Entry.{phiAt, tableOf, entryAt, entryFound, find}
+use Rattle.entries.specs.Through.{Fenced, Through}
+use Rattle.entries.specs.declared.find.Found.{Found}
+use Rattle.entries.specs.declared.find.Found.the-variants.{Misplaced, Entry}
+use Rattle.entries.proofs.RegionLaws.{through-region, through-fenced, in-place-region}
+
+cost-of-1 : (d : Descriptor) → d .layout ≡ 1 → costOf d ≡ 1 + (d .volume + 127) / 128
+unfolding cost tableCount
+cost-of-1 d e = rw (eq-eqb (d .layout) 1 e)
+
+module _ (c starts : List ℕ) (count : ℕ) (d : Descriptor) (t : Through c starts count d) where
+  abbrev ds : List Descriptor
+  ds = descriptors (chain c)
+
+  -- the descriptor's blocks are on the card
+  pub through-beta : d .alpha .0 + costOf d ≤ d .beta .0
+  through-beta = let r = through-region c starts count d t in omega (arith, at-alpha c _ _ d r, at-long c _ _ d r, r .beta)
+
+  pub through-end : 512 * d .beta .0 ≤ length c
+  unfolding blockCount
+  through-end = let r = through-region c starts count d t in let e : d .beta .0 ≤ length c / 512 = omega (arith, at-end c _ _ d r, r .beta) in omega arith
+
+  pub through-alpha : 512 * d .alpha .0 + 512 ≤ length c
+  through-alpha = omega (arith, through-beta, through-end, cost-least (d .layout) (d .volume))
+
+  pub through-volume : d .volume ≤ 14336
+  through-volume = form-most c _ d (through-region c starts count d t .form)
+
+  -- what the code asks before it looks for the table of l
+  pub table-ready : (l : ℕ) → l < d .volume → (512 * d .alpha .0 + 512 ≤ length c) × (l / 128 < 112) × (d .alpha .0 + 113 < 2 ^ 32)
+  table-ready l h = (through-alpha, omega (arith, through-volume), omega (arith, through-alpha, t .small))
+
+  -- a table block of layout 1, and a set entry in place, are on the card
+  pub table-inside : (l : ℕ) → l < d .volume → d .layout ≡ 1 → (m : Physical) → m ≡ physical (tableOf c d (l / 128)) → 512 * m .0 + 512 ≤ length c
+  unfolding tableOf
+  table-inside l h e m is =
+      let q : m .0 ≡ d .alpha .0 + 1 + l / 128 = ap (λ (x : Physical). x .0) is ∙ rw (eq-eqb (d .layout) 1 e) in
+      omega (arith, through-beta, through-end, cost-of-1 d e)
+
+  pub place-inside : (m : Physical) (b : Bool) → b ≡ inPlaceAt starts (costOf d) (d .beta .0) (m .0) → b ≡ true → (m .0 ≡ 0 → ⊥) → 512 * m .0 + 512 ≤ length c
+  unfolding inPlaceAt
+  place-inside m b is e n = by (ltb (m .0) (d .beta .0)) refl
+    where
+      by : (x : Bool) → ltb (m .0) (d .beta .0) ≡ x → 512 * m .0 + 512 ≤ length c
+      by true x = omega (arith, ltb-true (m .0) (d .beta .0) x, through-end)
+      by false x =
+          let g : inPlaceAt starts (costOf d) (d .beta .0) (m .0) ≡ false = rw (ne-eqb (m .0) 0 n, x) in
+          let f : false ≡ true = sym g ∙ sym is ∙ e in
+          let y : _≡_ {A = ℕ} 0 1 = cc in absurd (omega arith)
+
+  -- an entry of a table block, by the test of the code
+  module _ (m : Physical) (j : ℕ) (p : Physical) (is : p ≡ physical (entryAt c (m .0) j)) (b : Bool) (placed : b ≡ inPlaceAt starts (costOf d) (d .beta .0) (p .0)) where
+    entry-by : (x : Bool) → b ≡ x → pick x (Entry m p) (Misplaced m) ≡ entryFound ds d (m .0) (entryAt c (m .0) j)
+    unfolding entryFound
+    entry-by x e = let q : p .0 ≡ entryAt c (m .0) j = ap (λ (y : Physical). y .0) is in rw (← q, ← (in-place-region c starts count d t (p .0)), ← placed, e)
+
+    pub entry-placed : b ≡ true → Entry m p ≡ entryFound ds d (m .0) (entryAt c (m .0) j)
+    entry-placed e = entry-by true e
+
+    pub entry-misplaced : b ≡ false → Misplaced m ≡ entryFound ds d (m .0) (entryAt c (m .0) j)
+    entry-misplaced e = entry-by false e
+
+  -- finding, by the tests of the code
+  module _ (l : ℕ) (m : Physical) (is : m ≡ physical (tableOf c d (l / 128))) where
+    pub find-layout-1 : d .layout ≡ 1 → (r : Found) → r ≡ entryFound ds d (m .0) (entryAt c (m .0) (l % 128)) → r ≡ find c ds d l
+    unfolding find
+    find-layout-1 e r f = f ∙ rw (eq-eqb (d .layout) 1 e, ap (λ (x : Physical). x .0) is)
+
+    module _ (other : d .layout ≡ 1 → ⊥) (b : Bool) (placed : b ≡ inPlaceAt starts (costOf d) (d .beta .0) (m .0)) where
+      find-rest : find c ds d l ≡ pick b (pick (eqb (m .0) 0) (Entry (physical 0) (physical 0)) (entryFound ds d (m .0) (entryAt c (m .0) (l % 128)))) (Misplaced (d .alpha))
+      unfolding find
+      find-rest = rw (placed, in-place-region c starts count d t (m .0), ne-eqb (d .layout) 1 other, ap (λ (x : Physical). x .0) is)
+
+      pub find-misplaced : not b ≡ true → Misplaced (d .alpha) ≡ find c ds d l
+      find-misplaced e = sym (find-rest ∙ rw (not-true b e))
+
+      pub find-nil : not b ≡ false → m .0 ≡ 0 → Entry (physical 0) (physical 0) ≡ find c ds d l
+      find-nil e z = sym (find-rest ∙ rw (not-false b e, z))
+
+      pub find-layout-2 : not b ≡ false → (m .0 ≡ 0 → ⊥) → (r : Found) → r ≡ entryFound ds d (m .0) (entryAt c (m .0) (l % 128)) → r ≡ find c ds d l
+      find-layout-2 e n r f = f ∙ sym (find-rest ∙ rw (not-false b e, ne-eqb (m .0) 0 n))

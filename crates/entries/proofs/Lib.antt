@@ -1,0 +1,5 @@
+-- Laws of the definitions of specs/, which the proofs of this crate and of those above cite.
+pub mod PlaceLaws
+pub mod RegionLaws
+pub mod EntryLaws
+pub mod SetLaws

@@ -1,0 +1,174 @@
+-- 'In place' in 01's words is the same as: nil, or below beta and outside the opening of the region that contains it.
+use mathlib.Core.Path.{_≡_, refl, sym, ap, _∙_, subst}
+use mathlib.Core.Bool.{Bool, true, false, not, _&&_, _||_}
+use mathlib.Core.List.{List, [], _∷_, _++_}
+use Prim.Native.Nat.{ℕ, zero, suc, _+_, _*_, _-_, _/_, _≤_, _<_}
+use native.Mathlib.Numerals.{add-one}
+use native.Mathlib.Omega.{arith}
+use lib.ListN.{length, getD, replicate, length-append, length-replicate}
+use lib.Dec.{eqb, ltb, leb}
+use borrow.Author.Tests.{eq-eqb, ne-eqb, lt-ltb, le-ltb, le-leb, lt-leb, eqb-true, eqb-false, ltb-true, ltb-false, leb-true, leb-false}
+use Rattle.blocks.specs.Pick.{pick}
+use Rattle.blocks.specs.Bytes.{blockCount}
+use Rattle.blocks.specs.Descriptor.{tableCount, cost, costOf, noDescriptor, descriptorAt}
+use Rattle.blocks.specs.Chain.{sound, Chain, Sound, chain, descriptors, ends, startsOf, regionOk, formOk}
+use Rattle.blocks.specs.declared.descriptor.Descriptor.{Descriptor}
+use Rattle.blocks.proofs.ChainLaws.{length-ends, region-layout, region-volume, region-alpha, region-long, region-end, cost-least}
+use Rattle.blocks.proofs.LinkedLaws.{Linked, last, more, chain-linked, sound-alpha, sound-cost, sound-long, sound-next, fence, fence-zero, fence-suc, fence-starts, linked-end, linked-low, linked-rise, RegionAt, linked-at, at-alpha, at-cost, at-long, at-end, starts-long, regions-sound}
+use Rattle.entries.specs.InPlace.{isDescriptor, isTable, inPlace, regionOf, inPlaceAt}
+use Rattle.entries.specs.Through.{Fenced, Through}
+
+-- one descriptor's opening, for a block q at or above alpha
+module _ (a n q : ℕ) (above : a ≤ q) where
+  layout-1 : (e l : Bool) → eqb q a ≡ e → leb q (a + n) ≡ l → not (e || (ltb a q && l)) ≡ leb (a + (1 + n)) q
+  layout-1 true l he hl = rw (lt-leb (a + (1 + n)) q (omega (arith, eqb-true q a he)))
+  layout-1 false true he hl = rw (lt-ltb a q (omega (arith, eqb-false q a he)), lt-leb (a + (1 + n)) q (omega (arith, leb-true q (a + n) hl)))
+  layout-1 false false he hl = rw (lt-ltb a q (omega (arith, eqb-false q a he)), le-leb (a + (1 + n)) q (omega (arith, leb-false q (a + n) hl)))
+
+  layout-2 : (e : Bool) → eqb q a ≡ e → not e ≡ leb (a + 1) q
+  layout-2 true he = rw (lt-leb (a + 1) q (omega (arith, eqb-true q a he)))
+  layout-2 false he = rw (le-leb (a + 1) q (omega (arith, eqb-false q a he)))
+
+or-false : (b : Bool) → (b || false) ≡ b
+or-false true = refl
+or-false false = refl
+
+opening-by : (t : Bool) (a n q : ℕ) → a ≤ q → not ((eqb q a || false) || ((t && ltb a q && leb q (a + n)) || false)) ≡ leb (a + pick t (1 + n) 1) q
+opening-by true a n q h = rw (or-false (eqb q a), or-false (ltb a q && leb q (a + n))) (layout-1 a n q h (eqb q a) (leb q (a + n)) refl refl)
+opening-by false a n q h = rw (or-false (eqb q a), or-false (eqb q a)) (layout-2 a n q h (eqb q a) refl)
+
+-- alone, a descriptor's opening is the c blocks from alpha on
+opening-alone : (d : Descriptor) (q : ℕ) → d .alpha .0 ≤ q
+    → not ((eqb q (d .alpha .0) || false) || ((eqb (d .layout) 1 && ltb (d .alpha .0) q && leb q (d .alpha .0 + tableCount (d .volume))) || false)) ≡ leb (d .alpha .0 + costOf d) q
+unfolding cost
+opening-alone d q h = opening-by (eqb (d .layout) 1) (d .alpha .0) (tableCount (d .volume)) q h
+
+missed-by : (t : Bool) (a n q : ℕ) → a + pick t (1 + n) 1 ≤ q → (eqb q a ≡ false) × ((t && ltb a q && leb q (a + n)) ≡ false)
+missed-by true a n q h = (ne-eqb q a (omega arith), rw (lt-ltb a q (omega arith), lt-leb q (a + n) (omega arith)))
+missed-by false a n q h = (ne-eqb q a (omega arith), refl)
+
+-- a block past the opening of d is none of its blocks
+opening-missed : (d : Descriptor) (q : ℕ) → d .alpha .0 + costOf d ≤ q
+    → (eqb q (d .alpha .0) ≡ false) × ((eqb (d .layout) 1 && ltb (d .alpha .0) q && leb q (d .alpha .0 + tableCount (d .volume))) ≡ false)
+unfolding cost
+opening-missed d q h = missed-by (eqb (d .layout) 1) (d .alpha .0) (tableCount (d .volume)) q h
+
+and-false : (t b : Bool) → (t && false && b) ≡ false
+and-false true b = refl
+and-false false b = refl
+
+-- the start of the region that contains q, in a list of starts
+unfoldable startOf : List ℕ → ℕ → ℕ
+startOf starts q = getD starts (regionOf starts q) 0
+
+start-here : (s t : ℕ) (starts : List ℕ) (q : ℕ) → q < t → startOf (s ∷ t ∷ starts) q ≡ s
+unfolding startOf regionOf
+start-here s t starts q h = rw (lt-ltb q t h)
+
+start-later : (s t : ℕ) (starts : List ℕ) (q : ℕ) → t ≤ q → startOf (s ∷ t ∷ starts) q ≡ startOf (t ∷ starts) q
+unfolding startOf regionOf
+start-later s t starts q h = rw (le-ltb q t h)
+
+-- a region before others, of whose openings q is in none if D and T are false
+module _ (d : Descriptor) (p k : ℕ) (starts : List ℕ) (q : ℕ) (D T : Bool) (a : d .alpha .0 ≡ p) (same-cost : costOf d ≡ k) (long : p + k ≤ d .beta .0) (above : p ≤ q) where
+  abbrev tables : Bool
+  tables = eqb (d .layout) 1 && ltb (d .alpha .0) q && leb q (d .alpha .0 + tableCount (d .volume))
+
+  outside-here : q < d .beta .0 → D ≡ false → T ≡ false → not ((eqb q (d .alpha .0) || D) || (tables || T)) ≡ leb (startOf (p ∷ d .beta .0 ∷ starts) q + k) q
+  outside-here h e f = rw (start-here p (d .beta .0) starts q h, e, f, ← same-cost, ← a) (opening-alone d q (omega arith))
+
+  outside-later : d .beta .0 ≤ q → not (D || T) ≡ leb (startOf (d .beta .0 ∷ starts) q + k) q → not ((eqb q (d .alpha .0) || D) || (tables || T)) ≡ leb (startOf (p ∷ d .beta .0 ∷ starts) q + k) q
+  outside-later h e =
+      let m = opening-missed d q (omega arith) in
+      rw (start-later p (d .beta .0) starts q h, m .0, m .1) e
+
+  outside-by : (t : Bool) → ltb q (d .beta .0) ≡ t → (q < d .beta .0 → (D ≡ false) × (T ≡ false)) → (d .beta .0 ≤ q → not (D || T) ≡ leb (startOf (d .beta .0 ∷ starts) q + k) q)
+      → not ((eqb q (d .alpha .0) || D) || (tables || T)) ≡ leb (startOf (p ∷ d .beta .0 ∷ starts) q + k) q
+  outside-by true e below later = let h = ltb-true q (d .beta .0) e in outside-here h (below h .0) (below h .1)
+  outside-by false e below later = let h = ltb-false q (d .beta .0) e in outside-later h (later h)
+
+module _ {c : List ℕ} where
+  -- a block below the first of some regions is in none of their openings
+  none-below : {es : List Descriptor} {p : ℕ} {ds : List Descriptor} (q : ℕ) → Linked c es p ds → q < p → (isDescriptor ds q ≡ false) × (isTable ds q ≡ false)
+  unfolding isDescriptor isTable
+  none-below q (last {es = es} {p = p} {d = d} is ok z) h =
+      let a = sound-alpha c es p d is ok in
+      (rw (ne-eqb q (d .alpha .0) (omega arith)), rw (le-ltb (d .alpha .0) q (omega arith), and-false (eqb (d .layout) 1)))
+  none-below q (more {es = es} {p = p} {d = d} {ds = ds} is ok z rest) h =
+      let a = sound-alpha c es p d is ok in
+      let r = none-below q rest (omega (arith, sound-next c es p d is ok z, sound-long c es p d is ok)) in
+      (rw (ne-eqb q (d .alpha .0) (omega arith)) (r .0), rw (le-ltb (d .alpha .0) q (omega arith), and-false (eqb (d .layout) 1)) (r .1))
+
+  -- outside every opening, in 01's words, is outside the opening of the region that contains q; what stands after the regions does not matter
+  outside : {es : List Descriptor} {p : ℕ} {ds : List Descriptor} (q : ℕ) (zs : List ℕ) → Linked c es p ds → p ≤ q → q < fence p ds (length ds)
+      → not (isDescriptor ds q || isTable ds q) ≡ leb (startOf (p ∷ (ends ds ++ zs)) q + costOf (descriptorAt c 0)) q
+  unfolding isDescriptor isTable ends
+  outside q zs (last {es = es} {p = p} {d = d} is ok z) h l =
+      let b : q < d .beta .0 = rw (fence-suc p d [] 0, fence-zero (d .beta .0) []) at l in
+      outside-here d p (costOf (descriptorAt c 0)) zs q false false (sound-alpha c es p d is ok) (sound-cost c es p d is ok) (sound-long c es p d is ok) h b refl refl
+  outside q zs (more {es = es} {p = p} {d = d} {ds = ds} is ok z rest) h l =
+      let n = sound-next c es p d is ok z in
+      let m : q < fence (d .next .0) ds (length ds) = rw (fence-suc p d ds (length ds), ← n) at l in
+      outside-by d p (costOf (descriptorAt c 0)) (ends ds ++ zs) q (isDescriptor ds q) (isTable ds q) (sound-alpha c es p d is ok) (sound-cost c es p d is ok) (sound-long c es p d is ok) h
+      (ltb q (d .beta .0)) refl
+      (λ k. none-below q rest (omega arith))
+      (λ k. subst (λ (b : ℕ). not (isDescriptor ds q || isTable ds q) ≡ leb (startOf (b ∷ (ends ds ++ zs)) q + costOf (descriptorAt c 0)) q) n (outside q zs rest (omega arith) m))
+
+-- what Through says of the chain, of its regions and of the descriptor
+module _ (c starts : List ℕ) (count : ℕ) (d : Descriptor) (t : Through c starts count d) where
+  abbrev ds : List Descriptor
+  ds = descriptors (chain c)
+
+  pub through-chain : chain c ≡ Sound ds
+  through-chain = regions-sound (chain c) count starts (t .regions) .0
+
+  pub through-count : count ≡ length ds
+  through-count = regions-sound (chain c) count starts (t .regions) .1
+
+  pub through-starts : starts ≡ startsOf ds
+  through-starts = regions-sound (chain c) count starts (t .regions) .2
+
+  pub through-linked : Linked c [] 0 ds
+  through-linked = chain-linked c ds through-chain
+
+  -- the k-th start, and the region of the k-th descriptor
+  pub through-fence : (k : ℕ) → k ≤ count → getD starts k 0 ≡ fence 0 ds k
+  through-fence k h = rw through-starts (fence-starts ds k (omega (arith, through-count)))
+
+  pub through-at : (k : ℕ) → k < count → RegionAt c (getD starts k 0) (getD starts (suc k) 0) (getD ds k noDescriptor)
+  through-at k h = rw (through-fence k (omega arith), through-fence (suc k) (omega arith)) (linked-at through-linked k (omega (arith, through-count)))
+
+  -- the descriptor is one of the chain's
+  pub through-member : d ≡ getD ds (t .index) noDescriptor
+  through-member = t .is ∙ sym (through-at (t .index) (t .inside) .is)
+
+  pub through-region : RegionAt c (getD starts (t .index) 0) (getD starts (suc (t .index)) 0) d
+  through-region = rw through-member (through-at (t .index) (t .inside))
+
+  pub through-fenced : Fenced starts count (d .beta .0)
+  through-fenced =
+      record {
+        some = omega (arith, t .inside);
+        long = rw (through-count, through-starts) (starts-long ds);
+        from = through-fence 0 (omega arith) ∙ fence-zero 0 ds;
+        rise = λ i j h l. rw (through-fence i (omega arith), through-fence j l) (linked-rise through-linked i j h (omega (arith, through-count)));
+        upto = rw (through-region .beta, through-fence (suc (t .index)) (omega (arith, t .inside)), through-fence count (omega arith)) (linked-rise through-linked (suc (t .index)) count (omega (arith, t .inside)) (omega (arith, through-count)));
+      }
+
+  -- the law: 'in place' in 01's words is nil, or below beta and outside the opening of the region that contains the block
+  place-by : (e t : Bool) (x y : Bool) → (t ≡ true → x ≡ y) → (e || (t && x)) ≡ (e || (t && y))
+  place-by true t x y f = refl
+  place-by false true x y f = f refl
+  place-by false false x y f = refl
+
+  starts-outside : (q : ℕ) → q < d .beta .0 → leb (startOf (startsOf ds) q + costOf d) q ≡ not (isDescriptor ds q || isTable ds q)
+  unfolding startsOf
+  starts-outside q h =
+      rw (at-cost c _ _ d through-region)
+      (sym (outside q (replicate (256 - length ds) 0) through-linked (omega arith) (omega (arith, through-fenced .upto, through-fence count (omega arith), ap (fence 0 ds) through-count))))
+
+  pub in-place-region : (q : ℕ) → inPlaceAt starts (costOf d) (d .beta .0) q ≡ inPlace ds d q
+  unfolding inPlaceAt inPlace startOf
+  in-place-region q =
+      place-by (eqb q 0) (ltb q (d .beta .0)) (leb (getD starts (regionOf starts q) 0 + costOf d) q) (not (isDescriptor ds q || isTable ds q))
+      (λ h. ap (λ (l : List ℕ). leb (getD l (regionOf l q) 0 + costOf d) q) through-starts ∙ starts-outside q (ltb-true q (d .beta .0) h))

@@ -1,0 +1,25 @@
+-- What a caller of this layer must know: the regions of a sound chain, and a descriptor of that chain.
+use mathlib.Core.Path.{_≡_}
+use mathlib.Core.Bool.{true}
+use mathlib.Core.List.{List}
+use Prim.Native.Nat.{ℕ, _≤_, _<_}
+use lib.ListN.{length, getD}
+use Rattle.blocks.specs.Descriptor.{physical, descriptorAt}
+use Rattle.blocks.specs.Chain.{chain, regionsOf}
+use Rattle.blocks.specs.declared.descriptor.Descriptor.{Descriptor}
+
+-- the first count + 1 starts rise from block 0 to where the last region ends, which is not below beta
+pub record Fenced (starts : List ℕ) (count beta : ℕ) : Type 0 where
+  pub some : 0 < count
+  pub long : count < length starts
+  pub from : getD starts 0 0 ≡ 0
+  pub rise : (i j : ℕ) → i ≤ j → j ≤ count → getD starts i 0 ≤ getD starts j 0
+  pub upto : beta ≤ getD starts count 0
+
+-- c has at most 65,536 blocks, its chain is sound, its regions are those of starts, and d is the descriptor of one of them
+pub record Through (c starts : List ℕ) (count : ℕ) (d : Descriptor) : Type 0 where
+  pub small : length c ≤ 33554432
+  pub regions : regionsOf (chain c) ≡ record { sound = true; place = physical 0; count = count; starts = starts }
+  pub index : ℕ
+  pub inside : index < count
+  pub is : d ≡ descriptorAt c (getD starts index 0)
