@@ -7,7 +7,9 @@ use lib.ListN.{length, getD}
 use Rattle.blocks.specs.Descriptor.{noDescriptor}
 use Rattle.blocks.specs.Chain.{chain, chainSound}
 use Rattle.blocks.specs.declared.descriptor.Descriptor.{Descriptor}
-use Rattle.entries.specs.Naming.{Verdict, Passed, Fault, checkOne}
+use Rattle.entries.specs.Naming.{checkOne}
+use Rattle.entries.specs.declared.check.Verdict.{Verdict}
+use Rattle.entries.specs.declared.check.Verdict.the-variants.{Passed, Fault}
 use Rattle.entries.specs.Rules.{Rules}
 use Rattle.calls.specs.Parts.{areaBad, descriptorsOf}
 
@@ -32,7 +34,7 @@ isFault (Fault h) = true
 
 unfoldable pub faultHolder : Verdict → ℕ
 faultHolder Passed = 0
-faultHolder (Fault h) = h
+faultHolder (Fault h) = h .0
 
 -- a card that passes check: the area is a card, the chain is sound, and each descriptor keeps the rules
 pub record Passes (c : List ℕ) : Type 0 where

@@ -3,3 +3,6 @@ pub mod PlaceLaws
 pub mod RegionLaws
 pub mod EntryLaws
 pub mod SetLaws
+pub mod MarkLaws
+pub mod CheckLaws
+pub mod OpeningLaws

@@ -38,7 +38,7 @@ opening-by true a n q h = rw (or-false (eqb q a), or-false (ltb a q && leb q (a 
 opening-by false a n q h = rw (or-false (eqb q a), or-false (eqb q a)) (layout-2 a n q h (eqb q a) refl)
 
 -- alone, a descriptor's opening is the c blocks from alpha on
-opening-alone : (d : Descriptor) (q : ℕ) → d .alpha .0 ≤ q
+pub opening-alone : (d : Descriptor) (q : ℕ) → d .alpha .0 ≤ q
     → not ((eqb q (d .alpha .0) || false) || ((eqb (d .layout) 1 && ltb (d .alpha .0) q && leb q (d .alpha .0 + tableCount (d .volume))) || false)) ≡ leb (d .alpha .0 + costOf d) q
 unfolding cost
 opening-alone d q h = opening-by (eqb (d .layout) 1) (d .alpha .0) (tableCount (d .volume)) q h

@@ -4,3 +4,4 @@ pub mod Through
 pub mod Entry
 pub mod Naming
 pub mod Rules
+pub mod Marks

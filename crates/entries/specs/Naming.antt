@@ -4,10 +4,12 @@ use mathlib.Core.List.{List, [], _∷_, _++_}
 use Prim.Native.Nat.{ℕ, zero, suc, _+_, _*_}
 use lib.Dec.{eqb, ltb, leb}
 use Rattle.blocks.specs.Pick.{pick}
-use Rattle.blocks.specs.Descriptor.{tableSize, phiSize, tableCount}
+use Rattle.blocks.specs.Descriptor.{physical, tableSize, phiSize, tableCount}
 use Rattle.blocks.specs.declared.descriptor.Descriptor.{Descriptor}
 use Rattle.entries.specs.InPlace.{inPlace}
 use Rattle.entries.specs.Entry.{entryAt, phiAt, tableOf}
+use Rattle.entries.specs.declared.check.Verdict.{Verdict}
+use Rattle.entries.specs.declared.check.Verdict.the-variants.{Passed, Fault}
 
 -- an entry that check takes: the block that holds it, its value, whether it stands before n or L, and whether it is one of Phi's
 pub record Naming : Type 0 where
@@ -54,16 +56,12 @@ atFault ds d before e =
     || (not (eqb (e .value) 0) && (not (e .counted) || among before (e .value)))
     || (eqb (d .layout) 2 && not (e .phi) && leb (d .alpha .0) (e .value) && ltb (e .holder) (d .alpha .0))
 
--- what a check of namings finds: nothing, or the block that holds the first entry at fault
-pub data Verdict : Type 0 where
-  Passed : Verdict
-  Fault : ℕ → Verdict
-
+-- the verdict on some namings: none is at fault, or the block that holds the first that is
 unfoldable pub firstFault : List Descriptor → Descriptor → List ℕ → List Naming → Verdict
 firstFault ds d before [] = Passed
 firstFault ds d before (e ∷ es) =
     let rest = firstFault ds d (e .value ∷ before) es in
-    pick (atFault ds d before e) (Fault (e .holder)) rest
+    pick (atFault ds d before e) (Fault (physical (e .holder))) rest
 
 -- the check of one descriptor of the chain
 unfoldable pub checkOne : List ℕ → List Descriptor → Descriptor → Verdict

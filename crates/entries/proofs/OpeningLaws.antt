@@ -1,0 +1,247 @@
+-- The flags of all openings say which blocks are descriptors or layout 1 table blocks, and the check of one descriptor starts from them.
+use mathlib.Core.Path.{_≡_, refl, sym, ap, _∙_, subst}
+use mathlib.Core.Bool.{Bool, true, false, not, _&&_, _||_}
+use mathlib.Core.List.{List, [], _∷_, _++_}
+use Prim.Native.Nat.{ℕ, zero, suc, _+_, _*_, _-_, _/_, _≤_, _<_}
+use native.Mathlib.Numerals.{add-one}
+use native.Mathlib.Omega.{arith}
+use lib.ListN.{length, take, getD, set, replicate, length-set, length-replicate, getD-replicate}
+use lib.Seq.{getD-set-same, getD-set-other, take-suc, take-length}
+use lib.Dec.{eqb, ltb, leb}
+use borrow.Author.Tests.{eq-eqb, ne-eqb, lt-ltb, le-ltb, le-leb, lt-leb, eqb-true, eqb-false, ltb-true, ltb-false, leb-true, leb-false, not-true, not-false}
+use Rattle.blocks.specs.Pick.{pick}
+use Rattle.blocks.specs.Bytes.{blockCount}
+use Rattle.blocks.specs.Descriptor.{tableCount, cost, costOf, noDescriptor, descriptorAt}
+use Rattle.blocks.specs.Chain.{chain, descriptors}
+use Rattle.blocks.specs.declared.descriptor.Descriptor.{Descriptor}
+use Rattle.blocks.proofs.SoundLaws.{form-layout}
+use Rattle.blocks.proofs.ChainLaws.{cost-least}
+use Rattle.blocks.proofs.LinkedLaws.{at-alpha, at-cost, at-long, at-end}
+use Rattle.entries.specs.InPlace.{isDescriptor, isTable}
+use Rattle.entries.specs.Through.{Fenced, Through}
+use Rattle.entries.specs.Naming.{among, tablesNamings, phiNamings, namings, firstFault, checkOne}
+use Rattle.entries.specs.Marks.{flagged, openingsFlagged, Marks, TablesReady, PhiReady}
+use Rattle.entries.specs.declared.check.Verdict.{Verdict}
+use Rattle.entries.proofs.RegionLaws.{opening-alone, through-count, through-at, through-region, through-fenced}
+use Rattle.entries.proofs.EntryLaws.{through-beta, through-end, through-volume}
+
+-- a run of flags
+flagged-length : (seen : List Bool) (from n : ℕ) → length (flagged seen from n) ≡ length seen
+unfolding flagged
+flagged-length seen from zero = refl
+flagged-length seen from (suc n) = length-set (flagged seen from n) (from + n) true ∙ flagged-length seen from n
+
+in-run : ℕ → ℕ → ℕ → Bool
+in-run from n v = leb from v && ltb v (from + n)
+
+run-none : (from v : ℕ) → in-run from 0 v ≡ false
+unfolding in-run
+run-none from v = by (leb from v) refl
+  where
+    by : (t : Bool) → leb from v ≡ t → (t && ltb v (from + 0)) ≡ false
+    by true e = le-ltb v (from + 0) (omega (arith, leb-true from v e))
+    by false e = refl
+
+run-last : (from n : ℕ) → in-run from (suc n) (from + n) ≡ true
+unfolding in-run
+run-last from n = rw (le-leb from (from + n) (omega arith), lt-ltb (from + n) (from + suc n) (omega arith))
+
+run-other : (from n v : ℕ) → (v ≡ from + n → ⊥) → in-run from (suc n) v ≡ in-run from n v
+unfolding in-run
+run-other from n v h = by (leb from v) refl
+  where
+    ends : (t : Bool) → ltb v (from + n) ≡ t → ltb v (from + suc n) ≡ t
+    ends true e = lt-ltb v (from + suc n) (omega (arith, ltb-true v (from + n) e))
+    ends false e = le-ltb v (from + suc n) (omega (arith, ltb-false v (from + n) e, h))
+
+    by : (t : Bool) → leb from v ≡ t → (t && ltb v (from + suc n)) ≡ (t && ltb v (from + n))
+    by true e = ends (ltb v (from + n)) refl
+    by false e = refl
+
+flagged-by : (seen : List Bool) (from n v : ℕ) → from + suc n ≤ length seen → getD (flagged seen from n) v false ≡ (in-run from n v || getD seen v false)
+    → (t : Bool) → eqb v (from + n) ≡ t → getD (set (flagged seen from n) (from + n) true) v false ≡ (in-run from (suc n) v || getD seen v false)
+flagged-by seen from n v h before true e =
+    let q = eqb-true v (from + n) e in
+    rw (q, run-last from n) (getD-set-same (flagged seen from n) (from + n) true false (omega (arith, flagged-length seen from n)))
+flagged-by seen from n v h before false e =
+    let q = eqb-false v (from + n) e in
+    rw (run-other from n v q) (getD-set-other (flagged seen from n) (from + n) v true false q ∙ before)
+
+flagged-says : (seen : List Bool) (from n v : ℕ) → from + n ≤ length seen → getD (flagged seen from n) v false ≡ (in-run from n v || getD seen v false)
+unfolding flagged
+flagged-says seen from zero v h = rw (run-none from v)
+flagged-says seen from (suc n) v h = flagged-by seen from n v h (flagged-says seen from n v (omega arith)) (eqb v (from + n)) refl
+
+-- in an opening of the descriptors of a list, in 01's words
+opened : List Descriptor → ℕ → Bool
+opened ds v = isDescriptor ds v || isTable ds v
+
+abbrev tables : Descriptor → ℕ → Bool
+tables d v = eqb (d .layout) 1 && ltb (d .alpha .0) v && leb v (d .alpha .0 + tableCount (d .volume))
+
+or-assoc : (x y z : Bool) → (x || (y || z)) ≡ ((x || y) || z)
+or-assoc true y z = refl
+or-assoc false y z = refl
+
+or-nil : (x : Bool) → (x || false) ≡ x
+or-nil true = refl
+or-nil false = refl
+
+descriptor-snoc : (ds : List Descriptor) (d : Descriptor) (v : ℕ) → isDescriptor (ds ++ (d ∷ [])) v ≡ (isDescriptor ds v || (eqb v (d .alpha .0) || false))
+unfolding isDescriptor
+descriptor-snoc [] d v = refl
+descriptor-snoc (e ∷ ds) d v = rw (descriptor-snoc ds d v) (or-assoc (eqb v (e .alpha .0)) (isDescriptor ds v) (eqb v (d .alpha .0) || false))
+
+table-snoc : (ds : List Descriptor) (d : Descriptor) (v : ℕ) → isTable (ds ++ (d ∷ [])) v ≡ (isTable ds v || (tables d v || false))
+unfolding isTable
+table-snoc [] d v = refl
+table-snoc (e ∷ ds) d v = rw (table-snoc ds d v) (or-assoc (tables e v) (isTable ds v) (tables d v || false))
+
+-- the blocks of one opening
+one-by : (d : Descriptor) (v : ℕ) (t : Bool) → ltb v (d .alpha .0) ≡ t → ((eqb v (d .alpha .0) || false) || (tables d v || false)) ≡ in-run (d .alpha .0) (costOf d) v
+unfolding in-run
+one-by d v true e =
+    let l = ltb-true v (d .alpha .0) e in
+    rw (ne-eqb v (d .alpha .0) (omega arith), le-ltb (d .alpha .0) v (omega arith), lt-leb (d .alpha .0) v l) (both (eqb (d .layout) 1) (leb v (d .alpha .0 + tableCount (d .volume))))
+  where
+    both : (x y : Bool) → ((x && false && y) || false) ≡ false
+    both true y = refl
+    both false y = refl
+one-by d v false e =
+    let l = ltb-false v (d .alpha .0) e in
+    rw (le-leb (d .alpha .0) v l)
+    (flip ((eqb v (d .alpha .0) || false) || (tables d v || false)) (leb (d .alpha .0 + costOf d) v) (opening-alone d v l) ∙ below (leb (d .alpha .0 + costOf d) v) refl)
+  where
+    flip : (x y : Bool) → not x ≡ y → x ≡ not y
+    flip true y h = ap not h
+    flip false y h = ap not h
+
+    below : (t : Bool) → leb (d .alpha .0 + costOf d) v ≡ t → not t ≡ ltb v (d .alpha .0 + costOf d)
+    below true q = sym (le-ltb v (d .alpha .0 + costOf d) (leb-true (d .alpha .0 + costOf d) v q))
+    below false q = sym (lt-ltb v (d .alpha .0 + costOf d) (leb-false (d .alpha .0 + costOf d) v q))
+
+opened-more : (ds : List Descriptor) (d : Descriptor) (v : ℕ) → opened (ds ++ (d ∷ [])) v ≡ (in-run (d .alpha .0) (costOf d) v || opened ds v)
+unfolding opened
+opened-more ds d v =
+    rw (descriptor-snoc ds d v, table-snoc ds d v, ← (one-by d v (ltb v (d .alpha .0)) refl))
+    (shuffle (isDescriptor ds v) (eqb v (d .alpha .0) || false) (isTable ds v) (tables d v || false))
+  where
+    shuffle : (a x b y : Bool) → ((a || x) || (b || y)) ≡ ((x || y) || (a || b))
+    shuffle true true b y = refl
+    shuffle true false b true = refl
+    shuffle true false b false = refl
+    shuffle false true b y = refl
+    shuffle false false true true = refl
+    shuffle false false true false = refl
+    shuffle false false false y = sym (or-nil y)
+
+openings-length : (seen : List Bool) (starts : List ℕ) (k n : ℕ) → length (openingsFlagged seen starts k n) ≡ length seen
+unfolding openingsFlagged
+openings-length seen starts k zero = refl
+openings-length seen starts k (suc n) = flagged-length (openingsFlagged seen starts k n) (getD starts n 0) k ∙ openings-length seen starts k n
+
+module _ (c starts : List ℕ) (count : ℕ) (d : Descriptor) (t : Through c starts count d) where
+  abbrev ds : List Descriptor
+  ds = descriptors (chain c)
+
+  -- each opening is on the card, and so among the flags
+  opening-inside : (k : ℕ) → k < count → getD starts k 0 + costOf d ≤ 65536
+  unfolding blockCount
+  opening-inside k h =
+      let r = through-at c starts count d t k h in
+      let same = at-cost c _ _ (getD ds k noDescriptor) r ∙ sym (at-cost c _ _ d (through-region c starts count d t)) in
+      omega (arith, at-long c _ _ (getD ds k noDescriptor) r, at-end c _ _ (getD ds k noDescriptor) r, same, t .small)
+
+  pub openings-ask : (cost : ℕ) → cost ≡ costOf d → (flags-now : List Bool) → length flags-now ≡ 65536
+      → (count ≤ length starts) × ((k : ℕ) → k < count → getD starts k 0 + cost ≤ length flags-now)
+  openings-ask k e seen long = (omega (arith, through-fenced c starts count d t .long), λ j h. omega (arith, opening-inside j h))
+
+  -- from flags that are all clear
+  module _ (flags : List Bool) (long : length flags ≡ 65536) (clear : (v : ℕ) → getD flags v false ≡ false) where
+    one-more : (k v : ℕ) → k < count → in-run (getD starts k 0) (costOf d) v ≡ in-run (getD ds k noDescriptor .alpha .0) (costOf (getD ds k noDescriptor)) v
+    one-more k v h =
+        let r = through-at c starts count d t k h in
+        let same = at-cost c _ _ (getD ds k noDescriptor) r ∙ sym (at-cost c _ _ d (through-region c starts count d t)) in
+        rw (same, at-alpha c _ _ (getD ds k noDescriptor) r)
+
+    opened-to : (v k : ℕ) → k ≤ count → getD (openingsFlagged flags starts (costOf d) k) v false ≡ opened (take k ds) v
+    unfolding openingsFlagged opened isDescriptor isTable
+    opened-to v zero h = clear v
+    opened-to v (suc k) h =
+        let n : k < length ds = omega (arith, through-count c starts count d t) in
+        flagged-says (openingsFlagged flags starts (costOf d) k) (getD starts k 0) (costOf d) v (omega (arith, openings-length flags starts (costOf d) k, opening-inside k (omega arith)))
+        ∙ rw (one-more k v (omega arith), opened-to v k (omega arith))
+        (sym (opened-more (take k ds) (getD ds k noDescriptor) v))
+        ∙ ap (λ (l : List Descriptor). opened l v) (sym (take-suc ds k noDescriptor n))
+
+    pub openings-marked : (cost : ℕ) → cost ≡ costOf d → (seen : List Bool) → seen ≡ openingsFlagged flags starts cost count → Marks ds seen []
+    unfolding opened among
+    openings-marked cost e seen is =
+        rw (is, e)
+        record {
+          long = openings-length flags starts (costOf d) count ∙ long;
+          says = λ v l n.
+              opened-to v count (omega arith)
+              ∙ ap (λ (k : ℕ). opened (take k ds) v) (through-count c starts count d t)
+              ∙ ap (λ (l : List Descriptor). opened l v) (take-length ds)
+              ∙ sym (or-nil (opened ds v));
+        }
+
+-- flags that are all clear
+pub replicate-clear : (n v : ℕ) → getD (replicate n false) v false ≡ false
+replicate-clear zero v = refl
+replicate-clear (suc n) zero = refl
+replicate-clear (suc n) (suc v) = replicate-clear n v
+
+-- the check of one descriptor, as the code makes it
+module _ (c starts : List ℕ) (count : ℕ) (d : Descriptor) (t : Through c starts count d) (n : ℕ) (tables-are : n ≡ tableCount (d .volume)) where
+  small-beta : d .beta .0 ≤ 65536
+  small-beta = omega (arith, through-end c starts count d t, t .small)
+
+  few-tables : n ≤ 112
+  unfolding tableCount
+  few-tables = omega (arith, through-volume c starts count d t)
+
+  cost-1 : d .layout ≡ 1 → costOf d ≡ 1 + tableCount (d .volume)
+  unfolding cost
+  cost-1 e = rw (eq-eqb (d .layout) 1 e)
+
+  pub one-tables-ready : d .layout ≡ 1 → (seen : List Bool) → length seen ≡ 65536 → TablesReady c d n seen
+  one-tables-ready e seen long =
+      record {
+        on-card = through-end c starts count d t;
+        flags = long;
+        region = omega (arith, through-beta c starts count d t, cost-1 e);
+        small = small-beta;
+        groups = few-tables;
+        layout = e;
+      }
+
+  pub one-phi-ready : (d .layout ≡ 1 → ⊥) → (seen : List Bool) → length seen ≡ 65536 → PhiReady c d n seen
+  one-phi-ready e seen long =
+      record {
+        on-card = through-end c starts count d t;
+        flags = long;
+        region = omega (arith, through-beta c starts count d t, cost-least (d .layout) (d .volume));
+        small = small-beta;
+        tables = tables-are;
+        layout = layout-2 (eqb (d .layout) 2) refl;
+      }
+    where
+      layout-2 : (b : Bool) → eqb (d .layout) 2 ≡ b → d .layout ≡ 2
+      layout-2 true q = eqb-true (d .layout) 2 q
+      layout-2 false q =
+          let f : false ≡ true = sym (rw (ne-eqb (d .layout) 1 e, q)) ∙ form-layout c _ d (through-region c starts count d t .form) in
+          let z : _≡_ {A = ℕ} 0 1 = cc in
+          absurd (omega arith)
+
+  module _ (seen : List Bool) (marks : Marks (descriptors (chain c)) seen []) (r : Verdict) where
+    pub one-by-tables : d .layout ≡ 1 → ((before : List ℕ) → Marks (descriptors (chain c)) seen before → r ≡ firstFault (descriptors (chain c)) d before (tablesNamings c d n 0))
+        → r ≡ checkOne c (descriptors (chain c)) d
+    unfolding checkOne namings
+    one-by-tables e f = f [] marks ∙ rw (tables-are, eq-eqb (d .layout) 1 e)
+
+    pub one-by-phi : (d .layout ≡ 1 → ⊥) → ((before : List ℕ) → Marks (descriptors (chain c)) seen before → r ≡ firstFault (descriptors (chain c)) d before (phiNamings c d 112 0))
+        → r ≡ checkOne c (descriptors (chain c)) d
+    unfolding checkOne namings
+    one-by-phi e f = f [] marks ∙ rw (ne-eqb (d .layout) 1 e)
