@@ -79,20 +79,20 @@ module _ (c : List ℕ) (es : List Descriptor) (p : ℕ) (d : Descriptor) (is : 
   sound-next z = region-next first (blockCount c) p d sound-region z .0
 
 -- where region k starts, the first region starting at block p; at the number of regions, where the last one ends
-unfoldable pub fence : ℕ → List Descriptor → ℕ → ℕ
-fence p ds k = getD (p ∷ ends ds) k 0
+unfoldable pub regionStart : ℕ → List Descriptor → ℕ → ℕ
+regionStart p ds k = getD (p ∷ ends ds) k 0
 
-pub fence-zero : (p : ℕ) (ds : List Descriptor) → fence p ds 0 ≡ p
-unfolding fence
-fence-zero p ds = refl
+pub region-start-zero : (p : ℕ) (ds : List Descriptor) → regionStart p ds 0 ≡ p
+unfolding regionStart
+region-start-zero p ds = refl
 
-pub fence-suc : (p : ℕ) (d : Descriptor) (ds : List Descriptor) (k : ℕ) → fence p (d ∷ ds) (suc k) ≡ fence (d .beta .0) ds k
-unfolding fence ends
-fence-suc p d ds k = refl
+pub region-start-suc : (p : ℕ) (d : Descriptor) (ds : List Descriptor) (k : ℕ) → regionStart p (d ∷ ds) (suc k) ≡ regionStart (d .beta .0) ds k
+unfolding regionStart ends
+region-start-suc p d ds k = refl
 
-pub fence-starts : (ds : List Descriptor) (k : ℕ) → k ≤ length ds → getD (startsOf ds) k 0 ≡ fence 0 ds k
-unfolding startsOf fence
-fence-starts ds k h = List·getD-append (0 ∷ ends ds) (replicate (256 - length ds) 0) 0 k (omega (arith, length-ends ds))
+pub region-start-listed : (ds : List Descriptor) (k : ℕ) → k ≤ length ds → getD (startsOf ds) k 0 ≡ regionStart 0 ds k
+unfolding startsOf regionStart
+region-start-listed ds k h = List·getD-append (0 ∷ ends ds) (replicate (256 - length ds) 0) 0 k (omega (arith, length-ends ds))
 
 pub starts-long : (ds : List Descriptor) → length ds < length (startsOf ds)
 unfolding startsOf
@@ -101,27 +101,27 @@ starts-long ds = rw (length-append (0 ∷ ends ds) (replicate (256 - length ds) 
 -- the block after a region is where the next one starts
 module _ {c : List ℕ} where
   -- the last region ends on the card
-  pub linked-end : {es : List Descriptor} {p : ℕ} {ds : List Descriptor} → Linked c es p ds → fence p ds (length ds) ≤ blockCount c
+  pub linked-end : {es : List Descriptor} {p : ℕ} {ds : List Descriptor} → Linked c es p ds → regionStart p ds (length ds) ≤ blockCount c
   linked-end (last {es = es} {p = p} {d = d} is ok z) =
-      rw (fence-suc p d [] 0, fence-zero (d .beta .0) []) (region-end (descriptorAt c 0) (blockCount c) p d (sound-region c es p d is ok))
+      rw (region-start-suc p d [] 0, region-start-zero (d .beta .0) []) (region-end (descriptorAt c 0) (blockCount c) p d (sound-region c es p d is ok))
   linked-end (more {es = es} {p = p} {d = d} {ds = ds} is ok z rest) =
-      rw (fence-suc p d ds (length ds), ← (sound-next c es p d is ok z)) (linked-end rest)
+      rw (region-start-suc p d ds (length ds), ← (sound-next c es p d is ok z)) (linked-end rest)
 
   -- the regions rise
-  pub linked-low : {es : List Descriptor} {p : ℕ} {ds : List Descriptor} → Linked c es p ds → (j : ℕ) → j ≤ length ds → p ≤ fence p ds j
-  linked-low {p = p} {ds = ds} h zero l = rw (fence-zero p ds) (omega arith)
+  pub linked-low : {es : List Descriptor} {p : ℕ} {ds : List Descriptor} → Linked c es p ds → (j : ℕ) → j ≤ length ds → p ≤ regionStart p ds j
+  linked-low {p = p} {ds = ds} h zero l = rw (region-start-zero p ds) (omega arith)
   linked-low (last {es = es} {p = p} {d = d} is ok z) (suc j) l =
       let e : j ≡ 0 = omega arith in
-      rw (e, fence-suc p d [] 0, fence-zero (d .beta .0) []) (omega (arith, sound-long c es p d is ok))
+      rw (e, region-start-suc p d [] 0, region-start-zero (d .beta .0) []) (omega (arith, sound-long c es p d is ok))
   linked-low (more {es = es} {p = p} {d = d} {ds = ds} is ok z rest) (suc j) l =
-      rw (fence-suc p d ds j, ← (sound-next c es p d is ok z)) (omega (arith, linked-low rest j (omega arith), sound-long c es p d is ok, sound-next c es p d is ok z))
+      rw (region-start-suc p d ds j, ← (sound-next c es p d is ok z)) (omega (arith, linked-low rest j (omega arith), sound-long c es p d is ok, sound-next c es p d is ok z))
 
-  pub linked-rise : {es : List Descriptor} {p : ℕ} {ds : List Descriptor} → Linked c es p ds → (i j : ℕ) → i ≤ j → j ≤ length ds → fence p ds i ≤ fence p ds j
-  linked-rise {p = p} {ds = ds} h zero j m l = rw (fence-zero p ds) (linked-low h j l)
+  pub linked-rise : {es : List Descriptor} {p : ℕ} {ds : List Descriptor} → Linked c es p ds → (i j : ℕ) → i ≤ j → j ≤ length ds → regionStart p ds i ≤ regionStart p ds j
+  linked-rise {p = p} {ds = ds} h zero j m l = rw (region-start-zero p ds) (linked-low h j l)
   linked-rise h (suc i) zero m l = absurd (omega arith)
   linked-rise (last {p = p} {d = d} is ok z) (suc i) (suc j) m l = let e : suc i ≡ suc j = omega arith in rw e (omega arith)
   linked-rise (more {es = es} {p = p} {d = d} {ds = ds} is ok z rest) (suc i) (suc j) m l =
-      rw (fence-suc p d ds i, fence-suc p d ds j, ← (sound-next c es p d is ok z)) (linked-rise rest i j (omega arith) (omega arith))
+      rw (region-start-suc p d ds i, region-start-suc p d ds j, ← (sound-next c es p d is ok z)) (linked-rise rest i j (omega arith) (omega arith))
 
 -- a descriptor in block p whose region ends at block end
 pub record RegionAt (c : List ℕ) (p end : ℕ) (d : Descriptor) : Type 0 where
@@ -145,19 +145,19 @@ module _ (c : List ℕ) (p end : ℕ) (d : Descriptor) (r : RegionAt c p end d) 
 
 module _ {c : List ℕ} where
   region-at : (es : List Descriptor) (p : ℕ) (d : Descriptor) (ds : List Descriptor) → d ≡ descriptorAt c p → sound c es p ≡ true
-      → RegionAt c (fence p (d ∷ ds) 0) (fence p (d ∷ ds) 1) d
+      → RegionAt c (regionStart p (d ∷ ds) 0) (regionStart p (d ∷ ds) 1) d
   region-at es p d ds is ok =
-      rw (fence-zero p (d ∷ ds), fence-suc p d ds 0, fence-zero (d .beta .0) ds)
+      rw (region-start-zero p (d ∷ ds), region-start-suc p d ds 0, region-start-zero (d .beta .0) ds)
       record { is = is; form = sound-form c es p d is ok; region = sound-region c es p d is ok; beta = refl }
 
   -- the k-th descriptor stands where region k starts
   pub linked-at : {es : List Descriptor} {p : ℕ} {ds : List Descriptor} → Linked c es p ds → (k : ℕ) → k < length ds
-      → RegionAt c (fence p ds k) (fence p ds (suc k)) (getD ds k noDescriptor)
+      → RegionAt c (regionStart p ds k) (regionStart p ds (suc k)) (getD ds k noDescriptor)
   linked-at (last {es = es} {p = p} {d = d} is ok z) zero l = region-at es p d [] is ok
   linked-at (last {es = es} {p = p} {d = d} is ok z) (suc k) l = absurd (omega arith)
   linked-at (more {es = es} {p = p} {d = d} {ds = ds} is ok z rest) zero l = region-at es p d ds is ok
   linked-at (more {es = es} {p = p} {d = d} {ds = ds} is ok z rest) (suc k) l =
-      rw (fence-suc p d ds k, fence-suc p d ds (suc k), ← (sound-next c es p d is ok z)) (linked-at rest k (omega arith))
+      rw (region-start-suc p d ds k, region-start-suc p d ds (suc k), ← (sound-next c es p d is ok z)) (linked-at rest k (omega arith))
 
 -- the regions of a chain without fault are those of its descriptors
 pub regions-sound : (ch : Chain) (n : ℕ) (starts : List ℕ) → regionsOf ch ≡ record { sound = true; place = physical 0; count = n; starts = starts }

@@ -4,12 +4,13 @@ use mathlib.Core.Bool.{Bool, true, false, _&&_, _||_}
 use mathlib.Core.List.{List, [], _∷_, _++_}
 use Prim.Native.Nat.{ℕ, zero, suc, _+_, _-_, _≤_, _<_}
 use native.Mathlib.Omega.{arith}
-use lib.ListN.{length, take, drop, replicate, length-drop}
-use lib.Seq.{take-all}
+use lib.ListN.{length, take, drop, replicate, length-drop, length-append, length-replicate}
+use lib.Seq.{take-all, take-at, drop-at}
 use lib.Dec.{eqb, ltb, leb}
-use borrow.Author.Tests.{eq-eqb, ne-eqb, le-leb, lt-leb, lt-ltb, le-ltb}
+use borrow.Author.Tests.{eq-eqb, ne-eqb, le-leb, lt-leb, lt-ltb, le-ltb, eqb-true, ltb-true, leb-true}
 use Rattle.blocks.specs.Pick.{pick, allZero}
 use Rattle.blocks.specs.Bytes.{splice}
+use Rattle.blocks.proofs.Tests.{and-left, and-right}
 use Rattle.blocks.proofs.ByteLaws.{splice-start}
 use Rattle.blocks.specs.Name.{nameByte, nameLength, isName, isText, padded, noName}
 
@@ -83,3 +84,67 @@ module _ (t : List ℕ) where
     pub padded-text : k ≡ length t → (r : List ℕ) → r ≡ splice noName 0 t → r ≡ padded t
     unfolding padded isText
     padded-text h r e = rw (lt-ltb 0 (length t) (omega (arith, some)), le-leb (length t) 16 short, ← is, eq-eqb k (length t) h, e) (splice-start noName t ∙ ap (λ (l : List ℕ). t ++ l) (drop-replicate 16 (length t)))
+
+-- a text of name bytes followed by zeros starts with just that many name bytes
+name-then-zeros : (t : List ℕ) (k : ℕ) → nameLength t ≡ length t → nameLength (t ++ replicate k 0) ≡ length t
+unfolding nameLength nameByte
+name-then-zeros [] zero e = refl
+name-then-zeros [] (suc k) e = refl
+name-then-zeros (b ∷ t) k e = by (nameByte b) refl (name-then-zeros t k) e
+  where
+    by : (z : Bool) → nameByte b ≡ z → (nameLength t ≡ length t → nameLength (t ++ replicate k 0) ≡ length t) → pick z (suc (nameLength t)) 0 ≡ suc (length t)
+        → pick z (suc (nameLength (t ++ replicate k 0))) 0 ≡ suc (length t)
+    by true q more h = ap suc (more (omega arith))
+    by false q more h = absurd (omega arith)
+
+zeros-zero : (k : ℕ) → allZero (replicate k 0) ≡ true
+unfolding allZero
+zeros-zero zero = refl
+zeros-zero (suc k) = zeros-zero k
+
+-- what makes a text one
+module _ (t : List ℕ) (is : isText t ≡ true) where
+  abbrev short : Bool
+  short = ltb 0 (length t) && leb (length t) 16
+
+  text-some : 0 < length t
+  unfolding isText
+  text-some = ltb-true 0 (length t) (and-left (ltb 0 (length t)) (leb (length t) 16) (and-left short (eqb (nameLength t) (length t)) is))
+
+  text-short : length t ≤ 16
+  unfolding isText
+  text-short = leb-true (length t) 16 (and-right (ltb 0 (length t)) (leb (length t) 16) (and-left short (eqb (nameLength t) (length t)) is))
+
+  text-bytes : nameLength t ≡ length t
+  unfolding isText
+  text-bytes = eqb-true (nameLength t) (length t) (and-right short (eqb (nameLength t) (length t)) is)
+
+  pub padded-is : padded t ≡ t ++ replicate (16 - length t) 0
+  unfolding padded
+  padded-is = rw is
+
+  pub padded-length : nameLength (padded t) ≡ length t
+  padded-length = ap nameLength padded-is ∙ name-then-zeros t (16 - length t) text-bytes
+
+  text-padded : isName (padded t) ≡ true
+  unfolding isName
+  text-padded =
+      let long : length (padded t) ≡ 16 = ap length padded-is ∙ length-append t (replicate (16 - length t) 0) ∙ omega (arith, length-replicate {A = ℕ} (16 - length t) 0, text-short) in
+      rw (eq-eqb (length (padded t)) 16 long, padded-length, lt-ltb 0 (length t) text-some, padded-is, drop-at t (replicate (16 - length t) 0) (length t) refl) (zeros-zero (16 - length t))
+
+-- a padded text is a name exactly where the text is 1 to 16 name bytes
+pub padded-name : (t : List ℕ) → isName (padded t) ≡ isText t
+unfolding padded isName nameLength nameByte allZero
+padded-name t = by (isText t) refl
+  where
+    by : (z : Bool) → isText t ≡ z → isName (padded t) ≡ z
+    by true e = text-padded t e
+    by false e = rw e
+
+-- and then no other text gives it
+pub padded-once : (t u : List ℕ) → isText t ≡ true → isText u ≡ true → padded t ≡ padded u → t ≡ u
+padded-once t u ht hu e =
+    let same-length : length t ≡ length u = sym (padded-length t ht) ∙ ap nameLength e ∙ padded-length u hu in
+    sym (take-at t (replicate (16 - length t) 0) (length t) refl)
+    ∙ ap (take (length t)) (sym (padded-is t ht) ∙ e ∙ padded-is u hu)
+    ∙ take-at u (replicate (16 - length u) 0) (length t) (sym same-length)

@@ -1,4 +1,4 @@
--- Bytes of a card area, 32-bit numbers, blocks, and storing a block. An area is the list of its bytes.
+-- Bytes of a card area, 32-bit numbers, blocks, and storing a block. An area is the list of its bytes, as numbers.
 use mathlib.Core.List.{List, [], _∷_, _++_}
 use Prim.Native.Nat.{ℕ, _+_, _*_, _/_, _%_}
 use lib.ListN.{length, take, drop, getD, replicate}

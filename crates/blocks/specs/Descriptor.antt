@@ -1,7 +1,7 @@
--- A descriptor: its bytes both ways, n and c, its three changes, and the blocks that a format leaves.
+-- A descriptor: its bytes both ways, n and c, its changes, and the blocks that a format leaves.
 use mathlib.Core.Bool.{Bool, true, false, _&&_, _||_}
 use mathlib.Core.List.{List, [], _∷_, _++_}
-use Prim.Native.Nat.{ℕ, zero, suc, _+_, _*_, _/_}
+use Prim.Native.Nat.{ℕ, zero, suc, _+_, _*_, _-_, _/_}
 use lib.ListN.{length, replicate}
 use lib.Dec.{eqb, ltb, leb}
 use Rattle.blocks.specs.Pick.{pick, allZero}
@@ -112,7 +112,7 @@ unfoldable pub copying : List ℕ → ℕ → ℕ → ℕ → List Store
 copying c from p zero = []
 copying c from p (suc n) = store p (blockAt c from) ∷ copying c (suc from) (suc p) n
 
--- the stores of a format: its layout 1 tables, rising, then the first descriptor with a cleared Phi
+-- the stores of a format: the c - 1 table blocks after the descriptor, rising, then the first descriptor with a cleared Phi
 unfoldable pub opening : ℕ → ℕ → List ℕ → List Store
 opening layout volume name =
-    clearing 1 (pick (eqb layout 1) (tableCount volume) 0) ++ (store 0 (descriptorBlock (firstOf layout volume name) (replicate 472 0)) ∷ [])
+    clearing 1 (cost layout volume - 1) ++ (store 0 (descriptorBlock (firstOf layout volume name) (replicate 472 0)) ∷ [])

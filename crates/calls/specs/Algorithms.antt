@@ -51,7 +51,7 @@ algorithm2 s alpha l bytes =
     fresh
     (pick (leb alpha p) (put s p bytes) fresh)
 
--- the blocks from to + 0 up to to + n are those from alpha on
+-- the n blocks from block to on are copies of those from alpha on
 abbrev pub copyRange : Sigma → ℕ → ℕ → ℕ → Sigma
 copyRange s alpha to n = λ q. pick (leb to q && ltb q (to + n)) (s (alpha + (q - to))) (s q)
 

@@ -1,4 +1,5 @@
--- The two large propositions, written down before they are proved: the ledger over whole lists of calls, and the rollback claim.
+-- The propositions that are owed of these definitions: refusals, room, check, the algorithms, the ledger over whole lists of calls, and the rollback claim.
+-- A card area and what is written to it are bytes; the claims that need it say so by AreBytes.
 use mathlib.Core.Path.{_≡_}
 use mathlib.Core.Logic.{_⊎_, _↔_}
 use mathlib.Core.Bool.{Bool, true, false, not, _&&_, _||_}
@@ -6,26 +7,24 @@ use mathlib.Core.List.{List, [], _∷_, _++_, map}
 use Prim.Native.Nat.{ℕ, zero, suc, _+_, _<_, _≤_}
 use lib.ListN.{length, take, drop, getD, replicate}
 use Rattle.blocks.specs.Pick.{pick}
-use Rattle.blocks.specs.Bytes.{blockCount, zeroBlock}
-use Rattle.blocks.specs.Descriptor.{costOf}
+use lib.Dec.{eqb}
+use Rattle.blocks.specs.Bytes.{blockCount, blockAt, zeroBlock}
+use Rattle.blocks.specs.Descriptor.{physical, tableCount, costOf, renamedOf, linkedOf, extendedOf, reopenedOf}
 use Rattle.blocks.specs.Chain.{chain, chainSound, named}
 use Rattle.entries.specs.Entry.{need}
 use Rattle.calls.specs.declared.answer.Target.{Target}
 use Rattle.calls.specs.declared.answer.Record.{Record}
-use Rattle.calls.specs.Call.{Call, Ream, Read, Write, Snap, Revert, Listing, Check, Lent, None, Block, Records, Outcome}
-use Rattle.calls.specs.Parts.{descriptorsOf, activeOf, snapshotsOf, foundThrough}
+use Rattle.calls.specs.Call.{Call, Ream, Read, Write, Snap, Revert, Listing, Check, Lent, None, Block, Records, Outcome, accepted}
+use Rattle.calls.specs.Parts.{descriptorsOf, activeOf, snapshotsOf, withName, targetOf, foundThrough}
 use Rattle.calls.specs.Check.{Passes}
 use Rattle.calls.specs.Ladder.{answerOf}
+use Rattle.calls.specs.Effect.{lentOf}
+use Rattle.calls.specs.Algorithms.{Sigma, algorithm1, algorithm2, algorithm3, algorithm4, algorithm5, algorithm6}
 use Rattle.calls.specs.Step.{step, after, outcomes, isAccepted}
-use Rattle.calls.specs.History.{betaOf, Agree, isFormat, NoFormat, Position, Nowhere, At, latestSnap, without, formatted}
+use Rattle.calls.specs.History.{betaOf, Agree, AreBytes, Standing, Position, Nowhere, At, latestSnap, without, formattable, formatted}
 use Rattle.calls.specs.Ledger.{Ledger, ledgerStep, ledgerNumber, cellRead, ledgerNames, ledgerOf}
 
--- The ledger.
-
--- the ledger carried along a run: its own step for each accepted call, nothing for a refused one
-unfoldable pub ledgerAfter : List Call → List ℕ → Ledger → Ledger
-ledgerAfter [] c g = g
-ledgerAfter (k ∷ ks) c g = ledgerAfter ks (step k c .card) (pick (isAccepted (answerOf k c)) (ledgerStep k g) g)
+-- Refusals, formats and room.
 
 -- the blocks that a call takes on a card: a write's need, a snap's c
 unfoldable pub blocksNeeded : Call → List ℕ → ℕ
@@ -36,6 +35,58 @@ blocksNeeded (Snap name) c = costOf (activeOf (descriptorsOf c))
 blocksNeeded (Revert name) c = 0
 blocksNeeded (Listing records) c = 0
 blocksNeeded Check c = 0
+
+-- A refusal alters no byte of the card or of lent memory, and an accepted call answers 0 with place 0.
+unfoldable pub RefusalClaim : Type 0
+RefusalClaim =
+    (k : Call) (c : List ℕ)
+    → (isAccepted (answerOf k c) ≡ false → (step k c .card ≡ c) × (step k c .outcome ≡ record { answer = answerOf k c; lent = lentOf k }))
+    × (isAccepted (answerOf k c) ≡ true → step k c .outcome .answer ≡ accepted)
+
+-- A ream is accepted exactly where the area can be formatted so, whatever it holds, and leaves the format.
+unfoldable pub ReamClaim : Type 0
+ReamClaim =
+    (area : List ℕ) (layout volume : ℕ) (name : List ℕ)
+    → (isAccepted (answerOf (Ream layout volume name) area) ≡ formattable area layout volume name)
+    × (formattable area layout volume name ≡ true → step (Ream layout volume name) area .card ≡ formatted area layout volume name)
+
+-- Alpha and beta on a card with a sound chain: a write moves beta by its need, a snap opens a region of c blocks at beta, a revert goes back to
+-- the snapshot's region. The active name stays.
+pub record RoomClaim (c : List ℕ) : Type 0 where
+  pub write : (l : ℕ) (block : List ℕ) → isAccepted (answerOf (Write l block) c) ≡ true
+      → activeOf (descriptorsOf (step (Write l block) c .card)) ≡ extendedOf (activeOf (descriptorsOf c)) (blocksNeeded (Write l block) c)
+  pub snap : (name : List ℕ) → isAccepted (answerOf (Snap name) c) ≡ true
+      → descriptorsOf (step (Snap name) c .card)
+      ≡ snapshotsOf (descriptorsOf c) ++ (linkedOf (renamedOf (activeOf (descriptorsOf c)) name) (activeOf (descriptorsOf c) .beta) ∷ reopenedOf (activeOf (descriptorsOf c)) ∷ [])
+  pub revert : (name : List ℕ) → isAccepted (answerOf (Revert name) c) ≡ true
+      → activeOf (descriptorsOf (step (Revert name) c .card))
+      ≡ linkedOf (renamedOf (withName (snapshotsOf (descriptorsOf c)) name) (activeOf (descriptorsOf c) .name)) (physical 0)
+
+-- Check and the algorithms.
+
+-- Check answers 0 exactly on the cards that pass.
+unfoldable pub CheckClaim : Type 0
+CheckClaim = (c : List ℕ) → (answerOf Check c ≡ accepted) ↔ Passes c
+
+-- Accepted reads, writes and snaps are the paper's algorithms, block by block, in both layouts: "blocks read, tables, descriptors, alpha and beta
+-- are those of the paper's six algorithms as document 01 completes them". Sigma is the card's blocks, alpha the descriptor's own block.
+pub record AlgorithmClaim (c : List ℕ) : Type 0 where
+  pub read : (target : Target) (name : List ℕ) (l : ℕ) (block : List ℕ) → isAccepted (answerOf (Read target name l block) c) ≡ true
+      → let d = targetOf (descriptorsOf c) target name in
+      step (Read target name l block) c .outcome .lent ≡ Block (pick (eqb (d .layout) 1) (algorithm1 (blockAt c) (d .alpha .0) l) (algorithm4 (blockAt c) (d .alpha .0) l))
+  pub write : (l : ℕ) (block : List ℕ) → isAccepted (answerOf (Write l block) c) ≡ true → (p : ℕ) → p < blockCount c
+      → let d = activeOf (descriptorsOf c) in
+      blockAt (step (Write l block) c .card) p ≡ pick (eqb (d .layout) 1) (algorithm2 (blockAt c) (d .alpha .0) l block) (algorithm5 (blockAt c) (d .alpha .0) l block) p
+  pub snap : (name : List ℕ) → isAccepted (answerOf (Snap name) c) ≡ true → (p : ℕ) → p < blockCount c
+      → let d = activeOf (descriptorsOf c) in
+      blockAt (step (Snap name) c .card) p ≡ pick (eqb (d .layout) 1) (algorithm3 (blockAt c) (d .alpha .0) (tableCount (d .volume)) name) (algorithm6 (blockAt c) (d .alpha .0) name) p
+
+-- The ledger.
+
+-- the ledger carried along a run: its own step for each accepted call, nothing for a refused one
+unfoldable pub ledgerAfter : List Call → List ℕ → Ledger → Ledger
+ledgerAfter [] c g = g
+ledgerAfter (k ∷ ks) c g = ledgerAfter ks (step k c .card) (pick (isAccepted (answerOf k c)) (ledgerStep k g) g)
 
 unfoldable pub isReam : Call → Bool
 isReam (Ream layout volume name) = true
@@ -52,7 +103,7 @@ recordNames n rs = map (λ (r : Record). r .name) (take n rs)
 
 -- Demand 2 of one call on a card c whose ledger is g: "on a card that passes its check, reads match a plain ledger of named volumes;
 -- 'no room' comes only if the blocks needed exceed those free".
-pub record Told (k : Call) (c : List ℕ) (g : Ledger) : Type 0 where
+pub record LedgerStep (k : Call) (c : List ℕ) (g : Ledger) : Type 0 where
   -- "reads match": what the card holds is the ledger, before the call
   pub matches : ledgerOf c ≡ g
   -- 4, 7, 8, 9, 12, 13 and 14 are the ledger's, in its order; besides them only 11 arises, so that 6 and 10 never do
@@ -63,28 +114,28 @@ pub record Told (k : Call) (c : List ℕ) (g : Ledger) : Type 0 where
   -- an accepted read gives the ledger's cell, whole
   pub reads : (target : Target) (name : List ℕ) (l : ℕ) (block : List ℕ) → k ≡ Read target name l block → isAccepted (answerOf k c) ≡ true
       → step k c .outcome .lent ≡ Block (cellRead g target name l)
-  -- an accepted listing gives the ledger's names in their order
+  -- an accepted listing gives the ledger's names in their order, and leaves the records after them
   pub lists : (records filled : List Record) → k ≡ Listing records → isAccepted (answerOf k c) ≡ true → step k c .outcome .lent ≡ Records filled
-      → recordNames (length (ledgerNames g)) filled ≡ ledgerNames g
+      → (recordNames (length (ledgerNames g)) filled ≡ ledgerNames g) × (drop (length (ledgerNames g)) filled ≡ drop (length (ledgerNames g)) records)
   -- "accepted calls leave one that passes, and the ledger holds"; a refused call changes nothing
   pub passes : Passes (step k c .card)
   pub next : ledgerOf (step k c .card) ≡ pick (isAccepted (answerOf k c)) (ledgerStep k g) g
 
 -- The ledger over whole lists: from any card that passes check, for every list of calls in which no format is accepted, and for each call of it,
--- the card before that call matches the ledger carried so far by the ledger's own step, and Told holds of the call.
-pub LedgerClaim : Type 0
+-- the card before that call matches the ledger carried so far by the ledger's own step, and LedgerStep holds of the call.
+unfoldable pub LedgerClaim : Type 0
 LedgerClaim =
-    (c : List ℕ) (ks : List Call) → Passes c → NoFormat c ks
-    → ((i : ℕ) → i < length ks → Told (getD ks i Check) (after (take i ks) c) (ledgerAfter (take i ks) c (ledgerOf c)))
+    (c : List ℕ) (ks : List Call) → AreBytes c → Passes c → Standing c ks
+    → ((i : ℕ) → i < length ks → LedgerStep (getD ks i Check) (after (take i ks) c) (ledgerAfter (take i ks) c (ledgerOf c)))
     × Passes (after ks c)
     × (ledgerOf (after ks c) ≡ ledgerAfter ks c (ledgerOf c))
 
--- From a format the ledger starts with no visits and a volume of zeros, and the card passes, whatever the area held.
-pub FormatClaim : Type 0
+-- From a format the ledger starts with no snapshots and a volume of zeros, and the card passes, whatever the area held.
+unfoldable pub FormatClaim : Type 0
 FormatClaim =
-    (area : List ℕ) (layout volume : ℕ) (name : List ℕ) → isAccepted (answerOf (Ream layout volume name) area) ≡ true
+    (area : List ℕ) (layout volume : ℕ) (name : List ℕ) → formattable area layout volume name ≡ true
     → Passes (formatted area layout volume name)
-    × (ledgerOf (formatted area layout volume name) ≡ record { visits = []; active = record { name = name; cells = replicate volume zeroBlock } })
+    × (ledgerOf (formatted area layout volume name) ≡ record { snapshots = []; active = record { name = name; cells = replicate volume zeroBlock } })
 
 -- The rollback claim.
 
@@ -92,7 +143,7 @@ FormatClaim =
 -- below it are equal in the two runs, and each later call gives the same answer". An outcome is number, place and lent memory at exit.
 pub record Matched (s : List ℕ) (ks : List Call) (a : ℕ) (js : List Call) (b : ℕ) : Type 0 where
   pub agree : (m : ℕ) → a + m ≤ length ks → Agree (after (take (a + m) ks) s) (after (take (b + m) js) s)
-  pub alike : drop a (outcomes ks s) ≡ drop b (outcomes js s)
+  pub answers : drop a (outcomes ks s) ≡ drop b (outcomes js s)
 
 -- What a rollback to the visit v at position k comes to, given the latest accepted snap of v before it.
 -- There: "forget the calls from that visit's latest accepted snapshot up to and including the rollback and run the shorter list from the same start";
@@ -107,27 +158,27 @@ Forgets s v ks k Nowhere =
 pub record RevertedAt (s : List ℕ) (ks : List Call) (k : ℕ) (v : List ℕ) : Type 0 where
   pub inside : k < length ks
   pub is : getD ks k Check ≡ Revert v
-  pub taken : isAccepted (answerOf (Revert v) (after (take k ks) s)) ≡ true
+  pub accepted-there : isAccepted (answerOf (Revert v) (after (take k ks) s)) ≡ true
 
 -- For any card with a sound chain, any list of calls in which no format is accepted, and every accepted revert in it, by itself.
-pub RollbackClaim : Type 0
+unfoldable pub RollbackClaim : Type 0
 RollbackClaim =
-    (s : List ℕ) (ks : List Call) → chainSound (chain s) ≡ true → NoFormat s ks
+    (s : List ℕ) (ks : List Call) → AreBytes s → chainSound (chain s) ≡ true → Standing s ks
     → (k : ℕ) (v : List ℕ) → RevertedAt s ks k v → Forgets s v ks k (latestSnap v s (take k ks))
 
 -- "That visit's snapshot" exists on a card that a format made, whatever the area held.
-pub SnapshotClaim : Type 0
+unfoldable pub SnapshotClaim : Type 0
 SnapshotClaim =
-    (area : List ℕ) (layout volume : ℕ) (name : List ℕ) → isAccepted (answerOf (Ream layout volume name) area) ≡ true
-    → (ks : List Call) → NoFormat (formatted area layout volume name) ks
+    (area : List ℕ) (layout volume : ℕ) (name : List ℕ) → AreBytes area → formattable area layout volume name ≡ true
+    → (ks : List Call) → Standing (formatted area layout volume name) ks
     → (k : ℕ) (v : List ℕ) → RevertedAt (formatted area layout volume name) ks k v
     → (i : ℕ) × (i < k) × (latestSnap v (formatted area layout volume name) (take k ks) ≡ At i)
 
 -- Demand 3, whole: the list starts from all N blocks as an accepted ream left them, in either layout.
-pub Demand3 : Type 0
+unfoldable pub Demand3 : Type 0
 Demand3 =
-    (area : List ℕ) (layout volume : ℕ) (name : List ℕ) → isAccepted (answerOf (Ream layout volume name) area) ≡ true
-    → (ks : List Call) → NoFormat (formatted area layout volume name) ks
+    (area : List ℕ) (layout volume : ℕ) (name : List ℕ) → AreBytes area → formattable area layout volume name ≡ true
+    → (ks : List Call) → Standing (formatted area layout volume name) ks
     → (k : ℕ) (v : List ℕ) → RevertedAt (formatted area layout volume name) ks k v
     → (i : ℕ) × (i < k) × (latestSnap v (formatted area layout volume name) (take k ks) ≡ At i)
     × Matched (formatted area layout volume name) ks (suc k) (without ks i k) i

@@ -2,16 +2,17 @@
 use mathlib.Core.Path.{_≡_}
 use mathlib.Core.Bool.{Bool, true, false, not, _&&_, _||_}
 use mathlib.Core.List.{List, [], _∷_, _++_}
-use Prim.Native.Nat.{ℕ, zero, suc, _+_, _*_}
-use lib.ListN.{length, take, drop}
-use lib.Dec.{eqb}
+use Prim.Native.Nat.{ℕ, zero, suc, _+_, _*_, _<_}
+use lib.ListN.{length, getD, take, drop}
+use lib.Dec.{eqb, ltb, leb}
 use Rattle.blocks.specs.Pick.{pick, same}
-use Rattle.blocks.specs.Bytes.{blockSize, storeAll}
-use Rattle.blocks.specs.Descriptor.{opening}
+use Rattle.blocks.specs.Bytes.{blockSize, blockCount, storeAll}
+use Rattle.blocks.specs.Name.{isName}
+use Rattle.blocks.specs.Descriptor.{cost, mostVolume, opening}
 use Rattle.blocks.specs.Chain.{chain, chainSound}
-use Rattle.calls.specs.Call.{Call, Ream, Read, Write, Snap, Revert, Listing, Check, accepted}
-use Rattle.calls.specs.Parts.{descriptorsOf, activeOf}
-use Rattle.calls.specs.Ladder.{answerOf, reamRows, firstRow}
+use Rattle.calls.specs.Call.{Call, Ream, Read, Write, Snap, Revert, Listing, Check}
+use Rattle.calls.specs.Parts.{areaBad, descriptorsOf, activeOf}
+use Rattle.calls.specs.Ladder.{answerOf}
 use Rattle.calls.specs.Step.{step, isAccepted}
 
 -- beta, the active descriptor's
@@ -36,10 +37,24 @@ isFormat (Revert name) c = false
 isFormat (Listing records) c = false
 isFormat Check c = false
 
--- no call of the list is an accepted format: reads, writes, snaps, reverts, lists, checks and refused reams stand in it in any order
-pub data NoFormat (c : List ℕ) : List Call → Type 0 where
-  none : NoFormat c []
-  more : {k : Call} {ks : List Call} → isFormat k c ≡ false → NoFormat c ks → NoFormat c (k ∷ ks)
+-- numbers below 256: what a card area holds, and what is lent
+abbrev pub AreBytes : List ℕ → Type 0
+AreBytes bytes = (i : ℕ) → getD bytes i 0 < 256
+
+-- what a write puts on the card
+unfoldable pub writtenBy : Call → List ℕ
+writtenBy (Ream layout volume name) = []
+writtenBy (Read target name l block) = []
+writtenBy (Write l block) = block
+writtenBy (Snap name) = []
+writtenBy (Revert name) = []
+writtenBy (Listing records) = []
+writtenBy Check = []
+
+-- the lists of calls that the claims speak of: reads, writes of bytes, snaps, reverts, lists, checks and refused reams, in any order
+pub data Standing (c : List ℕ) : List Call → Type 0 where
+  none : Standing c []
+  more : {k : Call} {ks : List Call} → isFormat k c ≡ false → AreBytes (writtenBy k) → Standing c ks → Standing c (k ∷ ks)
 
 -- whether a call is a snap under the name
 unfoldable pub isSnapOf : List ℕ → Call → Bool
@@ -69,6 +84,11 @@ latestSnap name c ks = latestFrom name c ks 0 Nowhere
 -- the list without the calls from position i up to and including position k: those that the rollback at k forgets, where the visit's latest accepted snap is at i
 unfoldable pub without : List Call → ℕ → ℕ → List Call
 without ks i k = take i ks ++ drop (suc k) ks
+
+-- what a card can be formatted to: the area is a card, and layout, L, name and c are those of one
+unfoldable pub formattable : List ℕ → ℕ → ℕ → List ℕ → Bool
+formattable area layout volume name =
+    not (areaBad area) && (eqb layout 1 || eqb layout 2) && ltb 0 volume && leb volume mostVolume && isName name && leb (cost layout volume) (blockCount area)
 
 -- all N blocks as an accepted ream leaves them, whatever the untouched blocks held
 unfoldable pub formatted : List ℕ → ℕ → ℕ → List ℕ → List ℕ

@@ -44,6 +44,7 @@ blockRow block = row (not (eqb (length block) blockSize)) 9 0
 abbrev pub chainRow : List ℕ → Row
 chainRow c = row (not (chainSound (chain c))) 6 (chainPlace (chain c))
 
+-- L is one for all descriptors of a sound chain
 abbrev pub volumeRow : List ℕ → ℕ → Row
 volumeRow c l = row (leb (activeOf (descriptorsOf c) .volume) l) 8 0
 

@@ -1,4 +1,4 @@
--- The ledger: an ordered list of named volumes and an active one. Its step knows no bytes of a card, no alpha, no beta and no tables.
+-- The ledger: an ordered list of named volumes, one for each snapshot, and an active one. Its step knows no bytes of a card, no alpha, no beta and no tables.
 use mathlib.Core.Bool.{Bool, true, false, not, _&&_, _||_}
 use mathlib.Core.List.{List, [], _∷_, _++_}
 use Prim.Native.Nat.{ℕ, zero, suc}
@@ -20,32 +20,32 @@ pub record Volume : Type 0 where
   pub cells : List (List ℕ)
 
 pub record Ledger : Type 0 where
-  pub visits : List Volume
+  pub snapshots : List Volume
   pub active : Volume
 
 abbrev pub noVolume : Volume
 noVolume = record { name = noName; cells = [] }
 
 -- whether a volume has the name; the volume that has it; those before it
-unfoldable pub hasVisit : List Volume → List ℕ → Bool
-hasVisit [] name = false
-hasVisit (v ∷ vs) name = same (v .name) name || hasVisit vs name
+unfoldable pub hasVolume : List Volume → List ℕ → Bool
+hasVolume [] name = false
+hasVolume (v ∷ vs) name = same (v .name) name || hasVolume vs name
 
-unfoldable pub visitOf : List Volume → List ℕ → Volume
-visitOf [] name = noVolume
-visitOf (v ∷ vs) name = pick (same (v .name) name) v (visitOf vs name)
+unfoldable pub volumeNamed : List Volume → List ℕ → Volume
+volumeNamed [] name = noVolume
+volumeNamed (v ∷ vs) name = pick (same (v .name) name) v (volumeNamed vs name)
 
-unfoldable pub visitsBefore : List Volume → List ℕ → List Volume
-visitsBefore [] name = []
-visitsBefore (v ∷ vs) name = pick (same (v .name) name) [] (v ∷ visitsBefore vs name)
+unfoldable pub volumesBefore : List Volume → List ℕ → List Volume
+volumesBefore [] name = []
+volumesBefore (v ∷ vs) name = pick (same (v .name) name) [] (v ∷ volumesBefore vs name)
 
 -- what an accepted call makes of the ledger
 unfoldable pub ledgerStep : Call → Ledger → Ledger
 ledgerStep (Ream layout volume name) g = g
 ledgerStep (Read target name l block) g = g
-ledgerStep (Write l block) g = record { visits = g .visits; active = record { name = g .active .name; cells = set (g .active .cells) l block } }
-ledgerStep (Snap name) g = record { visits = g .visits ++ (record { name = name; cells = g .active .cells } ∷ []); active = g .active }
-ledgerStep (Revert name) g = record { visits = visitsBefore (g .visits) name; active = record { name = g .active .name; cells = visitOf (g .visits) name .cells } }
+ledgerStep (Write l block) g = record { snapshots = g .snapshots; active = record { name = g .active .name; cells = set (g .active .cells) l block } }
+ledgerStep (Snap name) g = record { snapshots = g .snapshots ++ (record { name = name; cells = g .active .cells } ∷ []); active = g .active }
+ledgerStep (Revert name) g = record { snapshots = volumesBefore (g .snapshots) name; active = record { name = g .active .name; cells = volumeNamed (g .snapshots) name .cells } }
 ledgerStep (Listing records) g = g
 ledgerStep Check g = g
 
@@ -55,17 +55,17 @@ ledgerRows (Ream layout volume name) g = []
 ledgerRows (Read target name l block) g =
     row (isSnapshot target && not (isName name)) 4 0
     ∷ blockRow block
-    ∷ row (isSnapshot target && not (hasVisit (g .visits) name)) 7 0
+    ∷ row (isSnapshot target && not (hasVolume (g .snapshots) name)) 7 0
     ∷ row (leb (length (g .active .cells)) l) 8 0
     ∷ []
 ledgerRows (Write l block) g = blockRow block ∷ row (leb (length (g .active .cells)) l) 8 0 ∷ []
 ledgerRows (Snap name) g =
     nameRow name
-    ∷ row (hasVisit (g .visits) name || same (g .active .name) name) 12 0
-    ∷ row (leb mostSnapshots (length (g .visits))) 13 0
+    ∷ row (hasVolume (g .snapshots) name || same (g .active .name) name) 12 0
+    ∷ row (leb mostSnapshots (length (g .snapshots))) 13 0
     ∷ []
-ledgerRows (Revert name) g = nameRow name ∷ row (not (hasVisit (g .visits) name)) 7 0 ∷ []
-ledgerRows (Listing records) g = row (ltb (length records) (suc (length (g .visits)))) 14 0 ∷ []
+ledgerRows (Revert name) g = nameRow name ∷ row (not (hasVolume (g .snapshots) name)) 7 0 ∷ []
+ledgerRows (Listing records) g = row (ltb (length records) (suc (length (g .snapshots)))) 14 0 ∷ []
 ledgerRows Check g = []
 
 -- the number that the ledger gives a call: 0, or one of these
@@ -75,7 +75,7 @@ ledgerNumber k g = firstRow (ledgerRows k g) .number
 -- the volume that a read goes to, and the content that it gives
 unfoldable pub volumeRead : Ledger → Target → List ℕ → Volume
 volumeRead g Active name = g .active
-volumeRead g Snapshot name = visitOf (g .visits) name
+volumeRead g Snapshot name = volumeNamed (g .snapshots) name
 
 unfoldable pub cellRead : Ledger → Target → List ℕ → ℕ → List ℕ
 cellRead g target name l = getD (volumeRead g target name .cells) l []
@@ -86,7 +86,7 @@ namesFrom [] active = active ∷ []
 namesFrom (v ∷ vs) active = v .name ∷ namesFrom vs active
 
 unfoldable pub ledgerNames : Ledger → List (List ℕ)
-ledgerNames g = namesFrom (g .visits) (g .active .name)
+ledgerNames g = namesFrom (g .snapshots) (g .active .name)
 
 -- the ledger of a card: for each descriptor its name and what a read through it gives of each logical block, n of them from l on
 unfoldable pub cellsFrom : List ℕ → Descriptor → ℕ → ℕ → List (List ℕ)
@@ -101,4 +101,4 @@ volumesOf c [] = []
 volumesOf c (d ∷ ds) = volumeOf c d ∷ volumesOf c ds
 
 unfoldable pub ledgerOf : List ℕ → Ledger
-ledgerOf c = record { visits = volumesOf c (snapshotsOf (descriptorsOf c)); active = volumeOf c (activeOf (descriptorsOf c)) }
+ledgerOf c = record { snapshots = volumesOf c (snapshotsOf (descriptorsOf c)); active = volumeOf c (activeOf (descriptorsOf c)) }

@@ -10,3 +10,4 @@ pub mod History
 pub mod Ledger
 pub mod Claims
 pub mod Bench
+pub mod Example

@@ -18,10 +18,10 @@ use Rattle.blocks.proofs.ChainLaws.{cost-least}
 use Rattle.blocks.proofs.LinkedLaws.{at-alpha, at-long, at-end}
 use Rattle.entries.specs.InPlace.{regionOf, inPlaceAt, inPlace}
 use Rattle.entries.specs.Entry.{phiAt, tableOf, entryAt, entryFound, find}
-use Rattle.entries.specs.Through.{Fenced, Through}
+use Rattle.entries.specs.Through.{RisingRegions, Through}
 use Rattle.entries.specs.declared.find.Found.{Found}
 use Rattle.entries.specs.declared.find.Found.the-variants.{Misplaced, Entry}
-use Rattle.entries.proofs.RegionLaws.{through-region, through-fenced, in-place-region}
+use Rattle.entries.proofs.RegionLaws.{through-region, through-rising, in-place-region}
 
 cost-of-1 : (d : Descriptor) → d .layout ≡ 1 → costOf d ≡ 1 + (d .volume + 127) / 128
 unfolding cost tableCount

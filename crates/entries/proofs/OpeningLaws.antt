@@ -18,11 +18,11 @@ use Rattle.blocks.proofs.SoundLaws.{form-layout}
 use Rattle.blocks.proofs.ChainLaws.{cost-least}
 use Rattle.blocks.proofs.LinkedLaws.{at-alpha, at-cost, at-long, at-end}
 use Rattle.entries.specs.InPlace.{isDescriptor, isTable}
-use Rattle.entries.specs.Through.{Fenced, Through}
+use Rattle.entries.specs.Through.{RisingRegions, Through}
 use Rattle.entries.specs.Naming.{among, tablesNamings, phiNamings, namings, firstFault, checkOne}
 use Rattle.entries.specs.Marks.{flagged, openingsFlagged, Marks, TablesReady, PhiReady}
 use Rattle.entries.specs.declared.check.Verdict.{Verdict}
-use Rattle.entries.proofs.RegionLaws.{opening-alone, through-count, through-at, through-region, through-fenced}
+use Rattle.entries.proofs.RegionLaws.{opening-alone, through-count, through-at, through-region, through-rising}
 use Rattle.entries.proofs.EntryLaws.{through-beta, through-end, through-volume}
 
 -- a run of flags
@@ -154,7 +154,7 @@ module _ (c starts : List ℕ) (count : ℕ) (d : Descriptor) (t : Through c sta
 
   pub openings-ask : (cost : ℕ) → cost ≡ costOf d → (flags-now : List Bool) → length flags-now ≡ 65536
       → (count ≤ length starts) × ((k : ℕ) → k < count → getD starts k 0 + cost ≤ length flags-now)
-  openings-ask k e seen long = (omega (arith, through-fenced c starts count d t .long), λ j h. omega (arith, opening-inside j h))
+  openings-ask k e seen long = (omega (arith, through-rising c starts count d t .long), λ j h. omega (arith, opening-inside j h))
 
   -- from flags that are all clear
   module _ (flags : List Bool) (long : length flags ≡ 65536) (clear : (v : ℕ) → getD flags v false ≡ false) where

@@ -10,7 +10,7 @@ use lib.Dec.{eqb, ltb, leb}
 use borrow.Author.Tests.{eq-eqb, ne-eqb, lt-ltb, le-ltb}
 use Rattle.blocks.specs.Pick.{pick}
 use Rattle.entries.specs.InPlace.{regionOf, inPlaceAt}
-use Rattle.entries.specs.Through.{Fenced}
+use Rattle.entries.specs.Through.{RisingRegions}
 
 -- the region that starts at or below p and ends above it, where none before it does
 pub region-is : (starts : List ℕ) (k p : ℕ) → suc k < length starts → ((j : ℕ) → j ≤ k → getD starts j 0 ≤ p) → p < getD starts (suc k) 0 → regionOf starts p ≡ k
@@ -22,7 +22,7 @@ region-is (s ∷ t ∷ starts) (suc k) p l low high =
     rw (le-ltb p t (low 1 (omega arith))) (ap suc (region-is (t ∷ starts) k p (omega arith) (λ j h. low (suc j) (omega arith)) high))
 
 -- the search has closed in on one region
-pub region-found : (starts : List ℕ) (count low high p : ℕ) → Fenced starts count 0 → low < high → high ≤ count → high ≤ low + 1 → getD starts low 0 ≤ p → p < getD starts high 0
+pub region-found : (starts : List ℕ) (count low high p : ℕ) → RisingRegions starts count 0 → low < high → high ≤ count → high ≤ low + 1 → getD starts low 0 ≤ p → p < getD starts high 0
     → low ≡ regionOf starts p
 region-found starts count low high p f l m e a b =
     let q : suc low ≡ high = omega arith in

@@ -14,9 +14,9 @@ use Rattle.blocks.specs.Descriptor.{tableCount, cost, costOf, noDescriptor, des
 use Rattle.blocks.specs.Chain.{sound, Chain, Sound, chain, descriptors, ends, startsOf, regionOk, formOk}
 use Rattle.blocks.specs.declared.descriptor.Descriptor.{Descriptor}
 use Rattle.blocks.proofs.ChainLaws.{length-ends, region-layout, region-volume, region-alpha, region-long, region-end, cost-least}
-use Rattle.blocks.proofs.LinkedLaws.{Linked, last, more, chain-linked, sound-alpha, sound-cost, sound-long, sound-next, fence, fence-zero, fence-suc, fence-starts, linked-end, linked-low, linked-rise, RegionAt, linked-at, at-alpha, at-cost, at-long, at-end, starts-long, regions-sound}
+use Rattle.blocks.proofs.LinkedLaws.{Linked, last, more, chain-linked, sound-alpha, sound-cost, sound-long, sound-next, regionStart, region-start-zero, region-start-suc, region-start-listed, linked-end, linked-low, linked-rise, RegionAt, linked-at, at-alpha, at-cost, at-long, at-end, starts-long, regions-sound}
 use Rattle.entries.specs.InPlace.{isDescriptor, isTable, inPlace, regionOf, inPlaceAt}
-use Rattle.entries.specs.Through.{Fenced, Through}
+use Rattle.entries.specs.Through.{RisingRegions, Through}
 
 -- one descriptor's opening, for a block q at or above alpha
 module _ (a n q : ℕ) (above : a ≤ q) where
@@ -100,15 +100,15 @@ module _ {c : List ℕ} where
       (rw (ne-eqb q (d .alpha .0) (omega arith)) (r .0), rw (le-ltb (d .alpha .0) q (omega arith), and-false (eqb (d .layout) 1)) (r .1))
 
   -- outside every opening, in 01's words, is outside the opening of the region that contains q; what stands after the regions does not matter
-  outside : {es : List Descriptor} {p : ℕ} {ds : List Descriptor} (q : ℕ) (zs : List ℕ) → Linked c es p ds → p ≤ q → q < fence p ds (length ds)
+  outside : {es : List Descriptor} {p : ℕ} {ds : List Descriptor} (q : ℕ) (zs : List ℕ) → Linked c es p ds → p ≤ q → q < regionStart p ds (length ds)
       → not (isDescriptor ds q || isTable ds q) ≡ leb (startOf (p ∷ (ends ds ++ zs)) q + costOf (descriptorAt c 0)) q
   unfolding isDescriptor isTable ends
   outside q zs (last {es = es} {p = p} {d = d} is ok z) h l =
-      let b : q < d .beta .0 = rw (fence-suc p d [] 0, fence-zero (d .beta .0) []) at l in
+      let b : q < d .beta .0 = rw (region-start-suc p d [] 0, region-start-zero (d .beta .0) []) at l in
       outside-here d p (costOf (descriptorAt c 0)) zs q false false (sound-alpha c es p d is ok) (sound-cost c es p d is ok) (sound-long c es p d is ok) h b refl refl
   outside q zs (more {es = es} {p = p} {d = d} {ds = ds} is ok z rest) h l =
       let n = sound-next c es p d is ok z in
-      let m : q < fence (d .next .0) ds (length ds) = rw (fence-suc p d ds (length ds), ← n) at l in
+      let m : q < regionStart (d .next .0) ds (length ds) = rw (region-start-suc p d ds (length ds), ← n) at l in
       outside-by d p (costOf (descriptorAt c 0)) (ends ds ++ zs) q (isDescriptor ds q) (isTable ds q) (sound-alpha c es p d is ok) (sound-cost c es p d is ok) (sound-long c es p d is ok) h
       (ltb q (d .beta .0)) refl
       (λ k. none-below q rest (omega arith))
@@ -132,11 +132,11 @@ module _ (c starts : List ℕ) (count : ℕ) (d : Descriptor) (t : Through c sta
   through-linked = chain-linked c ds through-chain
 
   -- the k-th start, and the region of the k-th descriptor
-  pub through-fence : (k : ℕ) → k ≤ count → getD starts k 0 ≡ fence 0 ds k
-  through-fence k h = rw through-starts (fence-starts ds k (omega (arith, through-count)))
+  pub through-start : (k : ℕ) → k ≤ count → getD starts k 0 ≡ regionStart 0 ds k
+  through-start k h = rw through-starts (region-start-listed ds k (omega (arith, through-count)))
 
   pub through-at : (k : ℕ) → k < count → RegionAt c (getD starts k 0) (getD starts (suc k) 0) (getD ds k noDescriptor)
-  through-at k h = rw (through-fence k (omega arith), through-fence (suc k) (omega arith)) (linked-at through-linked k (omega (arith, through-count)))
+  through-at k h = rw (through-start k (omega arith), through-start (suc k) (omega arith)) (linked-at through-linked k (omega (arith, through-count)))
 
   -- the descriptor is one of the chain's
   pub through-member : d ≡ getD ds (t .index) noDescriptor
@@ -145,14 +145,14 @@ module _ (c starts : List ℕ) (count : ℕ) (d : Descriptor) (t : Through c sta
   pub through-region : RegionAt c (getD starts (t .index) 0) (getD starts (suc (t .index)) 0) d
   through-region = rw through-member (through-at (t .index) (t .inside))
 
-  pub through-fenced : Fenced starts count (d .beta .0)
-  through-fenced =
+  pub through-rising : RisingRegions starts count (d .beta .0)
+  through-rising =
       record {
         some = omega (arith, t .inside);
         long = rw (through-count, through-starts) (starts-long ds);
-        from = through-fence 0 (omega arith) ∙ fence-zero 0 ds;
-        rise = λ i j h l. rw (through-fence i (omega arith), through-fence j l) (linked-rise through-linked i j h (omega (arith, through-count)));
-        upto = rw (through-region .beta, through-fence (suc (t .index)) (omega (arith, t .inside)), through-fence count (omega arith)) (linked-rise through-linked (suc (t .index)) count (omega (arith, t .inside)) (omega (arith, through-count)));
+        from = through-start 0 (omega arith) ∙ region-start-zero 0 ds;
+        rise = λ i j h l. rw (through-start i (omega arith), through-start j l) (linked-rise through-linked i j h (omega (arith, through-count)));
+        upto = rw (through-region .beta, through-start (suc (t .index)) (omega (arith, t .inside)), through-start count (omega arith)) (linked-rise through-linked (suc (t .index)) count (omega (arith, t .inside)) (omega (arith, through-count)));
       }
 
   -- the law: 'in place' in 01's words is nil, or below beta and outside the opening of the region that contains the block
@@ -165,7 +165,7 @@ module _ (c starts : List ℕ) (count : ℕ) (d : Descriptor) (t : Through c sta
   unfolding startsOf
   starts-outside q h =
       rw (at-cost c _ _ d through-region)
-      (sym (outside q (replicate (256 - length ds) 0) through-linked (omega arith) (omega (arith, through-fenced .upto, through-fence count (omega arith), ap (fence 0 ds) through-count))))
+      (sym (outside q (replicate (256 - length ds) 0) through-linked (omega arith) (omega (arith, through-rising .upto, through-start count (omega arith), ap (regionStart 0 ds) through-count))))
 
   pub in-place-region : (q : ℕ) → inPlaceAt starts (costOf d) (d .beta .0) q ≡ inPlace ds d q
   unfolding inPlaceAt inPlace startOf

@@ -20,9 +20,9 @@ pub record PhiRules (c : List ℕ) (ds : List Descriptor) (d : Descriptor) : Typ
   pub past-n : (i : ℕ) → tableCount (d .volume) ≤ i → i < phiSize → phiAt c d i ≡ 0
   pub once : (i k : ℕ) → i < tableCount (d .volume) → k < tableCount (d .volume) → phiAt c d i ≡ phiAt c d k → (phiAt c d i ≡ 0 → ⊥) → i ≡ k
   -- Phi and Pi together
-  pub apart : (i l : ℕ) → i < tableCount (d .volume) → l < d .volume → phiAt c d i ≡ entryOf c d l → phiAt c d i ≡ 0
+  pub tables-and-entries : (i l : ℕ) → i < tableCount (d .volume) → l < d .volume → phiAt c d i ≡ entryOf c d l → phiAt c d i ≡ 0
   -- a data entry at or above alpha has its table block at or above alpha
-  pub level : (l : ℕ) → l < d .volume → d .alpha .0 ≤ entryOf c d l → (entryOf c d l ≡ 0 → ⊥) → d .alpha .0 ≤ tableOf c d (l / tableSize)
+  pub table-above : (l : ℕ) → l < d .volume → d .alpha .0 ≤ entryOf c d l → (entryOf c d l ≡ 0 → ⊥) → d .alpha .0 ≤ tableOf c d (l / tableSize)
 
 -- the tables of either layout: every entry is in place, those past L in the last table block are nil, and no two name one block
 pub record TableRules (c : List ℕ) (ds : List Descriptor) (d : Descriptor) : Type 0 where

@@ -9,7 +9,7 @@ use Rattle.blocks.specs.Chain.{chain, regionsOf}
 use Rattle.blocks.specs.declared.descriptor.Descriptor.{Descriptor}
 
 -- the first count + 1 starts rise from block 0 to where the last region ends, which is not below beta
-pub record Fenced (starts : List ℕ) (count beta : ℕ) : Type 0 where
+pub record RisingRegions (starts : List ℕ) (count beta : ℕ) : Type 0 where
   pub some : 0 < count
   pub long : count < length starts
   pub from : getD starts 0 0 ≡ 0

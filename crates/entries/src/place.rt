@@ -7,11 +7,11 @@ ghost use Prim.Native.Nat.{_<_};
 ghost use lib.ListN.{getD};
 ghost use Rattle.blocks.specs.Descriptor.{costOf};
 ghost use Rattle.entries.specs.InPlace.{regionOf, inPlaceAt};
-ghost use Rattle.entries.specs.Through.{Fenced};
+ghost use Rattle.entries.specs.Through.{RisingRegions};
 
 // The index of the region that contains block `p`. The regions rise, so that each step halves those that are left.
 pub fn region_of(starts: &[u32], count: usize, p: u32) -> usize
-    requires { ⌜ Fenced (now starts) count 0 × (p < getD (now starts) count 0) ⌝ }
+    requires { ⌜ RisingRegions (now starts) count 0 × (p < getD (now starts) count 0) ⌝ }
     ensures { λ r. ⌜ r ≡ regionOf (now (starts .entry)) p ⌝ }
     ensures { λ r. ⌜ r < count ⌝ }
 {
@@ -30,7 +30,7 @@ pub fn region_of(starts: &[u32], count: usize, p: u32) -> usize
 
 // Whether an entry of the descriptor `d` may name block `p`.
 pub fn in_place(starts: &[u32], count: usize, d: Descriptor, p: Physical) -> bool
-    requires { ⌜ Fenced (now starts) count (d .beta .0) ⌝ }
+    requires { ⌜ RisingRegions (now starts) count (d .beta .0) ⌝ }
     ensures { λ r. ⌜ r ≡ inPlaceAt (now (starts .entry)) (costOf d) (d .beta .0) (p .0) ⌝ }
 {
     let q = p.0;

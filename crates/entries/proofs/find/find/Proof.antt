@@ -1,7 +1,7 @@
 -- `find` meets its contract, by its tests.
 use native.Mathlib.Omega.{arith}
 use borrow.Author.Tests.{not-false}
-use Rattle.entries.proofs.RegionLaws.{through-fenced}
+use Rattle.entries.proofs.RegionLaws.{through-rising}
 use Rattle.entries.proofs.EntryLaws.{table-ready, table-inside, place-inside, find-layout-1, find-misplaced, find-nil, find-layout-2}
 use Rattle.entries.proofs.find.find.Statement.{statement}
 use Rattle.entries.proofs.find.find.Tie as tie
@@ -18,7 +18,7 @@ returns : tie.Need-returns
 returns c = search find-layout-1
 
 in-place-requires : tie.Need-in-place-requires
-in-place-requires c κs = search through-fenced
+in-place-requires c κs = search through-rising
 
 returns-2 : tie.Need-returns-2
 returns-2 c = search find-misplaced

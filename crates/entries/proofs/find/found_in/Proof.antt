@@ -1,5 +1,5 @@
 -- `found_in` meets its contract, by its test.
-use Rattle.entries.proofs.RegionLaws.{through-fenced}
+use Rattle.entries.proofs.RegionLaws.{through-rising}
 use Rattle.entries.proofs.EntryLaws.{entry-placed, entry-misplaced}
 use borrow.Author.Needs.{needs}
 use Rattle.entries.proofs.find.found_in.Statement.{statement}
@@ -9,7 +9,7 @@ entry-at-requires : tie.Need-entry-at-requires
 entry-at-requires c κs = search needs
 
 in-place-requires : tie.Need-in-place-requires
-in-place-requires c κs = search through-fenced
+in-place-requires c κs = search through-rising
 
 returns : tie.Need-returns
 returns c = search entry-placed
