@@ -57,9 +57,8 @@ module _ (c : List ℕ) (p : ℕ) (d : Descriptor) (m : Bool) (marked : m ≡ sa
           unfolding formOk
           form-unnamed h = rw (← marked, not-false m is, layout-ok, volume-ok, le-leb (d .volume) 14336 most, ← called, not-true n h)
 
-          module _ (yes-name : not n ≡ false) (z : Bool) (zero : z ≡ allZero (take (512 * p + 64 - (512 * p + 40)) (drop (512 * p + 40) c))) where
+          module _ (yes-name : not n ≡ false) (z : Bool) (zero : z ≡ reservedOk (take (512 * p + 64 - (512 * p + 40)) (drop (512 * p + 40) c))) where
             reserved-is : z ≡ reservedOk (part c (512 * p + 40) 24)
-            unfolding reservedOk
             reserved-is = let e : 512 * p + 64 - (512 * p + 40) ≡ 24 = omega arith in zero ∙ rw e
 
             pub form-reserved : not z ≡ true → false ≡ formOk c p d

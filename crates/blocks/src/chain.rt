@@ -9,7 +9,7 @@ ghost use Prim.Native.Nat.{ℕ, _+_, _*_, _≤_, _<_};
 ghost use lib.ListN.{length, take, getD};
 ghost use Rattle.blocks.specs.Pick.{same};
 ghost use Rattle.blocks.specs.Bytes.{part};
-ghost use Rattle.blocks.specs.Descriptor.{mark, descriptorAt};
+ghost use Rattle.blocks.specs.Descriptor.{mark, descriptorAt, reservedOk};
 ghost use Rattle.blocks.specs.Chain.{formOk, regionOk, named, descriptorsAt, chain, regionsOf, Unsound};
 
 // What a walk along the chain finds. Where every descriptor is sound, region k of the chain runs from block `starts[k]`
@@ -28,6 +28,13 @@ pub fn has_mark(card: &[u8], p: Physical) -> bool
 {
     let at = 512 * (p.0 as usize);
     bytes::same_bytes(&card[at..at + 4], b"snap")
+}
+
+// Whether bytes 40 to 63 of a descriptor block are as they must be.
+pub fn is_reserved(reserved: &[u8]) -> bool
+    ensures { λ r. ⌜ r ≡ reservedOk (now (reserved .entry)) ⌝ }
+{
+    bytes::all_zero(reserved)
 }
 
 // Whether mark, layout, L, name and zero bytes of block `p` are those of a descriptor; `d` is what its bytes say.
@@ -57,7 +64,7 @@ pub fn is_formed(card: &[u8], p: Physical, d: Descriptor) -> bool
     if !name::is_name(name) {
         return false;
     }
-    if !bytes::all_zero(&card[at + 40..at + 64]) {
+    if !is_reserved(&card[at + 40..at + 64]) {
         return false;
     }
     if layout != 1 {

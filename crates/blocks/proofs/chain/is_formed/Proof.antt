@@ -34,6 +34,30 @@ is-name-requires c κs = search needs
 returns-6 : tie.Need-returns-6
 returns-6 c = search form-unnamed
 
+add-is-reserved : tie.Need-add-is-reserved
+add-is-reserved c = search needs
+
+add-is-reserved-2 : tie.Need-add-is-reserved-2
+add-is-reserved-2 c = search needs
+
+sub-is-reserved : tie.Need-sub-is-reserved
+sub-is-reserved c = search needs
+
+part-is-reserved-start : tie.Need-part-is-reserved-start
+part-is-reserved-start c = search needs
+
+part-is-reserved-end : tie.Need-part-is-reserved-end
+part-is-reserved-end c = search needs
+
+is-reserved-requires : tie.Need-is-reserved-requires
+is-reserved-requires c κs = search needs
+
+returns-7 : tie.Need-returns-7
+returns-7 c = search form-reserved
+
+returns-8 : tie.Need-returns-8
+returns-8 c = search form-layout-2
+
 add-all-zero : tie.Need-add-all-zero
 add-all-zero c = search needs
 
@@ -52,30 +76,6 @@ part-all-zero-end c = search needs
 all-zero-requires : tie.Need-all-zero-requires
 all-zero-requires c κs = search needs
 
-returns-7 : tie.Need-returns-7
-returns-7 c = search form-reserved
-
-returns-8 : tie.Need-returns-8
-returns-8 c = search form-layout-2
-
-add-all-zero-3 : tie.Need-add-all-zero-3
-add-all-zero-3 c = search needs
-
-add-all-zero-4 : tie.Need-add-all-zero-4
-add-all-zero-4 c = search needs
-
-sub-all-zero-2 : tie.Need-sub-all-zero-2
-sub-all-zero-2 c = search needs
-
-part-all-zero-start-2 : tie.Need-part-all-zero-start-2
-part-all-zero-start-2 c = search needs
-
-part-all-zero-end-2 : tie.Need-part-all-zero-end-2
-part-all-zero-end-2 c = search needs
-
-all-zero-requires-2 : tie.Need-all-zero-requires-2
-all-zero-requires-2 c κs = search needs
-
 returns-9 : tie.Need-returns-9
 returns-9 c = search form-layout-1
 
@@ -93,18 +93,18 @@ is-formed-spec =
     returns-5
     is-name-requires
     returns-6
+    add-is-reserved
+    add-is-reserved-2
+    sub-is-reserved
+    part-is-reserved-start
+    part-is-reserved-end
+    is-reserved-requires
+    returns-7
+    returns-8
     add-all-zero
     add-all-zero-2
     sub-all-zero
     part-all-zero-start
     part-all-zero-end
     all-zero-requires
-    returns-7
-    returns-8
-    add-all-zero-3
-    add-all-zero-4
-    sub-all-zero-2
-    part-all-zero-start-2
-    part-all-zero-end-2
-    all-zero-requires-2
     returns-9)
