@@ -5,14 +5,14 @@ use mathlib.Core.List.{List, [], _∷_, _++_, append-nil}
 use Prim.Native.Nat.{ℕ, zero, suc, _+_, _*_, _-_, _≤_, _<_}
 use native.Mathlib.Numerals.{add-one}
 use native.Mathlib.Omega.{arith}
-use lib.ListN.{length, getD, replicate, List·getD-append, length-append}
-use lib.Seq.{append-snoc}
+use lib.ListN.{length, take, getD, replicate, List·getD-append, length-append}
+use lib.Seq.{append-snoc, take-append-le}
 use lib.Dec.{eqb}
 use borrow.Author.Tests.{eqb-true, eqb-false}
 use Rattle.blocks.specs.Pick.{pick}
 use Rattle.blocks.specs.Bytes.{blockCount}
 use Rattle.blocks.specs.Descriptor.{physical, cost, costOf, noDescriptor, descriptorAt}
-use Rattle.blocks.specs.Chain.{formOk, regionOk, named, sound, Chain, Unsound, Sound, chainFrom, chain, descriptors, ends, startsOf, regionsOf}
+use Rattle.blocks.specs.Chain.{formOk, regionOk, named, sound, Chain, Unsound, Sound, descriptorsAt, chainFrom, chain, descriptors, ends, startsOf, regionsOf}
 use Rattle.blocks.specs.declared.descriptor.Descriptor.{Descriptor}
 use Rattle.blocks.specs.declared.chain.Regions.{Regions}
 use Rattle.blocks.proofs.Tests.{and-left, and-right}
@@ -165,3 +165,21 @@ pub regions-sound : (ch : Chain) (n : ℕ) (starts : List ℕ) → regionsOf ch 
 unfolding regionsOf descriptors
 regions-sound (Unsound p) n starts e = let f : false ≡ true = ap (λ (r : Regions). r .sound) e in let y : _≡_ {A = ℕ} 0 1 = cc in absurd (omega arith)
 regions-sound (Sound ds) n starts e = (refl, ap (λ (r : Regions). r .count) (sym e), ap (λ (r : Regions). r .starts) (sym e))
+
+-- the descriptors in the first blocks of the regions are the first of the chain
+module _ {c : List ℕ} where
+  pub linked-take : {es : List Descriptor} {p : ℕ} {ds : List Descriptor} → Linked c es p ds → (n : ℕ) → n ≤ length ds → descriptorsAt c (take n (p ∷ ends ds)) ≡ take n ds
+  unfolding descriptorsAt ends
+  linked-take h zero l = refl
+  linked-take (last {p = p} {d = d} is ok z) (suc n) l = let e : n ≡ 0 = omega arith in rw (e, is)
+  linked-take (more {es = es} {p = p} {d = d} {ds = ds} is ok z rest) (suc n) l =
+      rw (← is) (ap (λ (xs : List Descriptor). d ∷ xs) (subst (λ (b : ℕ). descriptorsAt c (take n (b ∷ ends ds)) ≡ take n ds) (sound-next c es p d is ok z) (linked-take rest n (omega arith))))
+
+  pub starts-take : {ds : List Descriptor} → Linked c [] 0 ds → (n : ℕ) → n ≤ length ds → descriptorsAt c (take n (startsOf ds)) ≡ take n ds
+  unfolding startsOf
+  starts-take {ds = ds} h n l =
+      ap (descriptorsAt c) (take-append-le n (0 ∷ ends ds) (replicate (256 - length ds) 0) (omega (arith, length-ends ds))) ∙ linked-take h n l
+
+  pub linked-some : {es : List Descriptor} {p : ℕ} {ds : List Descriptor} → Linked c es p ds → 0 < length ds
+  linked-some (last is ok z) = omega arith
+  linked-some (more is ok z rest) = omega arith

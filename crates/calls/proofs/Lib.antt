@@ -1,4 +1,9 @@
--- Theorems about the definitions of the calls.
+-- Theorems about the definitions of the calls, and laws that the proofs of the calls cite.
 pub mod Running
 pub mod Bench
 pub mod Example
+pub mod StepLaws
+pub mod NamedLaws
+pub mod CardLaws
+pub mod ReamLaws
+pub mod RevertLaws

@@ -44,6 +44,11 @@ snapshotsOf [] = []
 snapshotsOf (d ∷ []) = []
 snapshotsOf (d ∷ e ∷ ds) = d ∷ snapshotsOf (e ∷ ds)
 
+-- the index of the first descriptor of the list that has the name, or how many there are
+unfoldable pub indexOf : List Descriptor → List ℕ → ℕ
+indexOf [] name = 0
+indexOf (d ∷ ds) name = pick (same (d .name) name) 0 (suc (indexOf ds name))
+
 -- the descriptor of the list that has the name
 unfoldable pub withName : List Descriptor → List ℕ → Descriptor
 withName [] name = noDescriptor

@@ -1,2 +1,5 @@
-// The seven calls of the card store.
-pub mod answer; // what a call answers
+// The calls of the card store. Each contract is one equation: answer, card and lent memory at exit are those of the definition's `step`.
+pub mod answer; // what a call takes and answers besides bytes
+pub mod area; // the tests that calls share
+pub mod ream; // the format
+pub mod revert; // back to a snapshot

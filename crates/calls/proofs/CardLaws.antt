@@ -1,0 +1,148 @@
+-- What a call knows of a card once the walk along its chain has found no fault, and of one with a fault.
+use mathlib.Core.Path.{_≡_, refl, sym, ap, _∙_}
+use mathlib.Core.Bool.{Bool, true, false, not, _&&_, _||_}
+use mathlib.Core.List.{List, [], _∷_, _++_}
+use Prim.Native.Nat.{ℕ, zero, suc, _+_, _*_, _-_, _/_, _%_, _≤_, _<_}
+use native.Mathlib.Omega.{arith}
+use lib.ListN.{length, take, getD}
+use lib.Seq.{length-take-le, getD-take}
+use lib.Dec.{eqb, ltb}
+use borrow.Author.Tests.{eqb-true, ltb-false}
+use Rattle.blocks.specs.Pick.{pick}
+use Rattle.blocks.specs.Bytes.{blockCount}
+use Rattle.blocks.specs.Descriptor.{physical, costOf, noDescriptor, descriptorAt}
+use Rattle.blocks.specs.Chain.{Chain, Unsound, Sound, chain, chainSound, chainPlace, descriptors, descriptorsAt, startsOf, regionsOf}
+use Rattle.blocks.specs.declared.numbers.Physical.{Physical}
+use Rattle.blocks.specs.declared.descriptor.Descriptor.{Descriptor}
+use Rattle.blocks.specs.declared.chain.Regions.{Regions}
+use Rattle.blocks.proofs.ChainLaws.{cost-least}
+use Rattle.blocks.proofs.LinkedLaws.{Linked, chain-linked, regions-sound, starts-take, linked-some, RegionAt, at-alpha}
+use Rattle.entries.specs.Through.{Through}
+use Rattle.entries.proofs.RegionLaws.{through-at, through-region, through-rising}
+use Rattle.entries.proofs.EntryLaws.{through-alpha, through-beta, through-end}
+use Rattle.calls.specs.Parts.{areaBad, activeOf, snapshotsOf}
+
+-- the last of a list, and the others
+pub active-last : (d : Descriptor) (ds : List Descriptor) → activeOf (d ∷ ds) ≡ getD (d ∷ ds) (length ds) noDescriptor
+unfolding activeOf
+active-last d [] = refl
+active-last d (e ∷ ds) = active-last e ds
+
+pub snapshots-take : (d : Descriptor) (ds : List Descriptor) → snapshotsOf (d ∷ ds) ≡ take (length ds) (d ∷ ds)
+unfolding snapshotsOf
+snapshots-take d [] = refl
+snapshots-take d (e ∷ ds) = ap (λ (xs : List Descriptor). d ∷ xs) (snapshots-take e ds)
+
+pub active-at : (ds : List Descriptor) → 0 < length ds → activeOf ds ≡ getD ds (length ds - 1) noDescriptor
+active-at [] h = absurd (omega arith)
+active-at (d ∷ ds) h = let e : suc (length ds) - 1 ≡ length ds = omega arith in active-last d ds ∙ rw e
+
+pub snapshots-at : (ds : List Descriptor) → 0 < length ds → snapshotsOf ds ≡ take (length ds - 1) ds
+snapshots-at [] h = absurd (omega arith)
+snapshots-at (d ∷ ds) h = let e : suc (length ds) - 1 ≡ length ds = omega arith in snapshots-take d ds ∙ rw e
+
+-- a fault on the chain
+regions-fault : (ch : Chain) (r : Regions) → r ≡ regionsOf ch → r .sound ≡ false → (chainSound ch ≡ false) × (chainPlace ch ≡ r .place .0)
+unfolding regionsOf chainSound chainPlace
+regions-fault (Unsound p) r e h = (refl, sym (ap (λ (x : Regions). x .place .0) e))
+regions-fault (Sound ds) r e h =
+    let f : false ≡ true = sym h ∙ ap (λ (x : Regions). x .sound) e in
+    let z : _≡_ {A = ℕ} 0 1 = cc in
+    absurd (omega arith)
+
+regions-whole : (ch : Chain) (r : Regions) → r ≡ regionsOf ch → r .sound ≡ true
+    → (chainSound ch ≡ true) × (regionsOf ch ≡ record { sound = true; place = physical 0; count = r .count; starts = r .starts })
+unfolding regionsOf chainSound
+regions-whole (Sound ds) r e h = (refl, rw e)
+regions-whole (Unsound p) r e h =
+    let f : false ≡ true = sym (ap (λ (x : Regions). x .sound) e) ∙ h in
+    let z : _≡_ {A = ℕ} 0 1 = cc in
+    absurd (omega arith)
+
+-- an area that is a card
+area-by : (e s l : Bool) → (not e || s || l) ≡ false → (e ≡ true) × (s ≡ false) × (l ≡ false)
+area-by true false false h = (refl, refl, refl)
+area-by true false true h = let z : _≡_ {A = ℕ} 0 1 = cc in absurd (omega arith)
+area-by true true l h = let z : _≡_ {A = ℕ} 0 1 = cc in absurd (omega arith)
+area-by false s l h = let z : _≡_ {A = ℕ} 0 1 = cc in absurd (omega arith)
+
+module _ (c : List ℕ) (area : areaBad c ≡ false) where
+  area-parts : (eqb (length c % 512) 0 ≡ true) × (ltb (blockCount c) 2 ≡ false) × (ltb 65536 (blockCount c) ≡ false)
+  unfolding areaBad
+  area-parts = area-by (eqb (length c % 512) 0) (ltb (blockCount c) 2) (ltb 65536 (blockCount c)) area
+
+  pub card-even : length c ≡ 512 * blockCount c
+  unfolding blockCount
+  card-even = omega (arith, eqb-true (length c % 512) 0 (area-parts .0))
+
+  pub card-least : 2 ≤ blockCount c
+  card-least = ltb-false (blockCount c) 2 (area-parts .1)
+
+  pub card-most : blockCount c ≤ 65536
+  card-most = ltb-false 65536 (blockCount c) (area-parts .2)
+
+  pub card-small : length c ≤ 33554432
+  card-small = omega (arith, card-even, card-most)
+
+module _ (c : List ℕ) (r : Regions) (is : r ≡ regionsOf (chain c)) where
+  pub card-fault : r .sound ≡ false → (chainSound (chain c) ≡ false) × (chainPlace (chain c) ≡ r .place .0)
+  card-fault h = regions-fault (chain c) r is h
+
+  pub card-sound : r .sound ≡ true → chainSound (chain c) ≡ true
+  card-sound h = regions-whole (chain c) r is h .0
+
+  module _ (area : areaBad c ≡ false) (ok : r .sound ≡ true) where
+    abbrev ds : List Descriptor
+    ds = descriptors (chain c)
+
+    regions-are : (chain c ≡ Sound ds) × (r .count ≡ length ds) × (r .starts ≡ startsOf ds)
+    regions-are = regions-sound (chain c) (r .count) (r .starts) (regions-whole (chain c) r is ok .1)
+
+    linked : Linked c [] 0 ds
+    linked = chain-linked c ds (regions-are .0)
+
+    pub card-count : r .count ≡ length ds
+    card-count = regions-are .1
+
+    pub card-some : 0 < r .count
+    card-some = omega (arith, linked-some linked, card-count)
+
+    -- the descriptor of region k, and where its blocks stand
+    pub card-through : (k : ℕ) → k < r .count → (d : Descriptor) → d ≡ descriptorAt c (getD (r .starts) k 0) → Through c (r .starts) (r .count) d
+    card-through k h d e = record { small = card-small c area; regions = regions-whole (chain c) r is ok .1; index = k; inside = h; is = e }
+
+    pub card-at : (k : ℕ) → k < r .count → getD ds k noDescriptor ≡ descriptorAt c (getD (r .starts) k 0)
+    card-at k h = through-at c (r .starts) (r .count) _ (card-through k h (descriptorAt c (getD (r .starts) k 0)) refl) k h .is
+
+    pub card-alpha : (k : ℕ) → k < r .count → getD ds k noDescriptor .alpha .0 ≡ getD (r .starts) k 0
+    card-alpha k h = at-alpha c _ _ (getD ds k noDescriptor) (through-at c (r .starts) (r .count) _ (card-through k h (descriptorAt c (getD (r .starts) k 0)) refl) k h)
+
+    pub card-inside : (k : ℕ) → k < r .count → 512 * getD (r .starts) k 0 + 512 ≤ length c
+    card-inside k h =
+        let d = descriptorAt c (getD (r .starts) k 0) in
+        let e : d .alpha .0 ≡ getD (r .starts) k 0 = ap (λ (x : Descriptor). x .alpha .0) (sym (card-at k h)) ∙ card-alpha k h in
+        omega (arith, through-alpha c (r .starts) (r .count) d (card-through k h d refl))
+
+    pub card-long : r .count ≤ length (r .starts)
+    card-long = let d = descriptorAt c (getD (r .starts) 0 0) in omega (arith, through-rising c (r .starts) (r .count) d (card-through 0 card-some d refl) .long)
+
+    -- the active descriptor is the last, the snapshots are those before it
+    pub card-active : (d : Descriptor) → d ≡ descriptorAt c (getD (r .starts) (r .count - 1) 0) → d ≡ activeOf ds
+    card-active d e =
+        e ∙ sym (card-at (r .count - 1) (omega (arith, card-some)))
+        ∙ ap (λ (n : ℕ). getD ds (n - 1) noDescriptor) card-count
+        ∙ sym (active-at ds (linked-some linked))
+
+    pub card-snapshots : descriptorsAt c (take (r .count - 1) (r .starts)) ≡ snapshotsOf ds
+    card-snapshots =
+        rw (regions-are .2, card-count)
+        (starts-take linked (length ds - 1) (omega arith) ∙ sym (snapshots-at ds (linked-some linked)))
+
+    pub card-snapshot-count : length (snapshotsOf ds) ≡ r .count - 1
+    card-snapshot-count = ap length (snapshots-at ds (linked-some linked)) ∙ rw card-count (length-take-le (length ds - 1) ds (omega arith))
+
+    pub card-snapshot : (k : ℕ) → k < r .count - 1 → getD (snapshotsOf ds) k noDescriptor ≡ descriptorAt c (getD (r .starts) k 0)
+    card-snapshot k h =
+        ap (λ (xs : List Descriptor). getD xs k noDescriptor) (snapshots-at ds (linked-some linked))
+        ∙ getD-take (length ds - 1) ds k noDescriptor (omega (arith, card-count))
+        ∙ card-at k (omega arith)

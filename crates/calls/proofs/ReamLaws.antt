@@ -1,0 +1,82 @@
+-- Laws of the format, as the code asks them.
+use mathlib.Core.Path.{_≡_, refl, sym, ap, _∙_}
+use mathlib.Core.Bool.{Bool, true, false, not, _&&_, _||_}
+use mathlib.Core.List.{List, [], _∷_, _++_}
+use Prim.Native.Nat.{ℕ, zero, suc, _+_, _*_, _-_, _/_, _≤_, _<_}
+use native.Mathlib.Omega.{arith}
+use lib.ListN.{length, replicate, drop}
+use lib.Dec.{eqb, ltb, leb}
+use borrow.Author.Tests.{eq-eqb, ne-eqb, lt-ltb, le-ltb, eqb-false, not-true, not-false}
+use Rattle.blocks.specs.Pick.{pick}
+use Rattle.blocks.specs.Bytes.{splice, Store, store, storeBlock, storeAll, blockCount}
+use Rattle.blocks.specs.Name.{isName}
+use Rattle.blocks.specs.Descriptor.{physical, cost, firstOf, headBytes, descriptorBlock, clearing, opening}
+use Rattle.blocks.specs.declared.descriptor.Descriptor.{Descriptor}
+use Rattle.blocks.proofs.ByteLaws.{splice-start}
+use Rattle.blocks.proofs.NameLaws.{drop-replicate}
+use Rattle.calls.specs.Call.{Call, Ream, answer, accepted}
+use Rattle.calls.specs.Parts.{areaBad}
+use Rattle.calls.specs.Ladder.{firstRow, reamRows, rowsOf, answerOf}
+use Rattle.calls.proofs.StepLaws.{stored-append, stored-one}
+
+-- a head put into a block of zeros
+pub head-on-zeros : (d : Descriptor) (b : List ℕ) → length (headBytes d) ≡ 40 → b ≡ splice (replicate 512 0) 0 (headBytes d) → b ≡ descriptorBlock d (replicate 472 0)
+unfolding descriptorBlock
+head-on-zeros d b n e =
+    e ∙ splice-start (replicate 512 0) (headBytes d) ∙ ap (λ (k : ℕ). headBytes d ++ drop k (replicate 512 0)) n ∙ ap (λ (l : List ℕ). headBytes d ++ l) (drop-replicate 512 40)
+
+-- tables, then the first descriptor
+pub opened : (c c₁ c₂ : List ℕ) (layout volume k : ℕ) (name b : List ℕ) → k ≡ cost layout volume → b ≡ descriptorBlock (record { layout = layout; volume = volume; alpha = physical 0; beta = physical k; next = physical 0; name = name }) (replicate 472 0)
+    → c₁ ≡ storeAll c (clearing 1 (k - 1)) → c₂ ≡ storeBlock c₁ 0 b → c₂ ≡ storeAll c (opening layout volume name)
+unfolding opening
+opened c c₁ c₂ layout volume k name b e f g h =
+    h
+    ∙ ap (λ (x : List ℕ). storeBlock x 0 b) g
+    ∙ sym (stored-one (storeAll c (clearing 1 (k - 1))) 0 b)
+    ∙ sym (stored-append c (clearing 1 (k - 1)) (store 0 b ∷ []))
+    ∙ rw (f, e)
+
+-- the rows of a ream, in the order of the code
+module _ (c : List ℕ) (layout volume : ℕ) (name : List ℕ) (bad : Bool) (area : bad ≡ areaBad c) where
+  pub ream-1 : bad ≡ true → answerOf (Ream layout volume name) c ≡ answer 1 0
+  unfolding answerOf rowsOf reamRows firstRow
+  ream-1 e = rw (← area, e)
+
+  module _ (card : bad ≡ false) where
+    pub ream-2-low : layout ≡ 0 → answerOf (Ream layout volume name) c ≡ answer 2 0
+    unfolding answerOf rowsOf reamRows firstRow
+    ream-2-low e = rw (← area, card, e)
+
+    pub ream-2-high : 2 < layout → answerOf (Ream layout volume name) c ≡ answer 2 0
+    unfolding answerOf rowsOf reamRows firstRow
+    ream-2-high h = rw (← area, card, ne-eqb layout 1 (omega arith), ne-eqb layout 2 (omega arith))
+
+    module _ (some : layout ≡ 0 → ⊥) (low : layout ≤ 2) where
+      layout-by : (t : Bool) → eqb layout 1 ≡ t → (eqb layout 1 || eqb layout 2) ≡ true
+      layout-by true e = rw e
+      layout-by false e = rw (e, eq-eqb layout 2 (omega (arith, some, eqb-false layout 1 e)))
+
+      layout-ok : (eqb layout 1 || eqb layout 2) ≡ true
+      layout-ok = layout-by (eqb layout 1) refl
+
+      pub ream-3-none : volume ≡ 0 → answerOf (Ream layout volume name) c ≡ answer 3 0
+      unfolding answerOf rowsOf reamRows firstRow
+      ream-3-none e = rw (← area, card, layout-ok, e)
+
+      pub ream-3-large : 14336 < volume → answerOf (Ream layout volume name) c ≡ answer 3 0
+      unfolding answerOf rowsOf reamRows firstRow
+      ream-3-large h = rw (← area, card, layout-ok, ne-eqb volume 0 (omega arith), lt-ltb 14336 volume h)
+
+      module _ (least : volume ≡ 0 → ⊥) (most : volume ≤ 14336) (n : Bool) (called : n ≡ isName name) where
+        pub ream-4 : not n ≡ true → answerOf (Ream layout volume name) c ≡ answer 4 0
+        unfolding answerOf rowsOf reamRows firstRow
+        ream-4 h = rw (← area, card, layout-ok, ne-eqb volume 0 least, le-ltb 14336 volume most, ← called, h)
+
+        module _ (is : not n ≡ false) (k : ℕ) (cost-is : k ≡ cost layout volume) where
+          pub ream-5 : length c / 512 < k → answerOf (Ream layout volume name) c ≡ answer 5 0
+          unfolding answerOf rowsOf reamRows firstRow blockCount
+          ream-5 h = rw (← area, card, layout-ok, ne-eqb volume 0 least, le-ltb 14336 volume most, ← called, is, ← cost-is, lt-ltb (length c / 512) k h)
+
+          pub ream-0 : k ≤ length c / 512 → answerOf (Ream layout volume name) c ≡ accepted
+          unfolding answerOf rowsOf reamRows firstRow blockCount
+          ream-0 h = rw (← area, card, layout-ok, ne-eqb volume 0 least, le-ltb 14336 volume most, ← called, is, ← cost-is, le-ltb (length c / 512) k h)

@@ -1,0 +1,72 @@
+-- Laws of step: what a refusal leaves, what an accepted call does; and laws of lists of stores.
+use mathlib.Core.Path.{_≡_, refl, sym, ap, _∙_}
+use mathlib.Core.Bool.{Bool, true, false, not, _&&_, _||_}
+use mathlib.Core.List.{List, [], _∷_, _++_}
+use Prim.Native.Nat.{ℕ, zero, suc, _+_, _*_, _-_, _/_, _%_, _≤_, _<_}
+use native.Mathlib.Numerals.{add-one}
+use native.Mathlib.Omega.{arith}
+use lib.ListN.{length, replicate}
+use lib.Dec.{eqb, ltb, leb}
+use borrow.Author.Tests.{eq-eqb, ne-eqb, lt-ltb, le-ltb}
+use Rattle.blocks.specs.Pick.{pick}
+use Rattle.blocks.specs.Bytes.{Store, store, storeBlock, storeAll, zeroBlock, blockCount}
+use Rattle.blocks.specs.Descriptor.{clearing}
+use Rattle.calls.specs.declared.answer.Answer.{Answer}
+use Rattle.calls.specs.Call.{Call, Lent, Outcome, answer, accepted}
+use Rattle.calls.specs.Parts.{areaBad}
+use Rattle.calls.specs.Ladder.{answerOf}
+use Rattle.calls.specs.Effect.{storesOf, lentOf, filledOf}
+use Rattle.calls.specs.Step.{Done, step, isAccepted}
+
+-- what a call does, given its answer
+module _ (k : Call) (c : List ℕ) where
+  abbrev done : Answer → Lent → List ℕ → Done
+  done a l card = record { outcome = record { answer = a; lent = l }; card = card }
+
+  pub step-refused : (n p : ℕ) → answerOf k c ≡ answer n p → eqb n 0 ≡ false → done (answer n p) (lentOf k) c ≡ step k c
+  unfolding step
+  step-refused n p e z = rw (e, z)
+
+  pub step-accepted : answerOf k c ≡ accepted → (l : Lent) → l ≡ filledOf k c → (card : List ℕ) → card ≡ storeAll c (storesOf k c) → done accepted l card ≡ step k c
+  unfolding step
+  step-accepted e l f card g = rw (e, f, g)
+
+-- the area, by the tests of the code
+module _ (c : List ℕ) where
+  pub area-uneven : (length c % 512 ≡ 0 → ⊥) → true ≡ areaBad c
+  unfolding areaBad
+  area-uneven h = rw (ne-eqb (length c % 512) 0 h)
+
+  pub area-small : length c % 512 ≡ 0 → length c / 512 < 2 → true ≡ areaBad c
+  unfolding areaBad blockCount
+  area-small e h = rw (eq-eqb (length c % 512) 0 e, lt-ltb (length c / 512) 2 h)
+
+  pub area-large : length c % 512 ≡ 0 → 2 ≤ length c / 512 → ltb 65536 (length c / 512) ≡ areaBad c
+  unfolding areaBad blockCount
+  area-large e h = rw (eq-eqb (length c % 512) 0 e, le-ltb (length c / 512) 2 h)
+
+-- stores, one after the other
+pub stored-append : (c : List ℕ) (xs ys : List Store) → storeAll c (xs ++ ys) ≡ storeAll (storeAll c xs) ys
+unfolding storeAll
+stored-append c [] ys = refl
+stored-append c (x ∷ xs) ys = stored-append (storeBlock c (x .at) (x .bytes)) xs ys
+
+pub stored-one : (c : List ℕ) (p : ℕ) (b : List ℕ) → storeAll c (store p b ∷ []) ≡ storeBlock c p b
+unfolding storeAll
+stored-one c p b = refl
+
+clearing-snoc : (p n : ℕ) → clearing p (suc n) ≡ clearing p n ++ (store (p + n) zeroBlock ∷ [])
+unfolding clearing
+clearing-snoc p zero = let e : p + 0 ≡ p = omega arith in rw e
+clearing-snoc p (suc n) = let e : p + suc n ≡ suc p + n = omega arith in rw e (ap (λ (l : List Store). store p zeroBlock ∷ l) (clearing-snoc (suc p) n))
+
+pub cleared-none : (c : List ℕ) (p : ℕ) → c ≡ storeAll c (clearing p 0)
+unfolding clearing storeAll
+cleared-none c p = refl
+
+pub cleared-more : (c : List ℕ) (p n : ℕ) (x y : List ℕ) → x ≡ storeAll c (clearing p n) → y ≡ storeBlock x (p + n) zeroBlock → y ≡ storeAll c (clearing p (n + 1))
+cleared-more c p n x y e f =
+    rw (add-one, clearing-snoc p n, stored-append c (clearing p n) (store (p + n) zeroBlock ∷ []), stored-one (storeAll c (clearing p n)) (p + n) zeroBlock, f, e)
+
+pub cleared-all : (c : List ℕ) (p i n : ℕ) (x : List ℕ) → x ≡ storeAll c (clearing p i) → i ≤ n → n ≤ i → x ≡ storeAll c (clearing p n)
+cleared-all c p i n x e h k = let q : i ≡ n = omega arith in rw (← q) e

@@ -1,0 +1,159 @@
+-- `revert` meets its contract, row by row.
+use mathlib.Core.Path.{_≡_, refl, sym, _∙_}
+use native.Mathlib.Omega.{arith}
+use Prim.Native.Nat.{_<_, _-_}
+use borrow.Author.Needs.{needs}
+use lib.ListN.{length}
+use borrow.Author.Tests.{not-true, not-false}
+use Rattle.calls.specs.Effect.{lentOf, filledOf}
+use Rattle.calls.proofs.StepLaws.{step-refused, step-accepted}
+use Rattle.calls.proofs.CardLaws.{card-some, card-inside, card-long}
+use Rattle.calls.proofs.RevertLaws.{revert-1, revert-4, revert-6, revert-7, revert-0, reverted}
+use borrow.Author.Needs.{needs}
+use Rattle.calls.proofs.revert.revert.Statement.{statement}
+use Rattle.calls.proofs.revert.revert.Tie as tie
+
+is-bad-requires : tie.Need-is-bad-requires
+is-bad-requires c κs = search needs
+
+same-length : tie.Need-same-length
+same-length c = search needs
+
+returns : tie.Need-returns
+unfolding lentOf
+returns c = step-refused _ _ _ _ (search revert-1) refl
+
+is-name-requires : tie.Need-is-name-requires
+is-name-requires c κs = search needs
+
+same-length-2 : tie.Need-same-length-2
+same-length-2 c = search needs
+
+returns-2 : tie.Need-returns-2
+unfolding lentOf
+returns-2 c = step-refused _ _ _ _ (search revert-4) refl
+
+walk-chain-requires : tie.Need-walk-chain-requires
+walk-chain-requires c κs = search needs
+
+same-length-3 : tie.Need-same-length-3
+same-length-3 c = search needs
+
+returns-3 : tie.Need-returns-3
+unfolding lentOf
+returns-3 c = step-refused _ _ _ _ (search revert-6) refl
+
+sub-last : tie.Need-sub-last
+sub-last c =
+    let w = c .before .before .before in
+    let e = w .before .before .before .before in
+    let good = sym (e .before .is-bad .ensures) ∙ e .if1 .left in
+    let ok = not-false _ (c .if3 .left) in
+    omega (arith, card-some _ _ (w .walk-chain .ensures) good ok)
+
+slice-aggregate-index-of : tie.Need-slice-aggregate-index-of
+slice-aggregate-index-of c = search needs
+
+index-of-requires : tie.Need-index-of-requires
+index-of-requires c κs =
+    let w = c .before .before .before .before .before in
+    let e = w .before .before .before .before in
+    let good = sym (e .before .is-bad .ensures) ∙ e .if1 .left in
+    let ok = not-false _ (c .before .before .if3 .left) in
+    (omega (arith, card-long _ _ (w .walk-chain .ensures) good ok), λ j h. card-inside _ _ (w .walk-chain .ensures) good ok j (omega arith))
+
+same-length-4 : tie.Need-same-length-4
+same-length-4 c = search needs
+
+returns-4 : tie.Need-returns-4
+unfolding lentOf
+returns-4 c =
+    let w = c .before .before .before .before .before .before .before in
+    let e = w .before .before .before .before in
+    step-refused _ _ _ _ (revert-7 _ _ _ (e .before .is-bad .ensures) (e .if1 .left) _ (w .before .before .before .is-name .ensures) (w .before .before .if2 .left) _ (w .walk-chain .ensures) (c .before .before .before .before .if3 .left) _ (c .before .index-of .ensures .0) (c .if4 .taken)) refl
+
+mul-p : tie.Need-mul-p
+mul-p c =
+    let w = c .before .before .before .before .before .before .before in
+    let e = w .before .before .before .before in
+    let good = sym (e .before .is-bad .ensures) ∙ e .if1 .left in
+    let ok = not-false _ (c .before .before .before .before .if3 .left) in
+    let long : length (w .walk-chain .result .starts) ≡ 257 = search needs in
+    omega (arith, card-long _ _ (w .walk-chain .ensures) good ok, card-some _ _ (w .walk-chain .ensures) good ok, c .before .index-of .ensures .1)
+
+array-read-p : tie.Need-array-read-p
+array-read-p c =
+    let w = c .before .before .before .before .before .before .before in
+    let e = w .before .before .before .before in
+    let good = sym (e .before .is-bad .ensures) ∙ e .if1 .left in
+    let ok = not-false _ (c .before .before .before .before .if3 .left) in
+    let long : length (w .walk-chain .result .starts) ≡ 257 = search needs in
+    omega (arith, card-long _ _ (w .walk-chain .ensures) good ok, card-some _ _ (w .walk-chain .ensures) good ok, c .before .index-of .ensures .1)
+
+mul-q : tie.Need-mul-q
+mul-q c =
+    let w = c .before .before .before .before .before .before .before in
+    let e = w .before .before .before .before in
+    let good = sym (e .before .is-bad .ensures) ∙ e .if1 .left in
+    let ok = not-false _ (c .before .before .before .before .if3 .left) in
+    let long : length (w .walk-chain .result .starts) ≡ 257 = search needs in
+    omega (arith, card-long _ _ (w .walk-chain .ensures) good ok, card-some _ _ (w .walk-chain .ensures) good ok, c .before .index-of .ensures .1)
+
+array-read-q : tie.Need-array-read-q
+array-read-q c =
+    let w = c .before .before .before .before .before .before .before in
+    let e = w .before .before .before .before in
+    let good = sym (e .before .is-bad .ensures) ∙ e .if1 .left in
+    let ok = not-false _ (c .before .before .before .before .if3 .left) in
+    let long : length (w .walk-chain .result .starts) ≡ 257 = search needs in
+    omega (arith, card-long _ _ (w .walk-chain .ensures) good ok, card-some _ _ (w .walk-chain .ensures) good ok, c .before .index-of .ensures .1)
+
+make-active-requires : tie.Need-make-active-requires
+make-active-requires c κs =
+    let w = c .before .before .before .before .before .before .before .before in
+    let e = w .before .before .before .before in
+    let good = sym (e .before .is-bad .ensures) ∙ e .if1 .left in
+    let ok = not-false _ (c .before .before .before .before .before .if3 .left) in
+    let some = card-some _ _ (w .walk-chain .ensures) good ok in
+    (card-inside _ _ (w .walk-chain .ensures) good ok _ (omega (arith, c .before .before .index-of .ensures .1)), card-inside _ _ (w .walk-chain .ensures) good ok _ (omega arith))
+
+same-length-5 : tie.Need-same-length-5
+same-length-5 c = search needs
+
+returns-5 : tie.Need-returns-5
+unfolding filledOf
+returns-5 c =
+    let i = c .before .before .before .before .before in
+    let w = i .before .before .before .before .before .before in
+    let e = w .before .before .before .before in
+    let inside : i .index-of .result < w .walk-chain .result .count - 1 = omega (arith, i .index-of .ensures .1) in
+    step-accepted _ _
+    (revert-0 _ _ _ (e .before .is-bad .ensures) (e .if1 .left) _ (w .before .before .before .is-name .ensures) (w .before .before .if2 .left) _ (w .walk-chain .ensures) (i .before .before .before .if3 .left) _ (i .index-of .ensures .0) inside)
+    _ refl _
+    (reverted _ _ _ (e .before .is-bad .ensures) (e .if1 .left) _ (w .before .before .before .is-name .ensures) (w .before .before .if2 .left) _ (w .walk-chain .ensures) (i .before .before .before .if3 .left) _ (i .index-of .ensures .0) inside _ (c .before .before .make-active .ensures))
+
+pub revert-spec : {M : Type 1} → statement M
+revert-spec =
+    tie.close
+    (tie.spec
+    is-bad-requires
+    same-length
+    returns
+    is-name-requires
+    same-length-2
+    returns-2
+    walk-chain-requires
+    same-length-3
+    returns-3
+    sub-last
+    slice-aggregate-index-of
+    index-of-requires
+    same-length-4
+    returns-4
+    mul-p
+    array-read-p
+    mul-q
+    array-read-q
+    make-active-requires
+    same-length-5
+    returns-5)

@@ -1,0 +1,66 @@
+// Back to a snapshot.
+use crate::answer::Answer;
+use crate::area;
+use blocks::chain;
+use blocks::descriptor;
+use blocks::name;
+use blocks::numbers::Physical;
+ghost use mathlib.Core.Path.{_≡_};
+ghost use Prim.Native.Nat.{_+_, _*_, _≤_, _<_};
+ghost use lib.ListN.{length};
+ghost use Rattle.blocks.specs.Bytes.{storeBlock};
+ghost use Rattle.blocks.specs.Descriptor.{physical, descriptorAt, tailAt, descriptorBlock, renamedOf, linkedOf};
+ghost use Rattle.calls.specs.Call.{Revert, None};
+ghost use Rattle.calls.specs.Step.{step};
+
+// The descriptor in block `p` becomes the active one: it gets the name of the one in block `active`, and a nil next.
+fn make_active(card: &mut [u8], p: Physical, active: Physical)
+    requires { ⌜ (512 * p .0 + 512 ≤ length (now card)) × (512 * active .0 + 512 ≤ length (now card)) ⌝ }
+    ensures { λ _. ⌜ now (card .exit) ≡ storeBlock (now (card .entry)) (p .0) (descriptorBlock (linkedOf (renamedOf (descriptorAt (now (card .entry)) (p .0)) (descriptorAt (now (card .entry)) (active .0) .name)) (physical 0)) (tailAt (now (card .entry)) (p .0))) ⌝ }
+{
+    let d = descriptor::read_descriptor(card, p);
+    let a = descriptor::read_descriptor(card, active);
+    let name = a.name;
+    let e = d.renamed(name).linked(Physical(0));
+    descriptor::store_descriptor(card, p, p, e);
+}
+
+// Rolls the card back to the snapshot that has the name.
+pub fn revert(card: &mut [u8], name: [u8; 16]) -> Answer
+    ensures { λ r. ⌜ record { outcome = record { answer = r; lent = None }; card = now (card .exit) } ≡ step (Revert name) (now (card .entry)) ⌝ }
+{
+    if area::is_bad(card) {
+        return Answer {
+            number: 1,
+            place: 0,
+        };
+    }
+    if !name::is_name(name) {
+        return Answer {
+            number: 4,
+            place: 0,
+        };
+    }
+    let found = chain::walk_chain(card);
+    let count = found.count;
+    let starts = found.starts;
+    if !found.sound {
+        let place = found.place.0;
+        return Answer { number: 6, place };
+    }
+    let last = count - 1;
+    let k = area::index_of(card, &starts, last, name);
+    if k == last {
+        return Answer {
+            number: 7,
+            place: 0,
+        };
+    }
+    let p = starts[k];
+    let q = starts[last];
+    make_active(card, Physical(p), Physical(q));
+    Answer {
+        number: 0,
+        place: 0,
+    }
+}
