@@ -102,3 +102,8 @@ module _ (d : Descriptor) (f : Fits d) where
         part-within c (512 * p) (headBytes d) fits 24 16 (omega arith),
         at-name,
       )
+
+-- a descriptor's block is a whole block
+pub block-length : (c : List ℕ) (p : ℕ) (d : Descriptor) (b : List ℕ) → 512 * p + 512 ≤ length c → length (headBytes d) ≡ 40 → b ≡ descriptorBlock d (tailAt c p) → length b ≡ 512
+unfolding descriptorBlock
+block-length c p d b h n e = ap length e ∙ length-append (headBytes d) (tailAt c p) ∙ omega (arith, n, length-part c (512 * p + 40) 472 (omega arith))

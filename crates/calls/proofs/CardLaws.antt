@@ -5,7 +5,7 @@ use mathlib.Core.List.{List, [], _∷_, _++_}
 use Prim.Native.Nat.{ℕ, zero, suc, _+_, _*_, _-_, _/_, _%_, _≤_, _<_}
 use native.Mathlib.Omega.{arith}
 use lib.ListN.{length, take, getD}
-use lib.Seq.{length-take-le, getD-take}
+use lib.Seq.{length-take-le, getD-take, take-length}
 use lib.Dec.{eqb, ltb}
 use borrow.Author.Tests.{eqb-true, ltb-false}
 use Rattle.blocks.specs.Pick.{pick}
@@ -137,6 +137,9 @@ module _ (c : List ℕ) (r : Regions) (is : r ≡ regionsOf (chain c)) where
     card-snapshots =
         rw (regions-are .2, card-count)
         (starts-take linked (length ds - 1) (omega arith) ∙ sym (snapshots-at ds (linked-some linked)))
+
+    pub card-all : descriptorsAt c (take (r .count) (r .starts)) ≡ ds
+    card-all = rw (regions-are .2, card-count) (starts-take linked (length ds) (omega arith) ∙ take-length ds)
 
     pub card-snapshot-count : length (snapshotsOf ds) ≡ r .count - 1
     card-snapshot-count = ap length (snapshots-at ds (linked-some linked)) ∙ rw card-count (length-take-le (length ds - 1) ds (omega arith))

@@ -7,3 +7,4 @@ pub mod NamedLaws
 pub mod CardLaws
 pub mod ReamLaws
 pub mod RevertLaws
+pub mod SnapLaws

@@ -4,22 +4,24 @@ use mathlib.Core.Path.{_≡_}
 use mathlib.Core.Logic.{_⊎_, _↔_}
 use mathlib.Core.Bool.{Bool, true, false, not, _&&_, _||_}
 use mathlib.Core.List.{List, [], _∷_, _++_, map}
-use Prim.Native.Nat.{ℕ, zero, suc, _+_, _<_, _≤_}
+use Prim.Native.Nat.{ℕ, zero, suc, _+_, _*_, _<_, _≤_}
 use lib.ListN.{length, take, drop, getD, replicate}
 use Rattle.blocks.specs.Pick.{pick}
 use lib.Dec.{eqb}
-use Rattle.blocks.specs.Bytes.{blockCount, blockAt, zeroBlock}
-use Rattle.blocks.specs.Descriptor.{physical, tableCount, costOf, renamedOf, linkedOf, extendedOf, reopenedOf}
+use Rattle.blocks.specs.Bytes.{blockSize, blockCount, blockAt, zeroBlock}
+use Rattle.blocks.specs.Descriptor.{physical, noDescriptor, tableCount, cost, costOf, firstOf, descriptorBlock, renamedOf, linkedOf, extendedOf, reopenedOf}
 use Rattle.blocks.specs.Chain.{chain, chainSound, named}
 use Rattle.entries.specs.Entry.{need}
+use Rattle.entries.specs.Naming.{Naming, namings, atFault}
+use Rattle.entries.specs.Rules.{Rules}
 use Rattle.calls.specs.declared.answer.Target.{Target}
 use Rattle.calls.specs.declared.answer.Record.{Record}
-use Rattle.calls.specs.Call.{Call, Ream, Read, Write, Snap, Revert, Listing, Check, Lent, None, Block, Records, Outcome, accepted}
-use Rattle.calls.specs.Parts.{descriptorsOf, activeOf, snapshotsOf, withName, targetOf, foundThrough}
+use Rattle.calls.specs.Call.{Call, Ream, Read, Write, Snap, Revert, Listing, Check, Lent, None, Block, Records, Outcome, answer, accepted}
+use Rattle.calls.specs.Parts.{areaBad, descriptorsOf, activeOf, snapshotsOf, withName, targetOf, foundThrough}
 use Rattle.calls.specs.Check.{Passes}
-use Rattle.calls.specs.Ladder.{answerOf}
+use Rattle.calls.specs.Ladder.{Row, row, rowsOf, answerOf}
 use Rattle.calls.specs.Effect.{lentOf}
-use Rattle.calls.specs.Algorithms.{Sigma, algorithm1, algorithm2, algorithm3, algorithm4, algorithm5, algorithm6}
+use Rattle.calls.specs.Algorithms.{Sigma, closeRegion, algorithm1, algorithm2, algorithm3, algorithm4, algorithm5, algorithm6}
 use Rattle.calls.specs.Step.{step, after, outcomes, isAccepted}
 use Rattle.calls.specs.History.{betaOf, Agree, AreBytes, Standing, Position, Nowhere, At, latestSnap, without, formattable, formatted}
 use Rattle.calls.specs.Ledger.{Ledger, ledgerStep, ledgerNumber, cellRead, ledgerNames, ledgerOf}
@@ -52,7 +54,7 @@ ReamClaim =
 
 -- Alpha and beta on a card with a sound chain: a write moves beta by its need, a snap opens a region of c blocks at beta, a revert goes back to
 -- the snapshot's region. The active name stays.
-pub record RoomClaim (c : List ℕ) : Type 0 where
+pub record MovesBeta (c : List ℕ) : Type 0 where
   pub write : (l : ℕ) (block : List ℕ) → isAccepted (answerOf (Write l block) c) ≡ true
       → activeOf (descriptorsOf (step (Write l block) c .card)) ≡ extendedOf (activeOf (descriptorsOf c)) (blocksNeeded (Write l block) c)
   pub snap : (name : List ℕ) → isAccepted (answerOf (Snap name) c) ≡ true
@@ -62,15 +64,96 @@ pub record RoomClaim (c : List ℕ) : Type 0 where
       → activeOf (descriptorsOf (step (Revert name) c .card))
       ≡ linkedOf (renamedOf (withName (snapshotsOf (descriptorsOf c)) name) (activeOf (descriptorsOf c) .name)) (physical 0)
 
+unfoldable pub RoomClaim : Type 0
+RoomClaim = (c : List ℕ) → MovesBeta c
+
+-- a call that stores nothing; a call that fills what is lent
+unfoldable pub isQuiet : Call → Bool
+isQuiet (Ream layout volume name) = false
+isQuiet (Read target name l block) = true
+isQuiet (Write l block) = false
+isQuiet (Snap name) = false
+isQuiet (Revert name) = false
+isQuiet (Listing records) = true
+isQuiet Check = true
+
+unfoldable pub fills : Call → Bool
+fills (Ream layout volume name) = false
+fills (Read target name l block) = true
+fills (Write l block) = false
+fills (Snap name) = false
+fills (Revert name) = false
+fills (Listing records) = true
+fills Check = false
+
+-- No call alters the card's length; a read, a listing and a check alter no byte of the card; only a read and a listing alter what is lent.
+unfoldable pub FrameClaim : Type 0
+FrameClaim =
+    (k : Call) (c : List ℕ)
+    → (length (step k c .card) ≡ length c)
+    × (isQuiet k ≡ true → step k c .card ≡ c)
+    × (fills k ≡ false → step k c .outcome .lent ≡ lentOf k)
+
+-- An accepted listing gives each descriptor's own name, alpha, beta and next, and leaves the records after them.
+unfoldable pub ListClaim : Type 0
+ListClaim =
+    (records : List Record) (c : List ℕ) → isAccepted (answerOf (Listing records) c) ≡ true
+    → let ds = descriptorsOf c in
+    (filled : List Record) × (step (Listing records) c .outcome .lent ≡ Records filled)
+    × (length filled ≡ length records)
+    × ((i : ℕ) (r : Record) → i < length ds
+    → let d = getD ds i noDescriptor in
+    getD filled i r ≡ record { name = d .name; alpha = d .alpha .0; beta = d .beta .0; next = d .next .0 })
+    × (drop (length ds) filled ≡ drop (length ds) records)
+
+-- 'No room' comes only if the blocks needed exceed those free, on any card.
+unfoldable pub NoRoomClaim : Type 0
+NoRoomClaim = (k : Call) (c : List ℕ) → answerOf k c .number ≡ 11 → blockCount c < betaOf c + blocksNeeded k c
+
+-- Each row is given exactly where its condition holds and no earlier one does; a call is accepted exactly where none holds.
+unfoldable pub TableClaim : Type 0
+TableClaim =
+    (k : Call) (c : List ℕ)
+    → ((i : ℕ) → i < length (rowsOf k c)
+    → let r = getD (rowsOf k c) i (row false 0 0) in
+    (answerOf k c ≡ answer (r .number) (r .place)) ↔ ((r .holds ≡ true) × ((j : ℕ) → j < i → getD (rowsOf k c) j (row false 0 0) .holds ≡ false)))
+    × ((answerOf k c ≡ accepted) ↔ ((i : ℕ) → i < length (rowsOf k c) → getD (rowsOf k c) i (row false 0 0) .holds ≡ false))
+
 -- Check and the algorithms.
 
 -- Check answers 0 exactly on the cards that pass.
 unfoldable pub CheckClaim : Type 0
 CheckClaim = (c : List ℕ) → (answerOf Check c ≡ accepted) ↔ Passes c
 
+-- the values that some namings add to those named before
+unfoldable pub valuesOf : List ℕ → List Naming → List ℕ
+valuesOf before [] = before
+valuesOf before (e ∷ es) = valuesOf (e .value ∷ before) es
+
+-- what stands for a naming where there is none
+abbrev pub noNaming : Naming
+noNaming = record { holder = 0; value = 0; counted = true; phi = true }
+
+-- the first fault: every earlier descriptor keeps the rules, every earlier naming of this one is in order, and this naming is not
+pub record FirstFault (c : List ℕ) (place : ℕ) : Type 0 where
+  pub index : ℕ
+  pub inside : index < length (descriptorsOf c)
+  pub earlier : (k : ℕ) → k < index → Rules c (descriptorsOf c) (getD (descriptorsOf c) k noDescriptor)
+  pub naming : ℕ
+  pub walked : naming < length (namings c (getD (descriptorsOf c) index noDescriptor))
+  pub before : let d = getD (descriptorsOf c) index noDescriptor in
+      (j : ℕ) → j < naming → atFault (descriptorsOf c) d (valuesOf [] (take j (namings c d))) (getD (namings c d) j noNaming) ≡ false
+  pub here : let d = getD (descriptorsOf c) index noDescriptor in
+      atFault (descriptorsOf c) d (valuesOf [] (take naming (namings c d))) (getD (namings c d) naming noNaming) ≡ true
+  pub holder : getD (namings c (getD (descriptorsOf c) index noDescriptor)) naming noNaming .holder ≡ place
+
+-- Check answers 10 with the block that holds the first entry at fault.
+unfoldable pub FaultClaim : Type 0
+FaultClaim = (c : List ℕ) (place : ℕ) → areaBad c ≡ false → chainSound (chain c) ≡ true → (answerOf Check c ≡ answer 10 place) ↔ FirstFault c place
+
 -- Accepted reads, writes and snaps are the paper's algorithms, block by block, in both layouts: "blocks read, tables, descriptors, alpha and beta
 -- are those of the paper's six algorithms as document 01 completes them". Sigma is the card's blocks, alpha the descriptor's own block.
-pub record AlgorithmClaim (c : List ℕ) : Type 0 where
+pub record FollowsAlgorithms (c : List ℕ) : Type 0 where
   pub read : (target : Target) (name : List ℕ) (l : ℕ) (block : List ℕ) → isAccepted (answerOf (Read target name l block) c) ≡ true
       → let d = targetOf (descriptorsOf c) target name in
       step (Read target name l block) c .outcome .lent ≡ Block (pick (eqb (d .layout) 1) (algorithm1 (blockAt c) (d .alpha .0) l) (algorithm4 (blockAt c) (d .alpha .0) l))
@@ -80,6 +163,13 @@ pub record AlgorithmClaim (c : List ℕ) : Type 0 where
   pub snap : (name : List ℕ) → isAccepted (answerOf (Snap name) c) ≡ true → (p : ℕ) → p < blockCount c
       → let d = activeOf (descriptorsOf c) in
       blockAt (step (Snap name) c .card) p ≡ pick (eqb (d .layout) 1) (algorithm3 (blockAt c) (d .alpha .0) (tableCount (d .volume)) name) (algorithm6 (blockAt c) (d .alpha .0) name) p
+  -- "Revert gives the snapshot's descriptor the active name and a nil next", and no other byte changes
+  pub revert : (name : List ℕ) → isAccepted (answerOf (Revert name) c) ≡ true → (p : ℕ) → p < blockCount c
+      → let v = withName (snapshotsOf (descriptorsOf c)) name in
+      blockAt (step (Revert name) c .card) p ≡ closeRegion (blockAt c) (v .alpha .0) 0 (activeOf (descriptorsOf c) .name) p
+
+unfoldable pub AlgorithmClaim : Type 0
+AlgorithmClaim = (c : List ℕ) → AreBytes c → FollowsAlgorithms c
 
 -- The ledger.
 
@@ -115,8 +205,8 @@ pub record LedgerStep (k : Call) (c : List ℕ) (g : Ledger) : Type 0 where
   pub reads : (target : Target) (name : List ℕ) (l : ℕ) (block : List ℕ) → k ≡ Read target name l block → isAccepted (answerOf k c) ≡ true
       → step k c .outcome .lent ≡ Block (cellRead g target name l)
   -- an accepted listing gives the ledger's names in their order, and leaves the records after them
-  pub lists : (records filled : List Record) → k ≡ Listing records → isAccepted (answerOf k c) ≡ true → step k c .outcome .lent ≡ Records filled
-      → (recordNames (length (ledgerNames g)) filled ≡ ledgerNames g) × (drop (length (ledgerNames g)) filled ≡ drop (length (ledgerNames g)) records)
+  pub lists : (records : List Record) → k ≡ Listing records → isAccepted (answerOf k c) ≡ true
+      → (filled : List Record) × (step k c .outcome .lent ≡ Records filled) × (recordNames (length (ledgerNames g)) filled ≡ ledgerNames g) × (drop (length (ledgerNames g)) filled ≡ drop (length (ledgerNames g)) records)
   -- "accepted calls leave one that passes, and the ledger holds"; a refused call changes nothing
   pub passes : Passes (step k c .card)
   pub next : ledgerOf (step k c .card) ≡ pick (isAccepted (answerOf k c)) (ledgerStep k g) g
@@ -136,6 +226,10 @@ FormatClaim =
     (area : List ℕ) (layout volume : ℕ) (name : List ℕ) → formattable area layout volume name ≡ true
     → Passes (formatted area layout volume name)
     × (ledgerOf (formatted area layout volume name) ≡ record { snapshots = []; active = record { name = name; cells = replicate volume zeroBlock } })
+    × (descriptorsOf (formatted area layout volume name) ≡ firstOf layout volume name ∷ [])
+    × (blockAt (formatted area layout volume name) 0 ≡ descriptorBlock (firstOf layout volume name) (replicate 472 0))
+    × ((p : ℕ) → 0 < p → p < cost layout volume → blockAt (formatted area layout volume name) p ≡ zeroBlock)
+    × (drop (blockSize * cost layout volume) (formatted area layout volume name) ≡ drop (blockSize * cost layout volume) area)
 
 -- The rollback claim.
 
@@ -146,7 +240,7 @@ pub record Matched (s : List ℕ) (ks : List Call) (a : ℕ) (js : List Call) (b
   pub answers : drop a (outcomes ks s) ≡ drop b (outcomes js s)
 
 -- What a rollback to the visit v at position k comes to, given the latest accepted snap of v before it.
--- There: "forget the calls from that visit's latest accepted snapshot up to and including the rollback and run the shorter list from the same start";
+-- At i: "forget the calls from that visit's latest accepted snapshot up to and including the rollback and run the shorter list from the same start";
 -- the card right after the revert is compared with the card after the calls before the forgotten ones.
 -- Nowhere: v stands on the starting card; all calls before the rollback are forgotten, the rollback stays and is accepted there too.
 unfoldable pub Forgets : List ℕ → List ℕ → List Call → ℕ → Position → Type 0

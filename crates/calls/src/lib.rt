@@ -3,3 +3,4 @@ pub mod answer; // what a call takes and answers besides bytes
 pub mod area; // the tests that calls share
 pub mod ream; // the format
 pub mod revert; // back to a snapshot
+pub mod snap; // a snapshot

@@ -48,7 +48,7 @@ sub-last c =
     let w = c .before .before .before in
     let e = w .before .before .before .before in
     let good = sym (e .before .is-bad .ensures) ∙ e .if1 .left in
-    let ok = not-false _ (c .if3 .left) in
+    let ok = not-false (w .walk-chain .result .sound) (c .if3 .left) in
     omega (arith, card-some _ _ (w .walk-chain .ensures) good ok)
 
 slice-aggregate-index-of : tie.Need-slice-aggregate-index-of
@@ -59,7 +59,7 @@ index-of-requires c κs =
     let w = c .before .before .before .before .before in
     let e = w .before .before .before .before in
     let good = sym (e .before .is-bad .ensures) ∙ e .if1 .left in
-    let ok = not-false _ (c .before .before .if3 .left) in
+    let ok = not-false (w .walk-chain .result .sound) (c .before .before .if3 .left) in
     (omega (arith, card-long _ _ (w .walk-chain .ensures) good ok), λ j h. card-inside _ _ (w .walk-chain .ensures) good ok j (omega arith))
 
 same-length-4 : tie.Need-same-length-4
@@ -77,7 +77,7 @@ mul-p c =
     let w = c .before .before .before .before .before .before .before in
     let e = w .before .before .before .before in
     let good = sym (e .before .is-bad .ensures) ∙ e .if1 .left in
-    let ok = not-false _ (c .before .before .before .before .if3 .left) in
+    let ok = not-false (w .walk-chain .result .sound) (c .before .before .before .before .if3 .left) in
     let long : length (w .walk-chain .result .starts) ≡ 257 = search needs in
     omega (arith, card-long _ _ (w .walk-chain .ensures) good ok, card-some _ _ (w .walk-chain .ensures) good ok, c .before .index-of .ensures .1)
 
@@ -86,7 +86,7 @@ array-read-p c =
     let w = c .before .before .before .before .before .before .before in
     let e = w .before .before .before .before in
     let good = sym (e .before .is-bad .ensures) ∙ e .if1 .left in
-    let ok = not-false _ (c .before .before .before .before .if3 .left) in
+    let ok = not-false (w .walk-chain .result .sound) (c .before .before .before .before .if3 .left) in
     let long : length (w .walk-chain .result .starts) ≡ 257 = search needs in
     omega (arith, card-long _ _ (w .walk-chain .ensures) good ok, card-some _ _ (w .walk-chain .ensures) good ok, c .before .index-of .ensures .1)
 
@@ -95,7 +95,7 @@ mul-q c =
     let w = c .before .before .before .before .before .before .before in
     let e = w .before .before .before .before in
     let good = sym (e .before .is-bad .ensures) ∙ e .if1 .left in
-    let ok = not-false _ (c .before .before .before .before .if3 .left) in
+    let ok = not-false (w .walk-chain .result .sound) (c .before .before .before .before .if3 .left) in
     let long : length (w .walk-chain .result .starts) ≡ 257 = search needs in
     omega (arith, card-long _ _ (w .walk-chain .ensures) good ok, card-some _ _ (w .walk-chain .ensures) good ok, c .before .index-of .ensures .1)
 
@@ -104,7 +104,7 @@ array-read-q c =
     let w = c .before .before .before .before .before .before .before in
     let e = w .before .before .before .before in
     let good = sym (e .before .is-bad .ensures) ∙ e .if1 .left in
-    let ok = not-false _ (c .before .before .before .before .if3 .left) in
+    let ok = not-false (w .walk-chain .result .sound) (c .before .before .before .before .if3 .left) in
     let long : length (w .walk-chain .result .starts) ≡ 257 = search needs in
     omega (arith, card-long _ _ (w .walk-chain .ensures) good ok, card-some _ _ (w .walk-chain .ensures) good ok, c .before .index-of .ensures .1)
 
@@ -113,7 +113,7 @@ make-active-requires c κs =
     let w = c .before .before .before .before .before .before .before .before in
     let e = w .before .before .before .before in
     let good = sym (e .before .is-bad .ensures) ∙ e .if1 .left in
-    let ok = not-false _ (c .before .before .before .before .before .if3 .left) in
+    let ok = not-false (w .walk-chain .result .sound) (c .before .before .before .before .before .if3 .left) in
     let some = card-some _ _ (w .walk-chain .ensures) good ok in
     (card-inside _ _ (w .walk-chain .ensures) good ok _ (omega (arith, c .before .before .index-of .ensures .1)), card-inside _ _ (w .walk-chain .ensures) good ok _ (omega arith))
 

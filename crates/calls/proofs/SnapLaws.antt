@@ -1,0 +1,138 @@
+-- Laws of the snapshot, as the code asks them.
+use mathlib.Core.Path.{_≡_, refl, sym, ap, _∙_}
+use mathlib.Core.Bool.{Bool, true, false, not, _&&_, _||_}
+use mathlib.Core.List.{List, [], _∷_, _++_}
+use Prim.Native.Nat.{ℕ, zero, suc, _+_, _*_, _-_, _/_, _≤_, _<_}
+use native.Mathlib.Numerals.{add-one}
+use native.Mathlib.Omega.{arith}
+use lib.ListN.{length, take, getD}
+use lib.Dec.{eqb, ltb, leb}
+use borrow.Author.Tests.{lt-ltb, le-ltb, le-leb, lt-leb, not-true, not-false}
+use Rattle.blocks.specs.Pick.{pick}
+use Rattle.blocks.specs.Bytes.{Store, store, blockCount, blockAt, storeBlock, storeAll}
+use Rattle.blocks.specs.Name.{isName}
+use Rattle.blocks.specs.Descriptor.{physical, costOf, noDescriptor, descriptorAt, tailAt, descriptorBlock, renamedOf, linkedOf, reopenedOf, copying}
+use Rattle.blocks.specs.Chain.{chain, chainSound, chainPlace, descriptors, named, descriptorsAt, regionsOf}
+use Rattle.blocks.specs.declared.descriptor.Descriptor.{Descriptor}
+use Rattle.blocks.specs.declared.chain.Regions.{Regions}
+use Rattle.blocks.proofs.ByteLaws.{store-other, store-length, length-blockAt}
+use Rattle.calls.specs.Call.{Call, Snap, answer, accepted}
+use Rattle.calls.specs.Parts.{areaBad, activeOf, snapshotsOf}
+use Rattle.calls.specs.Ladder.{firstRow, snapRows, rowsOf, answerOf}
+use Rattle.calls.specs.Effect.{snapping, storesOf}
+use Rattle.calls.proofs.StepLaws.{stored-append, stored-one}
+use Rattle.calls.proofs.CardLaws.{card-fault, card-sound, card-some, card-all, card-snapshot-count, card-active}
+
+-- copies of blocks that stand before where they go
+copying-snoc : (c : List ℕ) (from to n : ℕ) → copying c from to (suc n) ≡ copying c from to n ++ (store (to + n) (blockAt c (from + n)) ∷ [])
+unfolding copying
+copying-snoc c from to zero = let e : to + 0 ≡ to = omega arith in let f : from + 0 ≡ from = omega arith in rw (e, f)
+copying-snoc c from to (suc n) =
+    let e : to + suc n ≡ suc to + n = omega arith in
+    let f : from + suc n ≡ suc from + n = omega arith in
+    rw (e, f) (ap (λ (l : List Store). store to (blockAt c from) ∷ l) (copying-snoc c (suc from) (suc to) n))
+
+module _ (c : List ℕ) (from to : ℕ) where
+  abbrev after : ℕ → List ℕ
+  after n = storeAll c (copying c from to n)
+
+  after-suc : (n : ℕ) → after (suc n) ≡ storeBlock (after n) (to + n) (blockAt c (from + n))
+  after-suc n =
+      ap (storeAll c) (copying-snoc c from to n)
+      ∙ stored-append c (copying c from to n) (store (to + n) (blockAt c (from + n)) ∷ [])
+      ∙ stored-one (after n) (to + n) (blockAt c (from + n))
+
+  after-zero : after 0 ≡ c
+  unfolding copying storeAll
+  after-zero = refl
+
+  copied-length : (n : ℕ) → from + n ≤ to → 512 * (to + n) ≤ length c → length (after n) ≡ length c
+  copied-length zero h l = ap length after-zero
+  copied-length (suc n) h l =
+      let before = copied-length n (omega arith) (omega arith) in
+      ap length (after-suc n) ∙ store-length (after n) (to + n) (blockAt c (from + n)) (length-blockAt c (from + n) (omega arith)) (omega arith) ∙ before
+
+  -- a block before them is as it was
+  pub copied-other : (n q : ℕ) → from + n ≤ to → 512 * (to + n) ≤ length c → q < to → blockAt (after n) q ≡ blockAt c q
+  copied-other zero q h l m = ap (λ (x : List ℕ). blockAt x q) after-zero
+  copied-other (suc n) q h l m =
+      ap (λ (x : List ℕ). blockAt x q) (after-suc n)
+      ∙ store-other (after n) (to + n) (blockAt c (from + n)) (length-blockAt c (from + n) (omega arith)) (omega (arith, copied-length n (omega arith) (omega arith))) q (omega arith)
+      ∙ copied-other n q (omega arith) (omega arith) m
+
+  pub copied-none : c ≡ after 0
+  copied-none = sym after-zero
+
+  pub copied-more : (n i : ℕ) (x y b : List ℕ) → i < n → from + n ≤ to → 512 * (to + n) ≤ length c → x ≡ after i → b ≡ blockAt x (from + i) → y ≡ storeBlock x (to + i) b → y ≡ after (i + 1)
+  copied-more n i x y b m h l e f g =
+      let q : b ≡ blockAt c (from + i) = f ∙ ap (λ (z : List ℕ). blockAt z (from + i)) e ∙ copied-other i (from + i) (omega arith) (omega arith) (omega arith) in
+      rw add-one (g ∙ ap (λ (z : List ℕ). storeBlock z (to + i) b) e ∙ ap (storeBlock (after i) (to + i)) q ∙ sym (after-suc i))
+
+  pub copied-all : (n i : ℕ) (x : List ℕ) → x ≡ after i → i ≤ n → n ≤ i → x ≡ after n
+  copied-all n i x e h k = let q : i ≡ n = omega arith in rw (← q) e
+
+-- the copy, the new descriptor, the old one
+pub snapped : (c c₁ c₂ c₃ : List ℕ) (d o r e : Descriptor) (name : List ℕ) (k : ℕ) (opened closed : List ℕ) → k ≡ costOf d → o ≡ reopenedOf d → opened ≡ descriptorBlock o (tailAt c (d .alpha .0))
+    → r ≡ renamedOf d name → e ≡ linkedOf r (d .beta) → closed ≡ descriptorBlock e (tailAt c (d .alpha .0))
+    → c₁ ≡ storeAll c (copying c (d .alpha .0 + 1) (d .beta .0 + 1) (k - 1)) → c₂ ≡ storeBlock c₁ (d .beta .0) opened → c₃ ≡ storeBlock c₂ (d .alpha .0) closed
+    → c₃ ≡ storeAll c (snapping c d name)
+unfolding snapping storeAll
+snapped c c₁ c₂ c₃ d o r e name k opened closed k-is o-is opened-is r-is e-is closed-is p q s =
+    s
+    ∙ rw (q, p, opened-is, o-is, closed-is, e-is, r-is, k-is)
+    (sym
+    (stored-append c (copying c (d .alpha .0 + 1) (d .beta .0 + 1) (costOf d - 1))
+    (store (d .beta .0) (descriptorBlock (reopenedOf d) (tailAt c (d .alpha .0))) ∷ store (d .alpha .0) (descriptorBlock (linkedOf (renamedOf d name) (d .beta)) (tailAt c (d .alpha .0))) ∷ [])))
+
+-- the rows of a snap, in the order of the code
+module _ (c : List ℕ) (name : List ℕ) (bad : Bool) (area : bad ≡ areaBad c) where
+  pub snap-1 : bad ≡ true → answerOf (Snap name) c ≡ answer 1 0
+  unfolding answerOf rowsOf snapRows firstRow
+  snap-1 e = rw (← area, e)
+
+  module _ (card : bad ≡ false) (n : Bool) (called : n ≡ isName name) where
+    pub snap-4 : not n ≡ true → answerOf (Snap name) c ≡ answer 4 0
+    unfolding answerOf rowsOf snapRows firstRow
+    snap-4 h = rw (← area, card, ← called, h)
+
+    module _ (is-name : not n ≡ false) (r : Regions) (walked : r ≡ regionsOf (chain c)) where
+      pub snap-6 : not (r .sound) ≡ true → answerOf (Snap name) c ≡ answer 6 (r .place .0)
+      unfolding answerOf rowsOf snapRows firstRow
+      snap-6 h = let f = card-fault c r walked (not-true (r .sound) h) in rw (← area, card, ← called, is-name, f .0, f .1)
+
+      module _ (whole : not (r .sound) ≡ false) (u : Bool) (used : u ≡ named (descriptorsAt c (take (r .count) (r .starts))) name) where
+        good : areaBad c ≡ false
+        good = sym area ∙ card
+
+        ok : r .sound ≡ true
+        ok = not-false (r .sound) whole
+
+        used-is : named (descriptors (chain c)) name ≡ u
+        used-is = ap (λ (ds : List Descriptor). named ds name) (sym (card-all c r walked good ok)) ∙ sym used
+
+        pub snap-12 : u ≡ true → answerOf (Snap name) c ≡ answer 12 0
+        unfolding answerOf rowsOf snapRows firstRow
+        snap-12 e = rw (← area, card, ← called, is-name, card-sound c r walked ok, used-is, e)
+
+        module _ (unused : u ≡ false) where
+          pub snap-13 : 255 < r .count → answerOf (Snap name) c ≡ answer 13 0
+          unfolding answerOf rowsOf snapRows firstRow
+          snap-13 h = rw (← area, card, ← called, is-name, card-sound c r walked ok, used-is, unused, card-snapshot-count c r walked good ok, le-leb 255 (r .count - 1) (omega arith))
+
+          module _ (few : r .count ≤ 255) (d : Descriptor) (d-is : d ≡ descriptorAt c (getD (r .starts) (r .count - 1) 0)) (k : ℕ) (cost-is : k ≡ costOf d) where
+            rest : answerOf (Snap name) c ≡ pick (ltb (blockCount c) (d .beta .0 + costOf d)) (answer 11 0) accepted
+            unfolding answerOf rowsOf snapRows firstRow
+            rest =
+                rw (← area, card, ← called, is-name, card-sound c r walked ok, used-is, unused, card-snapshot-count c r walked good ok, lt-leb 255 (r .count - 1) (omega (arith, card-some c r walked good ok)), card-active c r walked good ok d d-is)
+
+            pub snap-11 : length c / 512 < d .beta .0 + k → answerOf (Snap name) c ≡ answer 11 0
+            unfolding blockCount
+            snap-11 h = rest ∙ rw (← cost-is, lt-ltb (length c / 512) (d .beta .0 + k) h)
+
+            pub snap-0 : d .beta .0 + k ≤ length c / 512 → answerOf (Snap name) c ≡ accepted
+            unfolding blockCount
+            snap-0 h = rest ∙ rw (← cost-is, le-ltb (length c / 512) (d .beta .0 + k) h)
+
+            pub snap-stores : (c′ : List ℕ) → c′ ≡ storeAll c (snapping c d name) → c′ ≡ storeAll c (storesOf (Snap name) c)
+            unfolding storesOf
+            snap-stores c′ e = e ∙ ap (λ (x : Descriptor). storeAll c (snapping c x name)) (card-active c r walked good ok d d-is)

@@ -1,0 +1,76 @@
+-- `copy_blocks` meets its contract: after i turns i blocks are copied, and those still to be copied are as they were.
+use mathlib.Core.Path.{_≡_, refl, _∙_}
+use Prim.Native.Nat.{ℕ, _≤_, _-_, _+_, _<_}
+use native.Mathlib.Omega.{arith}
+use lib.ListN.{length}
+use borrow.Author.Needs.{needs}
+use Rattle.blocks.specs.Bytes.{storeAll}
+use Rattle.blocks.specs.Descriptor.{copying}
+use Rattle.calls.proofs.SnapLaws.{copied-none, copied-more, copied-all}
+use Rattle.calls.proofs.snap.copy_blocks.Statement.{statement}
+use Rattle.calls.proofs.snap.copy_blocks.Tie as tie
+
+abbrev Inv-loop : tie.InvT-loop
+Inv-loop card₀ from to n i₀ card i = (i ≤ n) × (length card ≡ length card₀) × (card ≡ storeAll card₀ (copying card₀ from «to» i))
+
+abbrev μ-loop : tie.MeasureT-loop
+μ-loop card₀ from to n i₀ card i = n - i
+
+loop-holds : tie.Need-loop-holds Inv-loop μ-loop
+loop-holds c = (omega arith, refl, copied-none _ _ _)
+
+add-t12 : tie.Need-add-t12 Inv-loop μ-loop
+add-t12 c = omega arith
+
+load-block-requires : tie.Need-load-block-requires Inv-loop μ-loop
+load-block-requires c κs = omega (arith, c .before .before .loop .inv .1)
+
+add-t12-2 : tie.Need-add-t12-2 Inv-loop μ-loop
+add-t12-2 c = omega arith
+
+slice-aggregate-store-block : tie.Need-slice-aggregate-store-block Inv-loop μ-loop
+slice-aggregate-store-block c = search needs
+
+store-block-requires : tie.Need-store-block-requires Inv-loop μ-loop
+store-block-requires c κs = (search needs, omega (arith, c .before .before .before .before .before .loop .inv .1))
+
+add-i : tie.Need-add-i Inv-loop μ-loop
+add-i c = omega arith
+
+loop-less : tie.Need-loop-less Inv-loop μ-loop
+loop-less c = omega arith
+
+loop-again : tie.Need-loop-again Inv-loop μ-loop
+loop-again c =
+    let t = c .before .before in
+    let b = t .before .before .before in
+    let l = b .before .before .before in
+    let s = l .before .before in (
+      omega arith,
+      t .store-block .kept .0 ∙ l .loop .inv .1,
+      copied-more _ _ _ _ _ _ _ _ (omega arith) (s .pre .0) (s .pre .1) (l .loop .inv .2) (b .load-block .ensures) (t .store-block .ensures),
+    )
+
+same-length : tie.Need-same-length Inv-loop μ-loop
+same-length c = c .before .loop .inv .1
+
+returns : tie.Need-returns Inv-loop μ-loop
+returns c = search copied-all
+
+pub copy-blocks-spec : {M : Type 1} → statement M
+copy-blocks-spec =
+    tie.close
+    (tie.spec
+    Inv-loop
+    μ-loop
+    loop-holds
+    add-t12
+    load-block-requires
+    add-t12-2
+    slice-aggregate-store-block
+    store-block-requires
+    add-i
+    loop-less
+    loop-again
+    same-length
+    returns)
