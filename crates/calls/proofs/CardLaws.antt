@@ -50,7 +50,7 @@ regions-fault (Sound ds) r e h =
     let z : _≡_ {A = ℕ} 0 1 = cc in
     absurd (omega arith)
 
-regions-whole : (ch : Chain) (r : Regions) → r ≡ regionsOf ch → r .sound ≡ true
+pub regions-whole : (ch : Chain) (r : Regions) → r ≡ regionsOf ch → r .sound ≡ true
     → (chainSound ch ≡ true) × (regionsOf ch ≡ record { sound = true; place = physical 0; count = r .count; starts = r .starts })
 unfolding regionsOf chainSound
 regions-whole (Sound ds) r e h = (refl, rw e)

@@ -8,3 +8,4 @@ pub mod CardLaws
 pub mod ReamLaws
 pub mod RevertLaws
 pub mod SnapLaws
+pub mod CheckCardLaws

@@ -4,3 +4,4 @@ pub mod area; // the tests that calls share
 pub mod ream; // the format
 pub mod revert; // back to a snapshot
 pub mod snap; // a snapshot
+pub mod check; // the check of a card

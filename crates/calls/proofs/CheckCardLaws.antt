@@ -1,0 +1,89 @@
+-- Laws of the check of a card, as the code asks them.
+use mathlib.Core.Path.{_≡_, refl, sym, ap, _∙_}
+use mathlib.Core.Bool.{Bool, true, false, not, _&&_, _||_}
+use mathlib.Core.List.{List, [], _∷_, _++_}
+use Prim.Native.Nat.{ℕ, zero, suc, _+_, _*_, _-_, _≤_, _<_}
+use native.Mathlib.Numerals.{add-one}
+use native.Mathlib.Omega.{arith}
+use lib.ListN.{length, drop, getD, drop-of-length-le}
+use lib.Seq.{drop-cons}
+use borrow.Author.Tests.{not-true, not-false}
+use Rattle.blocks.specs.Pick.{pick}
+use Rattle.blocks.specs.Descriptor.{physical, noDescriptor, descriptorAt}
+use Rattle.blocks.specs.Chain.{chain, chainSound, chainPlace, descriptors, regionsOf}
+use Rattle.blocks.specs.declared.numbers.Physical.{Physical}
+use Rattle.blocks.specs.declared.descriptor.Descriptor.{Descriptor}
+use Rattle.blocks.specs.declared.chain.Regions.{Regions}
+use Rattle.entries.specs.Through.{Through}
+use Rattle.entries.specs.Naming.{checkOne}
+use Rattle.entries.specs.declared.check.Verdict.{Verdict}
+use Rattle.entries.specs.declared.check.Verdict.the-variants.{Passed, Fault}
+use Rattle.calls.specs.Call.{Call, Check, answer, accepted}
+use Rattle.calls.specs.Parts.{areaBad}
+use Rattle.calls.specs.Check.{orElse, checkAll, checkCard, isFault, faultHolder}
+use Rattle.calls.specs.Ladder.{firstRow, checkRows, rowsOf, answerOf}
+use Rattle.calls.proofs.CardLaws.{card-fault, card-sound, card-count, card-at, card-inside, card-long, card-through}
+
+-- the verdict with k of the descriptors passed
+unfoldable pub checkFrom : List ℕ → ℕ → Verdict
+checkFrom c k = checkAll c (descriptors (chain c)) (drop k (descriptors (chain c)))
+
+module _ (c starts : List ℕ) (count : ℕ) (area : areaBad c ≡ false) (whole : regionsOf (chain c) ≡ record { sound = true; place = physical 0; count = count; starts = starts }) where
+  abbrev ds : List Descriptor
+  ds = descriptors (chain c)
+
+  abbrev regions : Regions
+  regions = record { sound = true; place = physical 0; count = count; starts = starts }
+
+  pub chain-inside : (k : ℕ) → k < count → 512 * getD starts k 0 + 512 ≤ length c
+  chain-inside k h = card-inside c regions (sym whole) area refl k h
+
+  pub chain-long : count ≤ length starts
+  chain-long = card-long c regions (sym whole) area refl
+
+  pub chain-through : (k : ℕ) → k < count → (d : Descriptor) → d ≡ descriptorAt c (getD starts k 0) → Through c starts count d
+  chain-through k h d e = card-through c regions (sym whole) area refl k h d e
+
+  pub check-start : checkCard c ≡ checkFrom c 0
+  unfolding checkCard checkFrom
+  check-start = refl
+
+  module _ (k : ℕ) (more : k < count) (d : Descriptor) (is : d ≡ descriptorAt c (getD starts k 0)) (v : Verdict) (one : v ≡ checkOne c ds d) where
+    check-step : checkFrom c k ≡ orElse v (checkFrom c (k + 1))
+    unfolding checkFrom checkAll
+    check-step =
+        let n : k < length ds = omega (arith, card-count c regions (sym whole) area refl) in
+        let e : getD ds k noDescriptor ≡ d = card-at c regions (sym whole) area refl k more ∙ sym is in
+        rw (add-one, drop-cons ds k noDescriptor n, e, ← one)
+
+    pub check-stop : (h : Physical) → v ≡ Fault h → checkFrom c k ≡ Fault h
+    unfolding orElse
+    check-stop h e = check-step ∙ rw e
+
+    pub check-more : v ≡ Passed → checkFrom c k ≡ checkFrom c (k + 1)
+    unfolding orElse
+    check-more e = check-step ∙ rw e
+
+  pub check-end : (k : ℕ) → count ≤ k → checkFrom c k ≡ Passed
+  unfolding checkFrom checkAll
+  check-end k h = rw (drop-of-length-le ds {i = k} (omega (arith, card-count c regions (sym whole) area refl)))
+
+-- the rows of a check, in the order of the code
+module _ (c : List ℕ) (bad : Bool) (area : bad ≡ areaBad c) where
+  pub check-1 : bad ≡ true → answerOf Check c ≡ answer 1 0
+  unfolding answerOf rowsOf checkRows firstRow
+  check-1 e = rw (← area, e)
+
+  module _ (card : bad ≡ false) (r : Regions) (walked : r ≡ regionsOf (chain c)) where
+    pub check-6 : not (r .sound) ≡ true → answerOf Check c ≡ answer 6 (r .place .0)
+    unfolding answerOf rowsOf checkRows firstRow
+    check-6 h = let f = card-fault c r walked (not-true (r .sound) h) in rw (← area, card, f .0, f .1)
+
+    module _ (whole : not (r .sound) ≡ false) (v : Verdict) (verdict : v ≡ checkCard c) where
+      pub check-0 : v ≡ Passed → answerOf Check c ≡ accepted
+      unfolding answerOf rowsOf checkRows firstRow isFault
+      check-0 e = rw (← area, card, card-sound c r walked (not-false (r .sound) whole), ← verdict, e)
+
+      pub check-10 : (h : Physical) → v ≡ Fault h → answerOf Check c ≡ answer 10 (h .0)
+      unfolding answerOf rowsOf checkRows firstRow isFault faultHolder
+      check-10 h e = rw (← area, card, card-sound c r walked (not-false (r .sound) whole), ← verdict, e)

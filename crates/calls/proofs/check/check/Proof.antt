@@ -1,0 +1,68 @@
+-- `check` meets its contract, row by row.
+use mathlib.Core.Path.{_≡_, refl, sym, _∙_}
+use borrow.Author.Tests.{not-false}
+use Rattle.calls.specs.Effect.{lentOf, filledOf, storesOf}
+use Rattle.blocks.specs.Bytes.{storeAll}
+use Rattle.calls.proofs.StepLaws.{step-refused, step-accepted}
+use Rattle.calls.proofs.CardLaws.{regions-whole}
+use Rattle.calls.proofs.CheckCardLaws.{check-1, check-6, check-0, check-10}
+use borrow.Author.Needs.{needs}
+use Rattle.calls.proofs.check.check.Statement.{statement}
+use Rattle.calls.proofs.check.check.Tie as tie
+
+is-bad-requires : tie.Need-is-bad-requires
+is-bad-requires c κs = search needs
+
+returns : tie.Need-returns
+unfolding lentOf
+returns c = step-refused _ _ _ _ (search check-1) refl
+
+walk-chain-requires : tie.Need-walk-chain-requires
+walk-chain-requires c κs = search needs
+
+returns-2 : tie.Need-returns-2
+unfolding lentOf
+returns-2 c = step-refused _ _ _ _ (search check-6) refl
+
+slice-aggregate-check-chain : tie.Need-slice-aggregate-check-chain
+slice-aggregate-check-chain c = search needs
+
+check-chain-requires : tie.Need-check-chain-requires
+check-chain-requires c κs =
+    let w = c .before .before .before .before in
+    (sym (w .before .before .is-bad .ensures) ∙ w .before .if1 .left, regions-whole _ _ (w .walk-chain .ensures) (not-false (w .walk-chain .result .sound) (c .before .if2 .left)) .1)
+
+enum-told : tie.Need-enum-told
+enum-told c = search needs
+
+enum-known-h : tie.Need-enum-known-h
+enum-known-h c = search needs
+
+returns-3 : tie.Need-returns-3
+unfolding filledOf storesOf storeAll
+returns-3 c =
+    let k = c .before .before in
+    let w = k .before .before .before .before .before in
+    step-accepted _ _ (check-0 _ _ (w .before .before .is-bad .ensures) (w .before .if1 .left) _ (w .walk-chain .ensures) (k .before .before .if2 .left) _ (k .check-chain .ensures) (cc)) _ refl _ refl
+
+returns-4 : tie.Need-returns-4
+unfolding lentOf
+returns-4 c =
+    let k = c .before .before .before in
+    let w = k .before .before .before .before .before in
+    step-refused _ _ _ _ (check-10 _ _ (w .before .before .is-bad .ensures) (w .before .if1 .left) _ (w .walk-chain .ensures) (k .before .before .if2 .left) _ (k .check-chain .ensures) _ (cc)) refl
+
+pub check-spec : {M : Type 1} → statement M
+check-spec =
+    tie.close
+    (tie.spec
+    is-bad-requires
+    returns
+    walk-chain-requires
+    returns-2
+    slice-aggregate-check-chain
+    check-chain-requires
+    enum-told
+    enum-known-h
+    returns-3
+    returns-4)
