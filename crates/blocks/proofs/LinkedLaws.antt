@@ -5,7 +5,7 @@ use mathlib.Core.List.{List, [], _∷_, _++_, append-nil}
 use Prim.Native.Nat.{ℕ, zero, suc, _+_, _*_, _-_, _≤_, _<_}
 use native.Mathlib.Numerals.{add-one}
 use native.Mathlib.Omega.{arith}
-use lib.ListN.{length, take, getD, replicate, List·getD-append, length-append}
+use lib.ListN.{length, take, getD, replicate, List·getD-append, length-append, length-replicate}
 use lib.Seq.{append-snoc, take-append-le}
 use lib.Dec.{eqb}
 use borrow.Author.Tests.{eqb-true, eqb-false}
@@ -183,3 +183,26 @@ module _ {c : List ℕ} where
   pub linked-some : {es : List Descriptor} {p : ℕ} {ds : List Descriptor} → Linked c es p ds → 0 < length ds
   linked-some (last is ok z) = omega arith
   linked-some (more is ok z rest) = omega arith
+
+-- a sound chain has at most 256 descriptors, so that its starts fill 257 places
+few-by : (c : List ℕ) (f : ℕ) (es ds : List Descriptor) (d : Descriptor) (p : ℕ) (s z : Bool) (rest : Chain) → (rest ≡ Sound ds → length ds ≤ length (es ++ (d ∷ [])) + f)
+    → pick s (pick z (Sound (es ++ (d ∷ []))) rest) (Unsound p) ≡ Sound ds → length ds ≤ length es + suc f
+few-by c f es ds d p true true rest more-of e = let q : es ++ (d ∷ []) ≡ ds = cc in omega (arith, length-append es (d ∷ []), ap length q)
+few-by c f es ds d p true false rest more-of e = omega (arith, more-of e, length-append es (d ∷ []))
+few-by c f es ds d p false z rest more-of e = let y : _≡_ {A = ℕ} 0 1 = cc in absurd (omega arith)
+
+walk-few : (c : List ℕ) (fuel : ℕ) (es : List Descriptor) (p : ℕ) (ds : List Descriptor) → chainFrom c fuel es p ≡ Sound ds → length ds ≤ length es + fuel
+unfolding chainFrom
+walk-few c zero es p ds e = let y : _≡_ {A = ℕ} 0 1 = cc in absurd (omega arith)
+walk-few c (suc f) es p ds e =
+    few-by c f es ds (descriptorAt c p) p (sound c es p) (eqb (descriptorAt c p .next .0) 0) (chainFrom c f (es ++ (descriptorAt c p ∷ [])) (descriptorAt c p .next .0))
+    (walk-few c f (es ++ (descriptorAt c p ∷ [])) (descriptorAt c p .next .0) ds) e
+
+pub chain-few : (c : List ℕ) (ds : List Descriptor) → chain c ≡ Sound ds → length ds ≤ 256
+unfolding chain
+chain-few c ds e = walk-few c 256 [] 0 ds e
+
+pub starts-full : (ds : List Descriptor) → length ds ≤ 256 → length (startsOf ds) ≡ 257
+unfolding startsOf
+starts-full ds h =
+    length-append (0 ∷ ends ds) (replicate (256 - length ds) 0) ∙ omega (arith, length-ends ds, length-replicate {A = ℕ} (256 - length ds) 0)

@@ -15,8 +15,8 @@ use Rattle.blocks.specs.Chain.{Chain, Unsound, Sound, chain, chainSound, chainP
 use Rattle.blocks.specs.declared.numbers.Physical.{Physical}
 use Rattle.blocks.specs.declared.descriptor.Descriptor.{Descriptor}
 use Rattle.blocks.specs.declared.chain.Regions.{Regions}
-use Rattle.blocks.proofs.ChainLaws.{cost-least}
-use Rattle.blocks.proofs.LinkedLaws.{Linked, chain-linked, regions-sound, starts-take, linked-some, RegionAt, at-alpha}
+use Rattle.blocks.proofs.ChainLaws.{region-volume}
+use Rattle.blocks.proofs.LinkedLaws.{Linked, chain-linked, regions-sound, starts-take, linked-some, chain-few, starts-full, RegionAt, at-alpha}
 use Rattle.entries.specs.Through.{Through}
 use Rattle.entries.proofs.RegionLaws.{through-at, through-region, through-rising}
 use Rattle.entries.proofs.EntryLaws.{through-alpha, through-beta, through-end}
@@ -104,6 +104,12 @@ module _ (c : List ℕ) (r : Regions) (is : r ≡ regionsOf (chain c)) where
     pub card-count : r .count ≡ length ds
     card-count = regions-are .1
 
+    pub card-few : r .count ≤ 256
+    card-few = omega (arith, chain-few c ds (regions-are .0), card-count)
+
+    pub card-starts : length (r .starts) ≡ 257
+    card-starts = ap length (regions-are .2) ∙ starts-full ds (omega (arith, card-few, card-count))
+
     pub card-some : 0 < r .count
     card-some = omega (arith, linked-some linked, card-count)
 
@@ -132,6 +138,16 @@ module _ (c : List ℕ) (r : Regions) (is : r ≡ regionsOf (chain c)) where
         e ∙ sym (card-at (r .count - 1) (omega (arith, card-some)))
         ∙ ap (λ (n : ℕ). getD ds (n - 1) noDescriptor) card-count
         ∙ sym (active-at ds (linked-some linked))
+
+    -- L is one for all descriptors
+    pub card-volume : (k : ℕ) → k < r .count → (d : Descriptor) → d ≡ descriptorAt c (getD (r .starts) k 0) → d .volume ≡ activeOf ds .volume
+    card-volume k h d e =
+        let last = descriptorAt c (getD (r .starts) (r .count - 1) 0) in
+        let one = through-region c (r .starts) (r .count) d (card-through k h d e) in
+        let other = through-region c (r .starts) (r .count) last (card-through (r .count - 1) (omega (arith, card-some)) last refl) in
+        region-volume (descriptorAt c 0) (blockCount c) _ d (one .region)
+        ∙ sym (region-volume (descriptorAt c 0) (blockCount c) _ last (other .region))
+        ∙ ap (λ (x : Descriptor). x .volume) (card-active last refl)
 
     pub card-snapshots : descriptorsAt c (take (r .count - 1) (r .starts)) ≡ snapshotsOf ds
     card-snapshots =

@@ -9,3 +9,4 @@ pub mod ReamLaws
 pub mod RevertLaws
 pub mod SnapLaws
 pub mod CheckCardLaws
+pub mod ReadLaws

@@ -3,14 +3,17 @@ use mathlib.Core.Bool.{Bool, true, false}
 use mathlib.Core.List.{List, [], _∷_, _++_}
 use Prim.Native.Nat.{ℕ, zero, suc, _+_, _-_}
 use lib.ListN.{length, drop}
+use Rattle.blocks.specs.Pick.{pick}
 use Rattle.blocks.specs.Bytes.{Store, store}
 use Rattle.blocks.specs.Descriptor.{physical, costOf, tailAt, descriptorBlock, renamedOf, linkedOf, reopenedOf, copying, opening}
 use Rattle.blocks.specs.declared.descriptor.Descriptor.{Descriptor}
 use Rattle.entries.specs.Entry.{writing}
+use Rattle.entries.specs.declared.find.Found.{Found}
+use Rattle.calls.specs.declared.answer.Answer.{Answer}
 use Rattle.calls.specs.declared.answer.Target.{Target}
 use Rattle.calls.specs.declared.answer.Record.{Record}
-use Rattle.calls.specs.Call.{Call, Ream, Read, Write, Snap, Revert, Listing, Check, Lent, None, Block, Records}
-use Rattle.calls.specs.Parts.{descriptorsOf, activeOf, snapshotsOf, withName, targetOf, foundThrough, blockFound}
+use Rattle.calls.specs.Call.{Call, Ream, Read, Write, Snap, Revert, Listing, Check, Lent, None, Block, Records, answer, accepted}
+use Rattle.calls.specs.Parts.{descriptorsOf, activeOf, snapshotsOf, withName, targetOf, foundThrough, isMisplaced, holderOf, blockFound}
 
 -- a snapshot of the active descriptor d: the copy at beta, tables first and rising, then the old descriptor under the visit's name, linked to the copy
 unfoldable pub snapping : List ℕ → Descriptor → List ℕ → List Store
@@ -41,6 +44,14 @@ recordOf d = record { name = d .name; alpha = d .alpha .0; beta = d .beta .0; ne
 unfoldable pub listed : List Descriptor → List Record → List Record
 listed [] rest = rest
 listed (d ∷ ds) rest = recordOf d ∷ listed ds rest
+
+-- what a read gives once its entry was looked for: the refusal of one that is not in place, or the block that was found
+pub record Delivered : Type 0 where
+  pub answer : Answer
+  pub block : List ℕ
+
+unfoldable pub delivered : List ℕ → Found → List ℕ → Delivered
+delivered c found block = pick (isMisplaced found) (record { answer = answer 10 (holderOf found); block = block }) (record { answer = accepted; block = blockFound c found })
 
 -- what is lent to a call, at entry
 unfoldable pub lentOf : Call → Lent

@@ -64,6 +64,11 @@ unfoldable pub targetOf : List Descriptor → Target → List ℕ → Descriptor
 targetOf ds Active name = activeOf ds
 targetOf ds Snapshot name = withName (snapshotsOf ds) name
 
+-- the same by its index in the chain, given the snapshots: the active one comes after them, and one more stands for no snapshot of the name
+unfoldable pub targetIndex : List Descriptor → Target → List ℕ → ℕ
+targetIndex snapshots Active name = length snapshots
+targetIndex snapshots Snapshot name = pick (eqb (indexOf snapshots name) (length snapshots)) (length snapshots + 1) (indexOf snapshots name)
+
 -- whether an entry followed is not in place, and the block that holds it
 unfoldable pub isMisplaced : Found → Bool
 isMisplaced (Misplaced h) = true

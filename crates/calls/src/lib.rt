@@ -5,3 +5,4 @@ pub mod ream; // the format
 pub mod revert; // back to a snapshot
 pub mod snap; // a snapshot
 pub mod check; // the check of a card
+pub mod read; // a read of one block

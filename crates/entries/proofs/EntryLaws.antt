@@ -16,7 +16,7 @@ use Rattle.blocks.specs.declared.descriptor.Descriptor.{Descriptor}
 use Rattle.blocks.proofs.SoundLaws.{form-most}
 use Rattle.blocks.proofs.ChainLaws.{cost-least}
 use Rattle.blocks.proofs.LinkedLaws.{at-alpha, at-long, at-end}
-use Rattle.entries.specs.InPlace.{regionOf, inPlaceAt, inPlace}
+use Rattle.entries.specs.InPlace.{isDescriptor, isTable, regionOf, inPlaceAt, inPlace}
 use Rattle.entries.specs.Entry.{phiAt, tableOf, entryAt, entryFound, find}
 use Rattle.entries.specs.Through.{RisingRegions, Through}
 use Rattle.entries.specs.declared.find.Found.{Found}
@@ -98,3 +98,40 @@ module _ (c starts : List ℕ) (count : ℕ) (d : Descriptor) (t : Through c sta
 
       pub find-layout-2 : not b ≡ false → (m .0 ≡ 0 → ⊥) → (r : Found) → r ≡ entryFound ds d (m .0) (entryAt c (m .0) (l % 128)) → r ≡ find c ds d l
       find-layout-2 e n r f = f ∙ sym (find-rest ∙ rw (not-false b e, ne-eqb (m .0) 0 n))
+
+-- an entry that was found is in place, and so on the card where it is set
+placed-by : (ds : List Descriptor) (d : Descriptor) (m q : ℕ) (m′ p : Physical) (t : Bool) → inPlace ds d q ≡ t → pick t (Entry (physical m) (physical q)) (Misplaced (physical m)) ≡ Entry m′ p → inPlace ds d (p .0) ≡ true
+placed-by ds d m q m′ p true h e = let k : physical q ≡ p = cc in let n : q ≡ p .0 = ap (λ (x : Physical). x .0) k in rw (← n) h
+placed-by ds d m q m′ p false h e = let z : _≡_ {A = ℕ} 0 1 = cc in absurd (omega arith)
+
+entry-found-placed : (ds : List Descriptor) (d : Descriptor) (m q : ℕ) (m′ p : Physical) → entryFound ds d m q ≡ Entry m′ p → inPlace ds d (p .0) ≡ true
+unfolding entryFound
+entry-found-placed ds d m q m′ p e = placed-by ds d m q m′ p (inPlace ds d q) refl e
+
+nil-placed : (ds : List Descriptor) (d : Descriptor) (p : Physical) (m′ : Physical) → Entry (physical 0) (physical 0) ≡ Entry m′ p → inPlace ds d (p .0) ≡ true
+unfolding inPlace
+nil-placed ds d p m′ e = let k : physical 0 ≡ p = cc in let n : 0 ≡ p .0 = ap (λ (x : Physical). x .0) k in rw (← n)
+
+find-by : (ds : List Descriptor) (d : Descriptor) (m q : ℕ) (m′ p : Physical) (o i z : Bool)
+    → pick o (entryFound ds d m q) (pick i (pick z (Entry (physical 0) (physical 0)) (entryFound ds d m q)) (Misplaced (d .alpha))) ≡ Entry m′ p → inPlace ds d (p .0) ≡ true
+find-by ds d m q m′ p true i z e = entry-found-placed ds d m q m′ p e
+find-by ds d m q m′ p false true true e = nil-placed ds d p m′ e
+find-by ds d m q m′ p false true false e = entry-found-placed ds d m q m′ p e
+find-by ds d m q m′ p false false z e = let y : _≡_ {A = ℕ} 0 1 = cc in absurd (omega arith)
+
+pub find-placed : (c : List ℕ) (ds : List Descriptor) (d : Descriptor) (l : ℕ) (m p : Physical) → find c ds d l ≡ Entry m p → inPlace ds d (p .0) ≡ true
+unfolding find
+find-placed c ds d l m p e =
+    find-by ds d (tableOf c d (l / 128)) (entryAt c (tableOf c d (l / 128)) (l % 128)) m p (eqb (d .layout) 1) (inPlace ds d (tableOf c d (l / 128))) (eqb (tableOf c d (l / 128)) 0) e
+
+below-by : (ds : List Descriptor) (d : Descriptor) (p : ℕ) (t : Bool) (o : Bool) → ltb p (d .beta .0) ≡ t → (t && o) ≡ true → p < d .beta .0
+below-by ds d p true o e h = ltb-true p (d .beta .0) e
+below-by ds d p false o e h = let y : _≡_ {A = ℕ} 0 1 = cc in absurd (omega arith)
+
+pub placed-below : (ds : List Descriptor) (d : Descriptor) (p : ℕ) → inPlace ds d p ≡ true → (p ≡ 0 → ⊥) → p < d .beta .0
+unfolding inPlace
+placed-below ds d p h n = below-by ds d p (ltb p (d .beta .0)) (not (isDescriptor ds p || isTable ds p)) refl (rw (ne-eqb p 0 n) at h)
+
+pub found-inside : (c starts : List ℕ) (count : ℕ) (d : Descriptor) → Through c starts count d → (l : ℕ) (f : Found) → f ≡ find c (descriptors (chain c)) d l → (m p : Physical) → f ≡ Entry m p → (p .0 ≡ 0 → ⊥) → 512 * p .0 + 512 ≤ length c
+found-inside c starts count d t l f is m p e n =
+    omega (arith, placed-below (descriptors (chain c)) d (p .0) (find-placed c (descriptors (chain c)) d l m p (sym is ∙ e)) n, through-end c starts count d t)

@@ -7,7 +7,7 @@ use lib.ListN.{length}
 use borrow.Author.Tests.{not-true, not-false}
 use Rattle.calls.specs.Effect.{lentOf, filledOf}
 use Rattle.calls.proofs.StepLaws.{step-refused, step-accepted}
-use Rattle.calls.proofs.CardLaws.{card-some, card-inside, card-long}
+use Rattle.calls.proofs.CardLaws.{card-some, card-few, card-inside, card-long}
 use Rattle.calls.proofs.RevertLaws.{revert-1, revert-4, revert-6, revert-7, revert-0, reverted}
 use borrow.Author.Needs.{needs}
 use Rattle.calls.proofs.revert.revert.Statement.{statement}
@@ -78,8 +78,7 @@ mul-p c =
     let e = w .before .before .before .before in
     let good = sym (e .before .is-bad .ensures) ∙ e .if1 .left in
     let ok = not-false (w .walk-chain .result .sound) (c .before .before .before .before .if3 .left) in
-    let long : length (w .walk-chain .result .starts) ≡ 257 = search needs in
-    omega (arith, card-long _ _ (w .walk-chain .ensures) good ok, card-some _ _ (w .walk-chain .ensures) good ok, c .before .index-of .ensures .1)
+    omega (arith, card-few _ _ (w .walk-chain .ensures) good ok, card-some _ _ (w .walk-chain .ensures) good ok, c .before .index-of .ensures .1)
 
 array-read-p : tie.Need-array-read-p
 array-read-p c =
@@ -87,8 +86,7 @@ array-read-p c =
     let e = w .before .before .before .before in
     let good = sym (e .before .is-bad .ensures) ∙ e .if1 .left in
     let ok = not-false (w .walk-chain .result .sound) (c .before .before .before .before .if3 .left) in
-    let long : length (w .walk-chain .result .starts) ≡ 257 = search needs in
-    omega (arith, card-long _ _ (w .walk-chain .ensures) good ok, card-some _ _ (w .walk-chain .ensures) good ok, c .before .index-of .ensures .1)
+    omega (arith, card-few _ _ (w .walk-chain .ensures) good ok, card-some _ _ (w .walk-chain .ensures) good ok, c .before .index-of .ensures .1)
 
 mul-q : tie.Need-mul-q
 mul-q c =
@@ -96,8 +94,7 @@ mul-q c =
     let e = w .before .before .before .before in
     let good = sym (e .before .is-bad .ensures) ∙ e .if1 .left in
     let ok = not-false (w .walk-chain .result .sound) (c .before .before .before .before .if3 .left) in
-    let long : length (w .walk-chain .result .starts) ≡ 257 = search needs in
-    omega (arith, card-long _ _ (w .walk-chain .ensures) good ok, card-some _ _ (w .walk-chain .ensures) good ok, c .before .index-of .ensures .1)
+    omega (arith, card-few _ _ (w .walk-chain .ensures) good ok, card-some _ _ (w .walk-chain .ensures) good ok, c .before .index-of .ensures .1)
 
 array-read-q : tie.Need-array-read-q
 array-read-q c =
@@ -105,8 +102,7 @@ array-read-q c =
     let e = w .before .before .before .before in
     let good = sym (e .before .is-bad .ensures) ∙ e .if1 .left in
     let ok = not-false (w .walk-chain .result .sound) (c .before .before .before .before .if3 .left) in
-    let long : length (w .walk-chain .result .starts) ≡ 257 = search needs in
-    omega (arith, card-long _ _ (w .walk-chain .ensures) good ok, card-some _ _ (w .walk-chain .ensures) good ok, c .before .index-of .ensures .1)
+    omega (arith, card-few _ _ (w .walk-chain .ensures) good ok, card-some _ _ (w .walk-chain .ensures) good ok, c .before .index-of .ensures .1)
 
 make-active-requires : tie.Need-make-active-requires
 make-active-requires c κs =

@@ -1,0 +1,196 @@
+-- Laws of the read, as the code asks them.
+use mathlib.Core.Path.{_≡_, refl, sym, ap, _∙_}
+use mathlib.Core.Bool.{Bool, true, false, not, _&&_, _||_}
+use mathlib.Core.List.{List, [], _∷_, _++_}
+use Prim.Native.Nat.{ℕ, zero, suc, _+_, _*_, _-_, _≤_, _<_}
+use native.Mathlib.Omega.{arith}
+use lib.ListN.{length, take, getD}
+use lib.Seq.{length-take-le}
+use lib.Dec.{eqb, ltb, leb}
+use borrow.Author.Tests.{eq-eqb, ne-eqb, lt-ltb, le-ltb, le-leb, lt-leb, eqb-true, eqb-false, not-true, not-false}
+use Rattle.blocks.specs.Pick.{pick, same}
+use Rattle.blocks.specs.Bytes.{blockAt, zeroBlock, splice, storeAll}
+use Rattle.blocks.specs.Name.{isName}
+use Rattle.blocks.specs.Descriptor.{physical, noDescriptor, descriptorAt}
+use Rattle.blocks.specs.Chain.{chain, chainSound, chainPlace, descriptors, named, descriptorsAt, regionsOf}
+use Rattle.blocks.specs.declared.numbers.Physical.{Physical}
+use Rattle.blocks.specs.declared.descriptor.Descriptor.{Descriptor}
+use Rattle.blocks.specs.declared.chain.Regions.{Regions}
+use Rattle.blocks.proofs.ByteLaws.{splice-whole}
+use Rattle.blocks.proofs.ChainLaws.{length-descriptors}
+use Rattle.entries.specs.Entry.{find}
+use Rattle.entries.specs.declared.find.Found.{Found}
+use Rattle.entries.specs.declared.find.Found.the-variants.{Misplaced, Entry}
+use Rattle.calls.specs.declared.answer.Answer.{Answer}
+use Rattle.calls.specs.declared.answer.Target.{Target}
+use Rattle.calls.specs.declared.answer.Target.the-variants.{Active, Snapshot}
+use Rattle.calls.specs.Call.{Call, Read, Lent, Block, answer, accepted}
+use Rattle.calls.specs.Parts.{areaBad, activeOf, snapshotsOf, withName, indexOf, isSnapshot, targetOf, targetIndex, isMisplaced, holderOf, blockFound}
+use Rattle.calls.specs.Ladder.{firstRow, readRows, rowsOf, answerOf}
+use Rattle.calls.specs.Effect.{Delivered, delivered, lentOf, filledOf, storesOf}
+use Rattle.calls.specs.Step.{Done, step}
+use Rattle.calls.proofs.NamedLaws.{named-index, with-name-index}
+use Rattle.calls.proofs.StepLaws.{step-refused, step-accepted}
+use Rattle.calls.proofs.CardLaws.{card-fault, card-sound, card-some, card-count, card-at, card-snapshots, card-snapshot-count, card-snapshot, card-active, card-volume}
+
+-- the index of what is read
+pub snapshots-counted : (c starts : List ℕ) (n : ℕ) → n ≤ length starts → length (descriptorsAt c (take n starts)) ≡ n
+snapshots-counted c starts n h = length-descriptors c (take n starts) ∙ length-take-le n starts h
+
+module _ (ss : List Descriptor) (name : List ℕ) (n : ℕ) (counted : length ss ≡ n) where
+  pub index-active : n ≡ targetIndex ss Active name
+  unfolding targetIndex
+  index-active = sym counted
+
+  pub index-none : (k : ℕ) → k ≡ indexOf ss name → k ≡ n → n + 1 ≡ targetIndex ss Snapshot name
+  unfolding targetIndex
+  index-none k e h = rw (← e, counted, eq-eqb k n h)
+
+  pub index-some : (k : ℕ) → k ≡ indexOf ss name → (k ≡ n → ⊥) → k ≡ targetIndex ss Snapshot name
+  unfolding targetIndex
+  index-some k e h = rw (← e, counted, ne-eqb k n h)
+
+index-le-by : (t : Bool) (i n : ℕ) → i ≤ n → pick t 0 (suc i) ≤ suc n
+index-le-by true i n h = omega arith
+index-le-by false i n h = omega arith
+
+index-le : (ss : List Descriptor) (name : List ℕ) → indexOf ss name ≤ length ss
+unfolding indexOf
+index-le [] name = omega arith
+index-le (d ∷ ss) name = index-le-by (same (d .name) name) (indexOf ss name) (length ss) (index-le ss name)
+
+-- no snapshot has the name exactly where the index is past the chain
+module _ (ss : List Descriptor) (name : List ℕ) where
+  missing-by : (t : Bool) → eqb (indexOf ss name) (length ss) ≡ t → not (named ss name) ≡ eqb (pick t (length ss + 1) (indexOf ss name)) (length ss + 1)
+  missing-by true e = rw (named-index ss name, le-ltb (indexOf ss name) (length ss) (omega (arith, eqb-true (indexOf ss name) (length ss) e)), eq-eqb (length ss + 1) (length ss + 1) refl)
+  missing-by false e =
+      let l : indexOf ss name < length ss = omega (arith, index-le ss name, eqb-false (indexOf ss name) (length ss) e) in
+      rw (named-index ss name, lt-ltb (indexOf ss name) (length ss) l, ne-eqb (indexOf ss name) (length ss + 1) (omega arith))
+
+  pub missing-is : (target : Target) → (isSnapshot target && not (named ss name)) ≡ eqb (targetIndex ss target name) (length ss + 1)
+  unfolding targetIndex
+  missing-is Active = sym (ne-eqb (length ss) (length ss + 1) (omega arith))
+  missing-is Snapshot = missing-by (eqb (indexOf ss name) (length ss)) refl
+
+  found-by : (t : Bool) → eqb (indexOf ss name) (length ss) ≡ t → (pick t (length ss + 1) (indexOf ss name) ≡ length ss + 1 → ⊥)
+      → (indexOf ss name < length ss) × (pick t (length ss + 1) (indexOf ss name) ≡ indexOf ss name)
+  found-by true e h = absurd (h refl)
+  found-by false e h = (omega (arith, index-le ss name, eqb-false (indexOf ss name) (length ss) e), refl)
+
+  pub found-index : (targetIndex ss Snapshot name ≡ length ss + 1 → ⊥) → (indexOf ss name < length ss) × (targetIndex ss Snapshot name ≡ indexOf ss name)
+  unfolding targetIndex
+  found-index h = found-by (eqb (indexOf ss name) (length ss)) refl h
+
+-- what is delivered, case by case
+module _ (c : List ℕ) (f : Found) (out : List ℕ) where
+  pub deliver-misplaced : (h : Physical) → f ≡ Misplaced h → _≡_ {A = Delivered} (record { answer = answer 10 (h .0); block = out }) (delivered c f out)
+  unfolding delivered isMisplaced holderOf
+  deliver-misplaced h e = rw e
+
+  pub deliver-entry : (m p : Physical) → f ≡ Entry m p → (out′ : List ℕ) → out′ ≡ pick (eqb (p .0) 0) zeroBlock (blockAt c (p .0)) → _≡_ {A = Delivered} (record { answer = accepted; block = out′ }) (delivered c f out)
+  unfolding delivered isMisplaced blockFound
+  deliver-entry m p e out′ g = rw (e, g)
+
+-- the caller's block filled
+pub filled-nil : (c out out′ zeros : List ℕ) (p : ℕ) → p ≡ 0 → length out ≡ 512 → zeros ≡ zeroBlock → out′ ≡ splice out 0 zeros → out′ ≡ pick (eqb p 0) zeroBlock (blockAt c p)
+filled-nil c out out′ zeros p e l z s = s ∙ splice-whole out zeros (ap length z ∙ sym l) ∙ rw (eq-eqb p 0 e) z
+
+-- the rows of a read, in the order of the code
+module _ (c : List ℕ) (target : Target) (name : List ℕ) (l : ℕ) (block : List ℕ) (bad : Bool) (area : bad ≡ areaBad c) where
+  abbrev call : Call
+  call = Read target name l block
+
+  pub read-1 : bad ≡ true → answerOf call c ≡ answer 1 0
+  unfolding answerOf rowsOf readRows firstRow
+  read-1 e = rw (← area, e)
+
+  module _ (card : bad ≡ false) (u : Bool) (unnamed : u ≡ (isSnapshot target && not (isName name))) where
+    pub read-4 : u ≡ true → answerOf call c ≡ answer 4 0
+    unfolding answerOf rowsOf readRows firstRow
+    read-4 e = rw (← area, card, ← unnamed, e)
+
+    module _ (called : u ≡ false) where
+      pub read-9 : (length block ≡ 512 → ⊥) → answerOf call c ≡ answer 9 0
+      unfolding answerOf rowsOf readRows firstRow
+      read-9 h = rw (← area, card, ← unnamed, called, ne-eqb (length block) 512 h)
+
+      module _ (long : length block ≡ 512) (r : Regions) (walked : r ≡ regionsOf (chain c)) where
+        pub read-6 : not (r .sound) ≡ true → answerOf call c ≡ answer 6 (r .place .0)
+        unfolding answerOf rowsOf readRows firstRow
+        read-6 h = let f = card-fault c r walked (not-true (r .sound) h) in rw (← area, card, ← unnamed, called, eq-eqb (length block) 512 long, f .0, f .1)
+
+        module _ (whole : not (r .sound) ≡ false) (k : ℕ) (index : k ≡ targetIndex (descriptorsAt c (take (r .count - 1) (r .starts))) target name) where
+          abbrev ds : List Descriptor
+          ds = descriptors (chain c)
+
+          good : areaBad c ≡ false
+          good = sym area ∙ card
+
+          ok : r .sound ≡ true
+          ok = not-false (r .sound) whole
+
+          index-is : k ≡ targetIndex (snapshotsOf ds) target name
+          index-is = index ∙ ap (λ (ss : List Descriptor). targetIndex ss target name) (card-snapshots c r walked good ok)
+
+          count-is : length (snapshotsOf ds) + 1 ≡ r .count
+          count-is = omega (arith, card-snapshot-count c r walked good ok, card-some c r walked good ok)
+
+          missing : (isSnapshot target && not (named (snapshotsOf ds) name)) ≡ eqb k (r .count)
+          missing = missing-is (snapshotsOf ds) name target ∙ rw (← index-is, count-is)
+
+          pub read-7 : k ≡ r .count → answerOf call c ≡ answer 7 0
+          unfolding answerOf rowsOf readRows firstRow
+          read-7 e = rw (← area, card, ← unnamed, called, eq-eqb (length block) 512 long, card-sound c r walked ok, missing, eq-eqb k (r .count) e)
+
+          -- which descriptor is read
+          place-of : (t : Target) → k ≡ targetIndex (snapshotsOf ds) t name → (k ≡ r .count → ⊥) → (k < r .count) × (targetOf ds t name ≡ descriptorAt c (getD (r .starts) k 0))
+          unfolding targetOf targetIndex
+          place-of Active e n =
+              let q : k ≡ r .count - 1 = omega (arith, card-snapshot-count c r walked good ok) in
+              (omega (arith, card-some c r walked good ok), rw q (sym (card-active c r walked good ok (descriptorAt c (getD (r .starts) (r .count - 1) 0)) refl)))
+          place-of Snapshot e n =
+              let f = found-index (snapshotsOf ds) name (λ h. n (e ∙ h ∙ count-is)) in
+              let q : k ≡ indexOf (snapshotsOf ds) name = e ∙ f .1 in
+              let s : k < r .count - 1 = omega (arith, f .0, card-snapshot-count c r walked good ok) in
+              (omega arith, with-name-index (snapshotsOf ds) name ∙ rw (← q) (card-snapshot c r walked good ok k s))
+
+          pub index-inside : (k ≡ r .count → ⊥) → k < r .count
+          index-inside n = place-of target index-is n .0
+
+          module _ (some : k ≡ r .count → ⊥) (d : Descriptor) (d-is : d ≡ descriptorAt c (getD (r .starts) k 0)) where
+            target-is : targetOf ds target name ≡ d
+            target-is = place-of target index-is some .1 ∙ sym d-is
+
+            volume-is : activeOf ds .volume ≡ d .volume
+            volume-is = sym (card-volume c r walked good ok k (index-inside some) d d-is)
+
+            pub read-8 : d .volume ≤ l → answerOf call c ≡ answer 8 0
+            unfolding answerOf rowsOf readRows firstRow
+            read-8 h = rw (← area, card, ← unnamed, called, eq-eqb (length block) 512 long, card-sound c r walked ok, missing, ne-eqb k (r .count) some, volume-is, le-leb (d .volume) l h)
+
+            module _ (below : l < d .volume) where
+              abbrev found : Found
+              found = find c ds d l
+
+              rest : answerOf call c ≡ pick (isMisplaced found) (answer 10 (holderOf found)) accepted
+              unfolding answerOf rowsOf readRows firstRow
+              rest =
+                  rw (← area, card, ← unnamed, called, eq-eqb (length block) 512 long, card-sound c r walked ok, missing, ne-eqb k (r .count) some, volume-is, lt-leb (d .volume) l below, target-is)
+
+              done-by : (t : Bool) → isMisplaced found ≡ t → (a : Answer) (out : List ℕ)
+                  → _≡_ {A = Delivered} (record { answer = a; block = out }) (pick t (record { answer = answer 10 (holderOf found); block = block }) (record { answer = accepted; block = blockFound c found }))
+                  → _≡_ {A = Done} (record { outcome = record { answer = a; lent = Block out }; card = c }) (step call c)
+              unfolding lentOf filledOf storesOf storeAll
+              done-by true e a out h =
+                  let a-is : a ≡ answer 10 (holderOf found) = ap (λ (x : Delivered). x .answer) h in
+                  let out-is : out ≡ block = ap (λ (x : Delivered). x .block) h in
+                  rw (a-is, out-is) (step-refused call c 10 (holderOf found) (rest ∙ rw e) refl)
+              done-by false e a out h =
+                  let a-is : a ≡ accepted = ap (λ (x : Delivered). x .answer) h in
+                  let out-is : out ≡ blockFound c found = ap (λ (x : Delivered). x .block) h in
+                  rw (a-is, out-is) (step-accepted call c (rest ∙ rw e) (Block (blockFound c found)) (rw target-is) c refl)
+
+              pub read-done : (a : Answer) (out : List ℕ) → _≡_ {A = Delivered} (record { answer = a; block = out }) (delivered c found block)
+                  → _≡_ {A = Done} (record { outcome = record { answer = a; lent = Block out }; card = c }) (step call c)
+              unfolding delivered
+              read-done a out h = done-by (isMisplaced found) refl a out h
