@@ -8,7 +8,7 @@ use lib.Seq.{take-all, drop-drop}
 use Rattle.blocks.specs.Bytes.{u32At, le32, splice, part, blockAt, storeBlock}
 use Rattle.blocks.specs.Descriptor.{mark, descriptorAt, headBytes, tailAt, descriptorBlock}
 use Rattle.blocks.specs.declared.descriptor.Descriptor.{Descriptor}
-use Rattle.blocks.proofs.ByteLaws.{put-next, u32-within, part-within, digits, splice-start, length-part, part-part}
+use Rattle.blocks.proofs.ByteLaws.{put-next, u32-within, part-within, digits, splice-start, length-part, part-part, store-length, store-other}
 
 -- the fields, put one after the other from the start of a block
 pub head-put : (c₀ c₁ c₂ c₃ c₄ c₅ c₆ c₇ : List ℕ) (d : Descriptor) → 40 ≤ length c₀ → length (d .name) ≡ 16
@@ -107,3 +107,12 @@ module _ (d : Descriptor) (f : Fits d) where
 pub block-length : (c : List ℕ) (p : ℕ) (d : Descriptor) (b : List ℕ) → 512 * p + 512 ≤ length c → length (headBytes d) ≡ 40 → b ≡ descriptorBlock d (tailAt c p) → length b ≡ 512
 unfolding descriptorBlock
 block-length c p d b h n e = ap length e ∙ length-append (headBytes d) (tailAt c p) ∙ omega (arith, n, length-part c (512 * p + 40) 472 (omega arith))
+
+-- bytes 40 to 511 of a block, and what a store of another block leaves of them
+tail-block : (c : List ℕ) (p : ℕ) → 512 * p + 512 ≤ length c → part (blockAt c p) 40 472 ≡ tailAt c p
+unfolding blockAt
+tail-block c p h = part-part c (512 * p) 512 40 472 (omega arith) h
+
+pub store-tail : (c : List ℕ) (q : ℕ) (b : List ℕ) (p : ℕ) → length b ≡ 512 → 512 * q + 512 ≤ length c → 512 * p + 512 ≤ length c → (p ≡ q → ⊥) → tailAt (storeBlock c q b) p ≡ tailAt c p
+store-tail c q b p whole inside h n =
+    sym (tail-block (storeBlock c q b) p (rw (store-length c q b whole inside) h)) ∙ ap (λ (x : List ℕ). part x 40 472) (store-other c q b whole inside p n) ∙ tail-block c p h

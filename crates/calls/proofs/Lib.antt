@@ -10,3 +10,4 @@ pub mod RevertLaws
 pub mod SnapLaws
 pub mod CheckCardLaws
 pub mod ReadLaws
+pub mod WriteLaws

@@ -1,13 +1,15 @@
 -- The effect of each accepted call: the whole-block stores that it makes, in order, computed from the card at entry; and what it leaves in lent memory.
+use mathlib.Core.Path.{_≡_}
 use mathlib.Core.Bool.{Bool, true, false}
 use mathlib.Core.List.{List, [], _∷_, _++_}
-use Prim.Native.Nat.{ℕ, zero, suc, _+_, _-_}
+use Prim.Native.Nat.{ℕ, zero, suc, _+_, _*_, _-_, _≤_, _<_}
 use lib.ListN.{length, drop}
 use Rattle.blocks.specs.Pick.{pick}
-use Rattle.blocks.specs.Bytes.{Store, store}
-use Rattle.blocks.specs.Descriptor.{physical, costOf, tailAt, descriptorBlock, renamedOf, linkedOf, reopenedOf, copying, opening}
+use lib.Dec.{ltb}
+use Rattle.blocks.specs.Bytes.{blockSize, Store, store, blockCount, storeAll}
+use Rattle.blocks.specs.Descriptor.{physical, mostVolume, costOf, tailAt, descriptorBlock, renamedOf, linkedOf, reopenedOf, copying, opening}
 use Rattle.blocks.specs.declared.descriptor.Descriptor.{Descriptor}
-use Rattle.entries.specs.Entry.{writing}
+use Rattle.entries.specs.Entry.{need, writing}
 use Rattle.entries.specs.declared.find.Found.{Found}
 use Rattle.calls.specs.declared.answer.Answer.{Answer}
 use Rattle.calls.specs.declared.answer.Target.{Target}
@@ -52,6 +54,27 @@ pub record Delivered : Type 0 where
 
 unfoldable pub delivered : List ℕ → Found → List ℕ → Delivered
 delivered c found block = pick (isMisplaced found) (record { answer = answer 10 (holderOf found); block = block }) (record { answer = accepted; block = blockFound c found })
+
+-- what a write does once its entry was found: the refusal for want of room, or its stores
+pub record Written : Type 0 where
+  pub answer : Answer
+  pub card : List ℕ
+
+unfoldable pub written : List ℕ → Descriptor → Found → ℕ → List ℕ → Written
+written c d found l block =
+    pick (ltb (blockCount c) (d .beta .0 + need (d .alpha .0) found))
+    (record { answer = answer 11 0; card = c })
+    (record { answer = accepted; card = storeAll c (writing c d found l block) })
+
+-- what the code that writes through a found entry must know: the blocks are on a card of at most 65,536, the entry and its table are below beta
+pub record WriteReady (c : List ℕ) (d : Descriptor) (m p l : ℕ) (block : List ℕ) : Type 0 where
+  pub small : length c ≤ 33554432
+  pub region : d .alpha .0 < d .beta .0
+  pub upto : blockSize * d .beta .0 ≤ length c
+  pub table : m < d .beta .0
+  pub entry : (p ≡ 0 → ⊥) → p < d .beta .0
+  pub number : l < mostVolume
+  pub whole : length block ≡ blockSize
 
 -- what is lent to a call, at entry
 unfoldable pub lentOf : Call → Lent

@@ -6,3 +6,4 @@ pub mod revert; // back to a snapshot
 pub mod snap; // a snapshot
 pub mod check; // the check of a card
 pub mod read; // a read of one block
+pub mod write; // a write of one block

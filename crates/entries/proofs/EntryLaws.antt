@@ -6,7 +6,7 @@ use Prim.Native.Nat.{ℕ, _+_, _*_, _/_, _%_, _≤_, _<_, _^_}
 use native.Mathlib.Omega.{arith}
 use lib.ListN.{length, getD}
 use lib.Dec.{eqb, ltb, leb}
-use borrow.Author.Tests.{eq-eqb, ne-eqb, le-ltb, not-true, not-false, ltb-true, ltb-false}
+use borrow.Author.Tests.{eq-eqb, ne-eqb, le-ltb, not-true, not-false, ltb-true, ltb-false, eqb-true, eqb-false}
 use Rattle.blocks.specs.Pick.{pick}
 use Rattle.blocks.specs.Bytes.{blockCount}
 use Rattle.blocks.specs.Descriptor.{physical, tableCount, cost, costOf, descriptorAt}
@@ -135,3 +135,37 @@ placed-below ds d p h n = below-by ds d p (ltb p (d .beta .0)) (not (isDescripto
 pub found-inside : (c starts : List ℕ) (count : ℕ) (d : Descriptor) → Through c starts count d → (l : ℕ) (f : Found) → f ≡ find c (descriptors (chain c)) d l → (m p : Physical) → f ≡ Entry m p → (p .0 ≡ 0 → ⊥) → 512 * p .0 + 512 ≤ length c
 found-inside c starts count d t l f is m p e n =
     omega (arith, placed-below (descriptors (chain c)) d (p .0) (find-placed c (descriptors (chain c)) d l m p (sym is ∙ e)) n, through-end c starts count d t)
+
+-- the table block of an entry that was found is below beta
+table-is : (m′ p : Physical) (m q : ℕ) (t : Bool) → pick t (Entry (physical m) (physical q)) (Misplaced (physical m)) ≡ Entry m′ p → m′ .0 ≡ m
+table-is m′ p m q true e = let k : physical m ≡ m′ = cc in sym (ap (λ (x : Physical). x .0) k)
+table-is m′ p m q false e = let z : _≡_ {A = ℕ} 0 1 = cc in absurd (omega arith)
+
+entry-table : (ds : List Descriptor) (d : Descriptor) (m q : ℕ) (m′ p : Physical) → entryFound ds d m q ≡ Entry m′ p → m′ .0 ≡ m
+unfolding entryFound
+entry-table ds d m q m′ p e = table-is m′ p m q (inPlace ds d q) e
+
+nil-table : (m′ p : Physical) → Entry (physical 0) (physical 0) ≡ Entry m′ p → m′ .0 ≡ 0
+nil-table m′ p e = let k : physical 0 ≡ m′ = cc in sym (ap (λ (x : Physical). x .0) k)
+
+table-by : (ds : List Descriptor) (d : Descriptor) (m q : ℕ) (m′ p : Physical) (o i z : Bool) → 0 < d .beta .0 → (o ≡ true → m < d .beta .0) → inPlace ds d m ≡ i → eqb m 0 ≡ z
+    → pick o (entryFound ds d m q) (pick i (pick z (Entry (physical 0) (physical 0)) (entryFound ds d m q)) (Misplaced (d .alpha))) ≡ Entry m′ p → m′ .0 < d .beta .0
+table-by ds d m q m′ p true i z b f hi hz e = rw (entry-table ds d m q m′ p e) (f refl)
+table-by ds d m q m′ p false true true b f hi hz e = rw (nil-table m′ p e) b
+table-by ds d m q m′ p false true false b f hi hz e = rw (entry-table ds d m q m′ p e) (placed-below ds d m hi (eqb-false m 0 hz))
+table-by ds d m q m′ p false false z b f hi hz e = let y : _≡_ {A = ℕ} 0 1 = cc in absurd (omega arith)
+
+own-table : (c starts : List ℕ) (count : ℕ) (d : Descriptor) → Through c starts count d → (l : ℕ) → l < d .volume → d .layout ≡ 1 → tableOf c d (l / 128) < d .beta .0
+unfolding tableOf
+own-table c starts count d t l h e = rw (eq-eqb (d .layout) 1 e) (omega (arith, through-beta c starts count d t, cost-of-1 d e))
+
+pub found-table : (c starts : List ℕ) (count : ℕ) (d : Descriptor) → Through c starts count d → (l : ℕ) → l < d .volume → (f : Found) → f ≡ find c (descriptors (chain c)) d l → (m p : Physical) → f ≡ Entry m p → m .0 < d .beta .0
+unfolding find
+found-table c starts count d t l h f is m p e =
+    table-by (descriptors (chain c)) d (tableOf c d (l / 128)) (entryAt c (tableOf c d (l / 128)) (l % 128)) m p (eqb (d .layout) 1) (inPlace (descriptors (chain c)) d (tableOf c d (l / 128))) (eqb (tableOf c d (l / 128)) 0)
+    (omega (arith, through-beta c starts count d t, cost-least (d .layout) (d .volume)))
+    (λ o. own-table c starts count d t l h (eqb-true (d .layout) 1 o))
+    refl refl (sym is ∙ e)
+
+pub found-entry : (c starts : List ℕ) (count : ℕ) (d : Descriptor) → Through c starts count d → (l : ℕ) (f : Found) → f ≡ find c (descriptors (chain c)) d l → (m p : Physical) → f ≡ Entry m p → (p .0 ≡ 0 → ⊥) → p .0 < d .beta .0
+found-entry c starts count d t l f is m p e n = placed-below (descriptors (chain c)) d (p .0) (find-placed c (descriptors (chain c)) d l m p (sym is ∙ e)) n

@@ -1,0 +1,185 @@
+-- Laws of the write, as the code asks them.
+use mathlib.Core.Path.{_≡_, refl, sym, ap, _∙_}
+use mathlib.Core.Bool.{Bool, true, false, not, _&&_, _||_}
+use mathlib.Core.List.{List, [], _∷_, _++_}
+use Prim.Native.Nat.{ℕ, zero, suc, _+_, _*_, _-_, _/_, _≤_, _<_}
+use native.Mathlib.Omega.{arith}
+use lib.ListN.{length, take, getD}
+use lib.Dec.{eqb, ltb, leb}
+use borrow.Author.Tests.{eq-eqb, ne-eqb, lt-ltb, le-ltb, le-leb, lt-leb, eqb-false, not-true, not-false}
+use Rattle.blocks.specs.Pick.{pick}
+use Rattle.blocks.specs.Bytes.{Store, store, blockCount, blockAt, zeroBlock, storeBlock, storeAll}
+use Rattle.blocks.specs.Descriptor.{physical, costOf, noDescriptor, descriptorAt, tailAt, descriptorBlock}
+use Rattle.blocks.specs.Chain.{chain, chainSound, chainPlace, descriptors, regionsOf}
+use Rattle.blocks.specs.declared.numbers.Physical.{Physical}
+use Rattle.blocks.specs.declared.descriptor.Descriptor.{Descriptor}
+use Rattle.blocks.specs.declared.chain.Regions.{Regions}
+use Rattle.blocks.proofs.ChainLaws.{cost-least}
+use Rattle.blocks.proofs.ByteLaws.{store-other}
+use Rattle.blocks.proofs.DescriptorLaws.{store-tail}
+use Rattle.entries.specs.Through.{Through}
+use Rattle.entries.specs.Entry.{find, tableIsNew, need, setInTable, setInNewTable, writing}
+use Rattle.entries.specs.declared.find.Found.{Found}
+use Rattle.entries.specs.declared.find.Found.the-variants.{Misplaced, Entry}
+use Rattle.entries.proofs.EntryLaws.{through-beta, through-end, through-volume, found-table, found-entry}
+use Rattle.calls.specs.declared.answer.Answer.{Answer}
+use Rattle.calls.specs.Call.{Call, Write, Lent, Block, answer, accepted}
+use Rattle.calls.specs.Parts.{areaBad, activeOf, isMisplaced, holderOf}
+use Rattle.calls.specs.Ladder.{firstRow, writeRows, rowsOf, answerOf}
+use Rattle.calls.specs.Effect.{Written, written, WriteReady, lentOf, filledOf, storesOf}
+use Rattle.calls.specs.Step.{Done, step}
+use Rattle.calls.proofs.StepLaws.{step-refused, step-accepted}
+use Rattle.calls.proofs.CardLaws.{card-fault, card-sound, card-some, card-active, card-through, card-small}
+
+-- need, where a set entry is not overwritten, says whether the table block is new
+new-by : (s t : Bool) (n : ℕ) → n ≡ pick s 0 (pick t 2 1) → (n ≡ 0 → ⊥) → t ≡ eqb n 2
+new-by true t n e z = absurd (z e)
+new-by false true n e z = sym (eq-eqb n 2 e)
+new-by false false n e z = sym (ne-eqb n 2 (omega arith))
+
+need-new : (alpha n : ℕ) (m p : Physical) → n ≡ need alpha (Entry m p) → (n ≡ 0 → ⊥) → tableIsNew alpha (m .0) ≡ eqb n 2
+unfolding need
+need-new alpha n m p e z = new-by (not (eqb (p .0) 0) && leb alpha (p .0)) (tableIsNew alpha (m .0)) n e z
+
+zero-by : (z a t : Bool) (n : ℕ) → n ≡ pick (not z && a) 0 (pick t 2 1) → n ≡ 0 → z ≡ false
+zero-by false a t n e h = refl
+zero-by true a true n e h = absurd (omega arith)
+zero-by true a false n e h = absurd (omega arith)
+
+need-none : (alpha n : ℕ) (m p : Physical) → n ≡ need alpha (Entry m p) → n ≡ 0 → p .0 ≡ 0 → ⊥
+unfolding need
+need-none alpha n m p e z q = eqb-false (p .0) 0 (zero-by (eqb (p .0) 0) (leb alpha (p .0)) (tableIsNew alpha (m .0)) n e z) q
+
+-- what is set is the same after the store of a block at or above beta
+module _ (c : List ℕ) (d : Descriptor) (m p l : ℕ) (block : List ℕ) (ready : WriteReady c d m p l block) (q : ℕ) (above : d .beta .0 ≤ q) (inside : 512 * q + 512 ≤ length c) where
+  abbrev after : List ℕ
+  after = storeBlock c q block
+
+  tail-kept : tailAt after (d .alpha .0) ≡ tailAt c (d .alpha .0)
+  tail-kept = store-tail c q block (d .alpha .0) (ready .whole) inside (omega (arith, ready .region, ready .upto)) (omega (arith, ready .region))
+
+  table-kept : blockAt after m ≡ blockAt c m
+  table-kept = store-other c q block (ready .whole) inside m (omega (arith, ready .table))
+
+  set-kept : setInTable after d m l ≡ setInTable c d m l
+  unfolding setInTable
+  set-kept = rw (tail-kept, table-kept)
+
+  new-set-kept : setInNewTable after d m l ≡ setInNewTable c d m l
+  unfolding setInNewTable
+  new-set-kept = rw (tail-kept, table-kept)
+
+-- a write through an entry, by the tests of the code
+module _ (c : List ℕ) (d : Descriptor) (m p : Physical) (l : ℕ) (block : List ℕ) (ready : WriteReady c d (m .0) (p .0) l block) (n : ℕ) (need-is : n ≡ need (d .alpha .0) (Entry m p)) where
+  pub put-11 : length c / 512 < d .beta .0 + n → _≡_ {A = Written} (record { answer = answer 11 0; card = c }) (written c d (Entry m p) l block)
+  unfolding written blockCount
+  put-11 h = rw (← need-is, lt-ltb (length c / 512) (d .beta .0 + n) h)
+
+  pub put-inside : n ≡ 0 → (length block ≡ 512) × (512 * p .0 + 512 ≤ length c)
+  put-inside z = (ready .whole, omega (arith, ready .entry (need-none (d .alpha .0) n m p need-is z), ready .upto))
+
+  module _ (room : d .beta .0 + n ≤ length c / 512) where
+    put-room : (c′ : List ℕ) → c′ ≡ storeAll c (writing c d (Entry m p) l block) → _≡_ {A = Written} (record { answer = accepted; card = c′ }) (written c d (Entry m p) l block)
+    unfolding written blockCount
+    put-room c′ e = rw (← need-is, le-ltb (length c / 512) (d .beta .0 + n) room, e)
+
+    pub put-0 : n ≡ 0 → (c′ : List ℕ) → c′ ≡ storeBlock c (p .0) block → _≡_ {A = Written} (record { answer = accepted; card = c′ }) (written c d (Entry m p) l block)
+    unfolding writing storeAll
+    put-0 z c′ e = put-room c′ (e ∙ rw (← need-is, z))
+
+    module _ (some : n ≡ 0 → ⊥) where
+      pub put-2 : n ≡ 2 → (c₁ c₂ : List ℕ) → c₁ ≡ storeBlock c (d .beta .0 + 1) block → c₂ ≡ storeAll c₁ (setInNewTable c₁ d (m .0) l) → _≡_ {A = Written} (record { answer = accepted; card = c₂ }) (written c d (Entry m p) l block)
+      unfolding writing storeAll
+      put-2 z c₁ c₂ e f =
+          let kept = new-set-kept c d (m .0) (p .0) l block ready (d .beta .0 + 1) (omega arith) (omega (arith, ready .upto)) in
+          put-room c₂
+          (f ∙ ap (λ (x : List ℕ). storeAll x (setInNewTable x d (m .0) l)) e
+          ∙ ap (storeAll (storeBlock c (d .beta .0 + 1) block)) kept
+          ∙ rw (← need-is, ne-eqb n 0 some, need-new (d .alpha .0) n m p need-is some, eq-eqb n 2 z))
+
+      pub put-1 : (n ≡ 2 → ⊥) → (c₁ c₂ : List ℕ) → c₁ ≡ storeBlock c (d .beta .0) block → c₂ ≡ storeAll c₁ (setInTable c₁ d (m .0) l) → _≡_ {A = Written} (record { answer = accepted; card = c₂ }) (written c d (Entry m p) l block)
+      unfolding writing storeAll
+      put-1 z c₁ c₂ e f =
+          let kept = set-kept c d (m .0) (p .0) l block ready (d .beta .0) (omega arith) (omega (arith, some)) in
+          put-room c₂
+          (f ∙ ap (λ (x : List ℕ). storeAll x (setInTable x d (m .0) l)) e
+          ∙ ap (storeAll (storeBlock c (d .beta .0) block)) kept
+          ∙ rw (← need-is, ne-eqb n 0 some, need-new (d .alpha .0) n m p need-is some, ne-eqb n 2 z))
+
+-- the rows of a write, in the order of the code
+module _ (c : List ℕ) (l : ℕ) (block : List ℕ) (bad : Bool) (area : bad ≡ areaBad c) where
+  abbrev call : Call
+  call = Write l block
+
+  pub write-1 : bad ≡ true → answerOf call c ≡ answer 1 0
+  unfolding answerOf rowsOf writeRows firstRow
+  write-1 e = rw (← area, e)
+
+  module _ (card : bad ≡ false) where
+    pub write-9 : (length block ≡ 512 → ⊥) → answerOf call c ≡ answer 9 0
+    unfolding answerOf rowsOf writeRows firstRow
+    write-9 h = rw (← area, card, ne-eqb (length block) 512 h)
+
+    module _ (long : length block ≡ 512) (r : Regions) (walked : r ≡ regionsOf (chain c)) where
+      pub write-6 : not (r .sound) ≡ true → answerOf call c ≡ answer 6 (r .place .0)
+      unfolding answerOf rowsOf writeRows firstRow
+      write-6 h = let f = card-fault c r walked (not-true (r .sound) h) in rw (← area, card, eq-eqb (length block) 512 long, f .0, f .1)
+
+      module _ (whole : not (r .sound) ≡ false) (d : Descriptor) (d-is : d ≡ descriptorAt c (getD (r .starts) (r .count - 1) 0)) where
+        abbrev ds : List Descriptor
+        ds = descriptors (chain c)
+
+        good : areaBad c ≡ false
+        good = sym area ∙ card
+
+        ok : r .sound ≡ true
+        ok = not-false (r .sound) whole
+
+        active-is : activeOf ds ≡ d
+        active-is = sym (card-active c r walked good ok d d-is)
+
+        pub write-8 : d .volume ≤ l → answerOf call c ≡ answer 8 0
+        unfolding answerOf rowsOf writeRows firstRow
+        write-8 h = rw (← area, card, eq-eqb (length block) 512 long, card-sound c r walked ok, active-is, le-leb (d .volume) l h)
+
+        through : Through c (r .starts) (r .count) d
+        through = card-through c r walked good ok (r .count - 1) (omega (arith, card-some c r walked good ok)) d d-is
+
+        module _ (below : l < d .volume) (f : Found) (found-is : f ≡ find c ds d l) where
+          rest : answerOf call c ≡ pick (isMisplaced f) (answer 10 (holderOf f)) (pick (ltb (blockCount c) (d .beta .0 + need (d .alpha .0) f)) (answer 11 0) accepted)
+          unfolding answerOf rowsOf writeRows firstRow
+          rest = rw (← area, card, eq-eqb (length block) 512 long, card-sound c r walked ok, active-is, lt-leb (d .volume) l below, found-is)
+
+          pub write-10 : (h : Physical) → f ≡ Misplaced h → answerOf call c ≡ answer 10 (h .0)
+          unfolding isMisplaced holderOf
+          write-10 h e = rest ∙ rw e
+
+          pub write-ready : (m p : Physical) → f ≡ Entry m p → WriteReady c d (m .0) (p .0) l block
+          write-ready m p e =
+              record {
+                small = card-small c good;
+                region = omega (arith, through-beta c (r .starts) (r .count) d through, cost-least (d .layout) (d .volume));
+                upto = through-end c (r .starts) (r .count) d through;
+                table = found-table c (r .starts) (r .count) d through l below f found-is m p e;
+                entry = found-entry c (r .starts) (r .count) d through l f found-is m p e;
+                number = omega (arith, through-volume c (r .starts) (r .count) d through);
+                whole = long;
+              }
+
+          done-by : (t : Bool) → ltb (blockCount c) (d .beta .0 + need (d .alpha .0) f) ≡ t → isMisplaced f ≡ false → (a : Answer) (c′ : List ℕ)
+              → _≡_ {A = Written} (record { answer = a; card = c′ }) (pick t (record { answer = answer 11 0; card = c }) (record { answer = accepted; card = storeAll c (writing c d f l block) }))
+              → _≡_ {A = Done} (record { outcome = record { answer = a; lent = Block block }; card = c′ }) (step call c)
+          unfolding lentOf filledOf storesOf
+          done-by true e g a c′ h =
+              let a-is : a ≡ answer 11 0 = ap (λ (x : Written). x .answer) h in
+              let c-is : c′ ≡ c = ap (λ (x : Written). x .card) h in
+              rw (a-is, c-is) (step-refused call c 11 0 (rest ∙ rw (g, e)) refl)
+          done-by false e g a c′ h =
+              let a-is : a ≡ accepted = ap (λ (x : Written). x .answer) h in
+              let c-is : c′ ≡ storeAll c (writing c d f l block) = ap (λ (x : Written). x .card) h in
+              rw a-is (step-accepted call c (rest ∙ rw (g, e)) (Block block) refl c′ (c-is ∙ rw (active-is, found-is)))
+
+          pub write-done : (m p : Physical) → f ≡ Entry m p → (a : Answer) (c′ : List ℕ) → _≡_ {A = Written} (record { answer = a; card = c′ }) (written c d (Entry m p) l block)
+              → _≡_ {A = Done} (record { outcome = record { answer = a; lent = Block block }; card = c′ }) (step call c)
+          unfolding written isMisplaced
+          write-done m p e a c′ h = done-by (ltb (blockCount c) (d .beta .0 + need (d .alpha .0) f)) refl (rw e) a c′ (rw e h)
