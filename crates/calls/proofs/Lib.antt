@@ -11,3 +11,4 @@ pub mod SnapLaws
 pub mod CheckCardLaws
 pub mod ReadLaws
 pub mod WriteLaws
+pub mod Rows
