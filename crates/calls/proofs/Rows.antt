@@ -8,17 +8,20 @@ use Prim.Native.Nat.{ℕ, zero, suc, _+_, _≤_, _<_}
 use native.Mathlib.Omega.{arith}
 use lib.ListN.{length, getD}
 use lib.Dec.{eqb, ltb, leb}
-use borrow.Author.Tests.{eq-eqb, ne-eqb, eqb-true, eqb-false, ltb-true, not-true, not-false}
+use borrow.Author.Tests.{eq-eqb, ne-eqb, lt-ltb, le-ltb, le-leb, lt-leb, eqb-true, eqb-false, ltb-true, ltb-false, not-true, not-false}
 use Rattle.blocks.specs.Pick.{pick}
 use Rattle.blocks.specs.Bytes.{blockCount}
+use Rattle.blocks.specs.Name.{isName}
+use Rattle.blocks.specs.Descriptor.{cost}
+use Rattle.calls.specs.Parts.{areaBad}
 use Rattle.blocks.proofs.Tests.{and-left, and-right}
 use Rattle.calls.specs.declared.answer.Answer.{Answer}
 use Rattle.calls.specs.Call.{Call, Ream, Read, Write, Snap, Revert, Listing, Check, Outcome, answer, accepted}
 use Rattle.calls.specs.Ladder.{Row, row, firstRow, reamRows, readRows, writeRows, snapRows, revertRows, listRows, checkRows, rowsOf, answerOf}
-use Rattle.calls.specs.Effect.{lentOf}
+use Rattle.calls.specs.Effect.{lentOf, storesOf}
 use Rattle.calls.specs.Step.{step, isAccepted}
-use Rattle.calls.specs.History.{betaOf}
-use Rattle.calls.specs.Claims.{blocksNeeded, RefusalClaim, NoRoomClaim, TableClaim}
+use Rattle.calls.specs.History.{betaOf, formattable, formatted}
+use Rattle.calls.specs.Claims.{blocksNeeded, RefusalClaim, ReamClaim, NoRoomClaim, TableClaim}
 
 no : {A : Type 0} → false ≡ true → A
 no e = let z : _≡_ {A = ℕ} 0 1 = cc in absurd (omega arith)
@@ -143,3 +146,60 @@ refusal-claim k c =
       λ e. (rw e, rw e),
       λ e. rw e (all-passed (rowsOf k c) (none (rowsOf k c) (rows-numbered k c) (eqb-true (firstRow (rowsOf k c) .number) 0 e))),
     )
+
+-- a number that is given is that of a row that holds
+number-by : (r : Row) (rs : List Row) → numbered (r ∷ rs) ≡ true → (i : ℕ) → i < length (r ∷ rs) → ((n : ℕ) → n < length rs → firstRow rs .number ≡ at rs n .number → at rs n .holds ≡ true)
+    → (h : Bool) → r .holds ≡ h → pick h (answer (r .number) (r .place)) (firstRow rs) .number ≡ at (r ∷ rs) i .number → at (r ∷ rs) i .holds ≡ true
+number-by r rs is zero l later true q e = q
+number-by r rs is zero l later false q e = absurd (fresh-never rs (r .number) (head-own r rs is) (head-set r rs is) e)
+number-by r rs is (suc i) l later true q e = absurd (fresh-other rs (r .number) (head-own r rs is) i (omega arith) (sym e))
+number-by r rs is (suc i) l later false q e = later i (omega arith) e
+
+number-given : (rs : List Row) → numbered rs ≡ true → (i : ℕ) → i < length rs → firstRow rs .number ≡ at rs i .number → at rs i .holds ≡ true
+unfolding firstRow
+number-given [] is i l e = absurd (omega arith)
+number-given (r ∷ rs) is i l e = number-by r rs is i l (number-given rs (tail-numbered r rs is)) (r .holds) refl e
+
+-- 'no room' comes only if the blocks needed exceed those free
+pub no-room-claim : NoRoomClaim
+unfolding NoRoomClaim answerOf rowsOf reamRows readRows writeRows snapRows revertRows listRows checkRows fresh blocksNeeded betaOf
+no-room-claim (Ream layout volume name) c e = absurd (fresh-never (rowsOf (Ream layout volume name) c) 11 refl (omega arith) e)
+no-room-claim (Read target name l block) c e = absurd (fresh-never (rowsOf (Read target name l block) c) 11 refl (omega arith) e)
+no-room-claim (Write l block) c e = ltb-true _ _ (number-given (rowsOf (Write l block) c) (rows-numbered (Write l block) c) 5 (omega arith) e)
+no-room-claim (Snap name) c e = ltb-true _ _ (number-given (rowsOf (Snap name) c) (rows-numbered (Snap name) c) 5 (omega arith) e)
+no-room-claim (Revert name) c e = absurd (fresh-never (rowsOf (Revert name) c) 11 refl (omega arith) e)
+no-room-claim (Listing records) c e = absurd (fresh-never (rowsOf (Listing records) c) 11 refl (omega arith) e)
+no-room-claim Check c e = absurd (fresh-never (rowsOf Check c) 11 refl (omega arith) e)
+
+-- a ream is accepted exactly where the area can be formatted so
+ream-by : (a l z v n k : Bool) → isAccepted (pick a (answer 1 0) (pick (not l) (answer 2 0) (pick (z || v) (answer 3 0) (pick (not n) (answer 4 0) (pick k (answer 5 0) accepted))))) ≡ (not a && l && not z && not v && n && not k)
+ream-by true l z v n k = refl
+ream-by false false z v n k = refl
+ream-by false true true v n k = refl
+ream-by false true false true n k = refl
+ream-by false true false false false k = refl
+ream-by false true false false true true = refl
+ream-by false true false false true false = refl
+
+-- orders and their denials
+positive : (v : ℕ) (t : Bool) → eqb v 0 ≡ t → not t ≡ ltb 0 v
+positive v true e = sym (le-ltb 0 v (omega (arith, eqb-true v 0 e)))
+positive v false e = sym (lt-ltb 0 v (omega (arith, eqb-false v 0 e)))
+
+at-most : (v m : ℕ) (t : Bool) → ltb m v ≡ t → not t ≡ leb v m
+at-most v m true e = sym (lt-leb v m (ltb-true m v e))
+at-most v m false e = sym (le-leb v m (ltb-false m v e))
+
+ream-accepted : (area : List ℕ) (layout volume : ℕ) (name : List ℕ) → isAccepted (answerOf (Ream layout volume name) area) ≡ formattable area layout volume name
+unfolding answerOf rowsOf reamRows firstRow formattable
+ream-accepted area layout volume name =
+    ream-by (areaBad area) (eqb layout 1 || eqb layout 2) (eqb volume 0) (ltb 14336 volume) (isName name) (ltb (blockCount area) (cost layout volume))
+    ∙ rw (positive volume (eqb volume 0) refl, at-most volume 14336 (ltb 14336 volume) refl, at-most (cost layout volume) (blockCount area) (ltb (blockCount area) (cost layout volume)) refl)
+
+ream-formats : (area : List ℕ) (layout volume : ℕ) (name : List ℕ) → isAccepted (answerOf (Ream layout volume name) area) ≡ true → step (Ream layout volume name) area .card ≡ formatted area layout volume name
+unfolding step storesOf formatted
+ream-formats area layout volume name e = rw e
+
+pub ream-claim : ReamClaim
+unfolding ReamClaim
+ream-claim area layout volume name = (ream-accepted area layout volume name, λ e. ream-formats area layout volume name (ream-accepted area layout volume name ∙ e))
