@@ -12,3 +12,5 @@ pub mod CheckCardLaws
 pub mod ReadLaws
 pub mod WriteLaws
 pub mod Rows
+pub mod Local
+pub mod LocalEntries
