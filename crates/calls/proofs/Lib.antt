@@ -14,3 +14,4 @@ pub mod WriteLaws
 pub mod Rows
 pub mod Local
 pub mod LocalEntries
+pub mod Relinked

@@ -101,3 +101,60 @@ module _ (s t : List ℕ) (b : ℕ) (below : Below s t b) where
         where
           own-table : (i : ℕ) → i < tableCount (d .volume) → tableOf t d i < b
           own-table i l = own-at t d i e (omega (arith, region .own e, region .upto))
+
+-- the same entries before two lists of which nothing is told apart
+prefix-by : (ds : List Descriptor) (d : Descriptor) (before : List ℕ) (e : Naming) (xs ys : List Naming) → firstFault ds d (e .value ∷ before) xs ≡ firstFault ds d (e .value ∷ before) ys → firstFault ds d before (e ∷ xs) ≡ firstFault ds d before (e ∷ ys)
+unfolding firstFault
+prefix-by ds d before e xs ys h = rw h
+
+prefix-same : (ds : List Descriptor) (d : Descriptor) (es xs ys : List Naming) → ((before : List ℕ) → firstFault ds d before xs ≡ firstFault ds d before ys) → (before : List ℕ) → firstFault ds d before (es ++ xs) ≡ firstFault ds d before (es ++ ys)
+prefix-same ds d [] xs ys h before = h before
+prefix-same ds d (e ∷ es) xs ys h before = prefix-by ds d before e (es ++ xs) (es ++ ys) (prefix-same ds d es xs ys h (e .value ∷ before))
+
+-- an entry that is not at fault is in place
+placed-of : (p x y : Bool) → (not p || x || y) ≡ false → p ≡ true
+placed-of true x y e = refl
+placed-of false x y e = sym e
+
+pub fault-placed : (ds : List Descriptor) (d : Descriptor) (before : List ℕ) (e : Naming) → atFault ds d before e ≡ false → inPlace ds d (e .value) ≡ true
+unfolding atFault
+fault-placed ds d before e h =
+    placed-of (inPlace ds d (e .value)) (not (eqb (e .value) 0) && (not (e .counted) || among before (e .value)))
+    (eqb (d .layout) 2 && not (e .phi) && leb (d .alpha .0) (e .value) && ltb (e .holder) (d .alpha .0)) h
+
+module _ (s t : List ℕ) (b : ℕ) (below : Below s t b) (d : Descriptor) (region : Region d b) (ds : List Descriptor) where
+  -- the table that an entry of Phi names, where that entry is in place
+  table-by : (i m : ℕ) (k z : Bool) → eqb m 0 ≡ z → inPlace ds d m ≡ true → pick (k && not z) (tableNamings s d i m 128 0) [] ≡ pick (k && not z) (tableNamings t d i m 128 0) []
+  table-by i m true true e h = refl
+  table-by i m true false e h = local-table-namings s t b below d region ds i m (omega (arith, placed-below ds d m h (eqb-false m 0 e), region .upto)) 128 0 (omega arith)
+  table-by i m false z e h = refl
+
+  abbrev entry : ℕ → Naming
+  entry i = record { holder = d .alpha .0; value = phiAt t d i; counted = ltb i (tableCount (d .volume)); phi = true }
+
+  phi-by : (i : ℕ) (xs ys : List Naming) → ((before : List ℕ) → firstFault ds d before xs ≡ firstFault ds d before ys) → (before : List ℕ) (f : Bool) → atFault ds d before (entry i) ≡ f
+      → firstFault ds d before (entry i ∷ (pick (ltb i (tableCount (d .volume)) && not (eqb (phiAt t d i) 0)) (tableNamings s d i (phiAt t d i) 128 0) [] ++ xs))
+      ≡ firstFault ds d before (entry i ∷ (pick (ltb i (tableCount (d .volume)) && not (eqb (phiAt t d i) 0)) (tableNamings t d i (phiAt t d i) 128 0) [] ++ ys))
+  phi-by i xs ys h before true e = fault-here ds d before (entry i) _ e ∙ sym (fault-here ds d before (entry i) _ e)
+  phi-by i xs ys h before false e =
+      let same-table = table-by i (phiAt t d i) (ltb i (tableCount (d .volume))) (eqb (phiAt t d i) 0) refl (fault-placed ds d before (entry i) e) in
+      fault-later ds d before (entry i) _ e
+      ∙ ap (λ (l : List Naming). firstFault ds d (phiAt t d i ∷ before) (l ++ xs)) same-table
+      ∙ prefix-same ds d (pick (ltb i (tableCount (d .volume)) && not (eqb (phiAt t d i) 0)) (tableNamings t d i (phiAt t d i) 128 0) []) xs ys h (phiAt t d i ∷ before)
+      ∙ sym (fault-later ds d before (entry i) _ e)
+
+  local-phi-namings : (k i : ℕ) → k + i ≤ 112 → (before : List ℕ) → firstFault ds d before (phiNamings s d k i) ≡ firstFault ds d before (phiNamings t d k i)
+  unfolding phiNamings
+  local-phi-namings zero i h before = refl
+  local-phi-namings (suc k) i h before =
+      rw (local-phi s t b below d region i (omega arith))
+      (phi-by i (phiNamings s d k (suc i)) (phiNamings t d k (suc i)) (local-phi-namings k (suc i) (omega arith)) before (atFault ds d before (entry i)) refl)
+
+  check-by : (o : Bool) → eqb (d .layout) 1 ≡ o
+      → firstFault ds d [] (pick o (tablesNamings s d (tableCount (d .volume)) 0) (phiNamings s d 112 0)) ≡ firstFault ds d [] (pick o (tablesNamings t d (tableCount (d .volume)) 0) (phiNamings t d 112 0))
+  check-by true e = ap (firstFault ds d []) (local-tables s t b below d region ds (eqb-true (d .layout) 1 e) (tableCount (d .volume)) 0 (omega arith))
+  check-by false e = local-phi-namings 112 0 (omega arith) []
+
+  pub local-check : checkOne s ds d ≡ checkOne t ds d
+  unfolding checkOne namings
+  local-check = check-by (eqb (d .layout) 1) refl

@@ -132,8 +132,7 @@ pub table-claim : TableClaim
 unfolding TableClaim answerOf
 table-claim k c =
     let rs = rowsOf k c in
-    let is = rows-numbered k c in
-    (
+    let is = rows-numbered k c in (
       λ i l. (given rs is i l, gives rs i l),
       (λ e. none rs is (ap (λ (a : Answer). a .number) e), all-passed rs),
     )
@@ -141,11 +140,10 @@ table-claim k c =
 -- a refusal alters nothing
 pub refusal-claim : RefusalClaim
 unfolding RefusalClaim step answerOf
-refusal-claim k c =
-    (
-      λ e. (rw e, rw e),
-      λ e. rw e (all-passed (rowsOf k c) (none (rowsOf k c) (rows-numbered k c) (eqb-true (firstRow (rowsOf k c) .number) 0 e))),
-    )
+refusal-claim k c = (
+  λ e. (rw e, rw e),
+  λ e. rw e (all-passed (rowsOf k c) (none (rowsOf k c) (rows-numbered k c) (eqb-true (firstRow (rowsOf k c) .number) 0 e))),
+)
 
 -- a number that is given is that of a row that holds
 number-by : (r : Row) (rs : List Row) → numbered (r ∷ rs) ≡ true → (i : ℕ) → i < length (r ∷ rs) → ((n : ℕ) → n < length rs → firstRow rs .number ≡ at rs n .number → at rs n .holds ≡ true)
