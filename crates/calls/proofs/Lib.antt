@@ -15,3 +15,4 @@ pub mod Rows
 pub mod Local
 pub mod LocalEntries
 pub mod Relinked
+pub mod Agreement

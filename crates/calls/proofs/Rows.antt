@@ -128,6 +128,11 @@ unfolding firstRow
 all-passed [] f = refl
 all-passed (r ∷ rs) f = rw (f 0 (omega arith)) (all-passed rs (λ i l. f (suc i) (omega arith)))
 
+-- an accepted call: no row of it holds
+pub rows-passed : (k : Call) (c : List ℕ) → isAccepted (answerOf k c) ≡ true → (i : ℕ) → i < length (rowsOf k c) → getD (rowsOf k c) i (row false 0 0) .holds ≡ false
+unfolding answerOf
+rows-passed k c e = none (rowsOf k c) (rows-numbered k c) (eqb-true (firstRow (rowsOf k c) .number) 0 e)
+
 pub table-claim : TableClaim
 unfolding TableClaim answerOf
 table-claim k c =
