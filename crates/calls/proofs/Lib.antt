@@ -16,3 +16,4 @@ pub mod Local
 pub mod LocalEntries
 pub mod Relinked
 pub mod Agreement
+pub mod Stored
