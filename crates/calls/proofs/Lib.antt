@@ -17,3 +17,4 @@ pub mod LocalEntries
 pub mod Relinked
 pub mod Agreement
 pub mod Stored
+pub mod Changed

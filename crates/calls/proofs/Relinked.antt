@@ -22,9 +22,9 @@ use Rattle.blocks.proofs.DescriptorLaws.{Fits, head-length, read-back}
 use Rattle.blocks.proofs.LinkedLaws.{Linked, last, more, sound-region, sound-form, sound-alpha, sound-long, sound-next, linked-some, linked-low, regionStart, region-start-zero, region-start-suc}
 use Rattle.calls.proofs.Local.{shared-descriptor, shared-sound}
 
--- the descriptors before the one at d stay, where the blocks before it do
-module _ (s t : List ℕ) (long : length s ≡ length t) where
-  first-alpha : {es : List Descriptor} {p : ℕ} {ds : List Descriptor} → Linked s es p ds → (d : Descriptor) (ys : List Descriptor) → ds ≡ d ∷ ys → d .alpha .0 ≡ p
+-- where the descriptors of a chain stand
+module _ (s : List ℕ) where
+  pub first-alpha : {es : List Descriptor} {p : ℕ} {ds : List Descriptor} → Linked s es p ds → (d : Descriptor) (ys : List Descriptor) → ds ≡ d ∷ ys → d .alpha .0 ≡ p
   first-alpha (last {es = es} {p = p} {d = e} is ok z) d ys q = let k : e ≡ d = cc in rw (← k) (sound-alpha s es p e is ok)
   first-alpha (more {es = es} {p = p} {d = e} is ok z rest) d ys q = let k : e ≡ d = cc in rw (← k) (sound-alpha s es p e is ok)
 
@@ -35,6 +35,23 @@ module _ (s t : List ℕ) (long : length s ≡ length t) where
       let k : ds ≡ xs ++ (d ∷ ys) = cc in
       omega (arith, later-alpha rest xs d ys k, sound-long s es p e is ok, sound-next s es p e is ok z)
 
+  -- the chain from one of its descriptors on
+  pub linked-from : {es : List Descriptor} {p : ℕ} {ds : List Descriptor} → Linked s es p ds → (xs : List Descriptor) (d : Descriptor) (ys : List Descriptor) → ds ≡ xs ++ (d ∷ ys)
+      → Linked s (es ++ xs) (d .alpha .0) (d ∷ ys)
+  linked-from {es = es} {p = p} h [] d ys q =
+      rw (append-nil es) (subst (λ (n : ℕ). Linked s es n (d ∷ ys)) (sym (first-alpha h d ys q)) (subst (λ (x : List Descriptor). Linked s es p x) q h))
+  linked-from (last is ok z) (x ∷ xs) d ys q = absurd (omega (arith, ap length q, length-append xs (d ∷ ys)))
+  linked-from (more {es = es} {p = p} {d = e} {ds = ds} is ok z rest) (x ∷ xs) d ys q =
+      let k : ds ≡ xs ++ (d ∷ ys) = cc in
+      let x-is : e ≡ x = cc in
+      rw (← x-is, ← (append-snoc es e xs)) (linked-from rest xs d ys k)
+
+  pub linked-head : {es : List Descriptor} {p : ℕ} {ds : List Descriptor} → Linked s es p ds → (d : Descriptor) (ys : List Descriptor) → ds ≡ d ∷ ys → (d ≡ descriptorAt s p) × (sound s es p ≡ true)
+  linked-head (last {d = e} is ok z) d ys q = let k : e ≡ d = cc in (sym k ∙ is, ok)
+  linked-head (more {d = e} is ok z rest) d ys q = let k : e ≡ d = cc in (sym k ∙ is, ok)
+
+-- the descriptors before the one at d stay, where the blocks before it do
+module _ (s t : List ℕ) (long : length s ≡ length t) where
   module _ (d : Descriptor) (ys zs : List Descriptor) (inside : 512 * d .alpha .0 ≤ length s) (kept : (q : ℕ) → q < d .alpha .0 → blockAt s q ≡ blockAt t q) where
     kept-descriptor : (q : ℕ) → q < d .alpha .0 → descriptorAt s q ≡ descriptorAt t q
     kept-descriptor q h = shared-descriptor s t q (omega arith) (omega arith) (kept q h)
@@ -45,12 +62,12 @@ module _ (s t : List ℕ) (long : length s ≡ length t) where
         shared-sound s t q (omega arith) (omega arith) (kept q h) long (ap (λ (x : Descriptor). x .layout) first) (ap (λ (x : Descriptor). x .volume) first) es
 
     pub relinked : {es : List Descriptor} {p : ℕ} {ds : List Descriptor} → Linked s es p ds → (xs : List Descriptor) → ds ≡ xs ++ (d ∷ ys) → Linked t (es ++ xs) (d .alpha .0) zs → Linked t es p (xs ++ zs)
-    relinked {es = es} h [] q new = rw (← (append-nil es), ← (first-alpha h d ys q)) new
+    relinked {es = es} h [] q new = rw (← (append-nil es), ← (first-alpha s h d ys q)) new
     relinked (last is ok z) (x ∷ xs) q new = absurd (omega (arith, ap length q, length-append xs (d ∷ ys)))
     relinked (more {es = es} {p = p} {d = e} {ds = ds} is ok z rest) (x ∷ xs) q new =
         let k : ds ≡ xs ++ (d ∷ ys) = cc in
         let x-is : e ≡ x = cc in
-        let l : p < d .alpha .0 = omega (arith, later-alpha rest xs d ys k, sound-long s es p e is ok, sound-next s es p e is ok z, cost-least (descriptorAt s 0 .layout) (descriptorAt s 0 .volume)) in
+        let l : p < d .alpha .0 = omega (arith, later-alpha s rest xs d ys k, sound-long s es p e is ok, sound-next s es p e is ok z, cost-least (descriptorAt s 0 .layout) (descriptorAt s 0 .volume)) in
         rw (← x-is)
         (more (is ∙ kept-descriptor p l) (sym (kept-sound es p l) ∙ ok) z
         (relinked rest xs k (rw (append-snoc es e xs) (rw x-is new))))
