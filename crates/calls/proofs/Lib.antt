@@ -18,3 +18,6 @@ pub mod Relinked
 pub mod Agreement
 pub mod Stored
 pub mod Changed
+pub mod StoreLists
+pub mod Frame
+pub mod AgreeStep

@@ -23,7 +23,7 @@ use Rattle.calls.specs.Step.{step, isAccepted}
 use Rattle.calls.specs.History.{betaOf, formattable, formatted}
 use Rattle.calls.specs.Claims.{blocksNeeded, RefusalClaim, ReamClaim, NoRoomClaim, TableClaim}
 
-no : {A : Type 0} → false ≡ true → A
+pub no : {A : Type 0} → false ≡ true → A
 no e = let z : _≡_ {A = ℕ} 0 1 = cc in absurd (omega arith)
 
 -- no row of the list has the number; the numbers of a list are set and each its own
