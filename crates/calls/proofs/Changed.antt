@@ -60,7 +60,7 @@ named-left xs ys n h = or-left (named xs n) (named ys n) (sym (named-append xs y
 
 -- a descriptor of a chain, by its place in the list
 module _ (s : List ℕ) (ds xs : List Descriptor) (d : Descriptor) (ys : List Descriptor) (sound-s : chain s ≡ Sound ds) (split : ds ≡ xs ++ (d ∷ ys)) where
-  member-from : Linked s xs (d .alpha .0) (d ∷ ys)
+  pub member-from : Linked s xs (d .alpha .0) (d ∷ ys)
   member-from = linked-from s (chain-linked s ds sound-s) xs d ys split
 
   pub member-is : d ≡ descriptorAt s (d .alpha .0)
@@ -113,10 +113,13 @@ module _ (s : List ℕ) (ds xs : List Descriptor) (d : Descriptor) (ys : List De
           volume ∙ region-volume (descriptorAt s 0) (blockCount s) (d .alpha .0) d member-region,
         )
 
+    pub changed-first : (e .layout ≡ descriptorAt t 0 .layout) × (e .volume ≡ descriptorAt t 0 .volume)
+    changed-first = first-by (eqb (d .alpha .0) 0) refl
+
     pub changed-ok : sound t xs (d .alpha .0) ≡ true
     unfolding sound
     changed-ok =
-        let f = first-by (eqb (d .alpha .0) 0) refl in
+        let f = changed-first in
         rw (
           changed-is,
           stored-form t (d .alpha .0) in-t e tail is fits whole d layout volume name s (d .alpha .0) member-form reserved phi,

@@ -21,3 +21,4 @@ pub mod Changed
 pub mod StoreLists
 pub mod Frame
 pub mod AgreeStep
+pub mod ChainAfter

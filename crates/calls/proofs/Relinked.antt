@@ -50,6 +50,10 @@ module _ (s : List ℕ) where
   linked-head (last {d = e} is ok z) d ys q = let k : e ≡ d = cc in (sym k ∙ is, ok)
   linked-head (more {d = e} is ok z rest) d ys q = let k : e ≡ d = cc in (sym k ∙ is, ok)
 
+  pub linked-next : {es : List Descriptor} {p : ℕ} {ds : List Descriptor} → Linked s es p ds → (d : Descriptor) → ds ≡ d ∷ [] → d .next .0 ≡ 0
+  linked-next (last {d = e} is ok z) d q = let k : e ≡ d = cc in rw (← k) z
+  linked-next (more {d = e} {ds = ds} is ok z rest) d q = let k : ds ≡ [] = cc in absurd (omega (arith, linked-some rest, ap length k))
+
 -- the descriptors before the one at d stay, where the blocks before it do
 module _ (s t : List ℕ) (long : length s ≡ length t) where
   module _ (d : Descriptor) (ys zs : List Descriptor) (inside : 512 * d .alpha .0 ≤ length s) (kept : (q : ℕ) → q < d .alpha .0 → blockAt s q ≡ blockAt t q) where

@@ -11,6 +11,7 @@ use lib.Dec.{eqb}
 use borrow.Author.Tests.{eq-eqb, eqb-true, eqb-false}
 use Rattle.blocks.specs.Bytes.{part, blockAt, Store, store, storeBlock, storeAll}
 use Rattle.blocks.proofs.ByteLaws.{store-length, store-same, store-other}
+use Rattle.calls.proofs.StepLaws.{stored-append}
 
 -- stores of whole blocks to a card of n bytes
 pub data Whole (n : ℕ) : List Store → Type 0 where
@@ -54,6 +55,16 @@ module _ (n : ℕ) where
       let m = eqb-false at p (r .0) in
       stored-other (storeBlock c at bytes) (store-length c at bytes b (omega arith) ∙ e) w p (r .1)
       ∙ store-other c at bytes b (omega arith) p (λ q. m (sym q))
+
+  -- the last store to a block decides
+  pub stored-last : (c : List ℕ) → length c ≡ n → {xs : List Store} → Whole n xs → (p : ℕ) (b : List ℕ) → length b ≡ 512 → 512 * p + 512 ≤ n → {ys : List Store} → Whole n ys → isStored ys p ≡ false
+      → blockAt (storeAll c (xs ++ (store p b ∷ ys))) p ≡ b
+  unfolding storeAll
+  stored-last c e {xs = xs} w p b l i {ys = ys} v h =
+      let f = stored-length c e w in
+      ap (λ (x : List ℕ). blockAt x p) (stored-append c xs (store p b ∷ ys))
+      ∙ stored-other (storeBlock (storeAll c xs) p b) (store-length (storeAll c xs) p b l (omega arith) ∙ f) v p h
+      ∙ store-same (storeAll c xs) p b l (omega arith)
 
   -- two cards
   module _ (p : ℕ) where

@@ -43,7 +43,7 @@ module _ (d : Descriptor) (tail : List ℕ) (fits : Fits d) (whole : length tail
   unfolding descriptorBlock
   block-is = splice-start (headBytes d ++ tail) (headBytes d) ∙ ap (λ (x : List ℕ). headBytes d ++ x) (drop-at (headBytes d) tail (length (headBytes d)) refl)
 
-  block-long : length (descriptorBlock d tail) ≡ 512
+  pub block-long : length (descriptorBlock d tail) ≡ 512
   unfolding descriptorBlock
   block-long = omega (arith, length-append (headBytes d) tail, head-is)
 

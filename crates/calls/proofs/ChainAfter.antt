@@ -1,0 +1,226 @@
+-- The chain after an accepted revert and after an accepted snap.
+use mathlib.Core.Path.{_≡_, refl, sym, ap, _∙_, subst}
+use mathlib.Core.Logic.{_⊎_, inl, inr}
+use mathlib.Core.Bool.{Bool, true, false, not, _&&_, _||_}
+use mathlib.Core.List.{List, [], _∷_, _++_, append-assoc}
+use Prim.Native.Nat.{ℕ, zero, suc, _+_, _*_, _-_, _^_, _≤_, _<_}
+use native.Mathlib.Omega.{arith}
+use lib.ListN.{length, take, drop, getD, length-append}
+use lib.Seq.{split-at, length-take-le}
+use lib.Dec.{eqb, ltb, leb}
+use borrow.Author.Tests.{ltb-true, ltb-false, leb-false, not-false, ne-eqb}
+use Rattle.blocks.specs.Pick.{same}
+use Rattle.blocks.specs.Bytes.{part, blockCount, blockAt, Store, store, storeAll}
+use Rattle.blocks.specs.Name.{isName}
+use Rattle.blocks.specs.Descriptor.{physical, cost, costOf, noDescriptor, descriptorAt, tailAt, descriptorBlock, renamedOf, linkedOf, reopenedOf, copying, reservedOk, phiOk}
+use Rattle.blocks.specs.Chain.{formOk, regionOk, named, sound, Sound, chain, chainSound}
+use Rattle.blocks.specs.declared.descriptor.Descriptor.{Descriptor}
+use Rattle.blocks.proofs.ListLaws.{same-equal, same-self}
+use Rattle.blocks.proofs.DescriptorLaws.{Fits}
+use Rattle.blocks.proofs.SoundLaws.{form-most, form-layout}
+use Rattle.blocks.proofs.ChainLaws.{region-long, region-end, cost-least}
+use Rattle.blocks.proofs.LinkedLaws.{Linked, last, more, chain-linked, chain-few, linked-some}
+use Rattle.calls.specs.Call.{Call, Snap, Revert}
+use Rattle.calls.specs.Parts.{areaBad, descriptorsOf, activeOf, snapshotsOf, withName, indexOf}
+use Rattle.calls.specs.Ladder.{rowsOf, revertRows, snapRows, answerOf}
+use Rattle.calls.specs.Effect.{storesOf, reverting, snapping}
+use Rattle.calls.specs.Step.{isAccepted}
+use Rattle.calls.proofs.NamedLaws.{named-index, with-name-index}
+use Rattle.calls.proofs.CardLaws.{card-most}
+use Rattle.calls.proofs.Rows.{no, rows-passed}
+use Rattle.calls.proofs.Local.{linked-chain}
+use Rattle.calls.proofs.Relinked.{linked-next, relinked}
+use Rattle.calls.proofs.Agreement.{chain-is}
+use Rattle.calls.proofs.Stored.{block-long, stored-descriptor, stored-form, region-ok, tail-long, tail-part, form-kept, form-phi, form-name}
+use Rattle.calls.proofs.Changed.{name-long, layout-small, named-append, named-left, member-from, member-form, member-region, member-fresh, member-inside, changed-is, changed-first, changed-ok, changed-last}
+use Rattle.calls.proofs.StoreLists.{Whole, none, also, isStored, stored-join, stored-length, stored-other, stored-last}
+use Rattle.calls.proofs.Frame.{stores-inside}
+
+-- a chain is its snapshots, then the active descriptor
+active-from : (d : Descriptor) (ds : List Descriptor) → d ∷ ds ≡ snapshotsOf (d ∷ ds) ++ (activeOf (d ∷ ds) ∷ [])
+unfolding snapshotsOf activeOf
+active-from d [] = refl
+active-from d (e ∷ ds) = ap (λ (xs : List Descriptor). d ∷ xs) (active-from e ds)
+
+pub active-split : (ds : List Descriptor) → 0 < length ds → ds ≡ snapshotsOf ds ++ (activeOf ds ∷ [])
+active-split [] h = absurd (omega arith)
+active-split (d ∷ ds) h = active-from d ds
+
+pub active-snoc : (xs : List Descriptor) (e : Descriptor) → activeOf (xs ++ (e ∷ [])) ≡ e
+unfolding activeOf
+active-snoc [] e = refl
+active-snoc (x ∷ []) e = refl
+active-snoc (x ∷ y ∷ xs) e = active-snoc (y ∷ xs) e
+
+pub snapshots-snoc : (xs : List Descriptor) (e : Descriptor) → snapshotsOf (xs ++ (e ∷ [])) ≡ xs
+unfolding snapshotsOf
+snapshots-snoc [] e = refl
+snapshots-snoc (x ∷ []) e = refl
+snapshots-snoc (x ∷ y ∷ xs) e = ap (λ (zs : List Descriptor). x ∷ zs) (snapshots-snoc (y ∷ xs) e)
+
+-- the descriptors before the one of a name
+abbrev pub before : List Descriptor → List ℕ → List Descriptor
+before ss name = take (indexOf ss name) ss
+
+abbrev behind : List Descriptor → List ℕ → List Descriptor
+behind ss name = drop (suc (indexOf ss name)) ss
+
+name-split : (ss : List Descriptor) (name : List ℕ) → named ss name ≡ true → ss ≡ before ss name ++ (withName ss name ∷ behind ss name)
+name-split ss name h =
+    split-at ss (indexOf ss name) noDescriptor (ltb-true (indexOf ss name) (length ss) (sym (named-index ss name) ∙ h))
+    ∙ ap (λ (d : Descriptor). before ss name ++ (d ∷ behind ss name)) (sym (with-name-index ss name))
+
+-- numbers that a card's descriptors have fit 32 bits
+pub fits-of : (e : Descriptor) → e .layout ≤ 2 → e .volume ≤ 14336 → e .alpha .0 ≤ 65536 → e .beta .0 ≤ 65536 → e .next .0 ≤ 65536 → isName (e .name) ≡ true → Fits e
+fits-of e l v a b n m = record { layout = omega arith; volume = omega arith; alpha = omega arith; beta = omega arith; next = omega arith; name = name-long (e .name) m }
+
+-- a card with a sound chain
+module _ (c : List ℕ) (area : areaBad c ≡ false) (ok : chainSound (chain c) ≡ true) where
+  abbrev ds : List Descriptor
+  ds = descriptorsOf c
+
+  abbrev d : Descriptor
+  d = activeOf ds
+
+  sound-is : chain c ≡ Sound ds
+  sound-is = chain-is (chain c) ok
+
+  some : 0 < length ds
+  some = linked-some (chain-linked c ds sound-is)
+
+  few : length ds ≤ 256
+  few = chain-few c ds sound-is
+
+  active-last : ds ≡ snapshotsOf ds ++ (d ∷ [])
+  active-last = active-split ds some
+
+  snapshots-few : length (snapshotsOf ds) + 1 ≤ 256
+  snapshots-few = omega (arith, few, ap length active-last, length-append (snapshotsOf ds) (d ∷ []))
+
+  active-name : isName (d .name) ≡ true
+  active-name = form-name c (d .alpha .0) d (member-form c ds (snapshotsOf ds) d [] sound-is active-last)
+
+  active-fresh : named (snapshotsOf ds) (d .name) ≡ false
+  active-fresh = member-fresh c ds (snapshotsOf ds) d [] sound-is active-last
+
+  -- a member of the chain
+  module _ (xs : List Descriptor) (v : Descriptor) (ys : List Descriptor) (split : ds ≡ xs ++ (v ∷ ys)) where
+    abbrev a : ℕ
+    a = v .alpha .0
+
+    form : formOk c a v ≡ true
+    form = member-form c ds xs v ys sound-is split
+
+    inside : 512 * a + 512 ≤ length c
+    inside = member-inside c ds xs v ys sound-is split
+
+    region-c : regionOk (descriptorAt c 0) (blockCount c) a v ≡ true
+    region-c = member-region c ds xs v ys sound-is split
+
+    long : a + costOf v ≤ v .beta .0
+    long = region-long (descriptorAt c 0) (blockCount c) a v region-c
+
+    end : v .beta .0 ≤ blockCount c
+    end = region-end (descriptorAt c 0) (blockCount c) a v region-c
+
+    most : blockCount c ≤ 65536
+    most = card-most c area
+
+    low : a < v .beta .0
+    low = omega (arith, long, cost-least (v .layout) (v .volume))
+
+    layout-c : v .layout ≤ 2
+    layout-c = layout-small (v .layout) (form-layout c a v form)
+
+    volume-c : v .volume ≤ 14336
+    volume-c = form-most c a v form
+
+    reserved : reservedOk (part (tailAt c a) 0 24) ≡ true
+    reserved = let e : 512 * a + 40 + 0 ≡ 512 * a + 40 = omega arith in rw (tail-part c a 0 24 inside (omega arith), e) (form-kept c a v form)
+
+    phi : phiOk (v .layout) (part (tailAt c a) 24 448) ≡ true
+    phi = let e : 512 * a + 40 + 24 ≡ 512 * a + 64 = omega arith in rw (tail-part c a 24 448 inside (omega arith), e) (form-phi c a v form)
+
+count-kept : (s t : List ℕ) → length s ≡ length t → blockCount s ≡ blockCount t
+unfolding blockCount
+count-kept s t e = rw e
+
+none-stored : (p : ℕ) → isStored [] p ≡ false
+unfolding isStored
+none-stored p = refl
+
+one-stored : (p : ℕ) (b : List ℕ) (q : ℕ) → q < p → isStored (store p b ∷ []) q ≡ false
+unfolding isStored
+one-stored p b q h = rw (ne-eqb p q (omega arith))
+
+-- a revert
+module _ (c name : List ℕ) (e : isAccepted (answerOf (Revert name) c) ≡ true) where
+  revert-rows : (areaBad c ≡ false) × (chainSound (chain c) ≡ true) × (named (snapshotsOf (descriptorsOf c)) name ≡ true)
+  unfolding rowsOf revertRows
+  revert-rows =
+      let rows = rows-passed (Revert name) c e in
+      (rows 0 (omega arith), not-false (chainSound (chain c)) (rows 2 (omega arith)), not-false (named (snapshotsOf (descriptorsOf c)) name) (rows 3 (omega arith)))
+
+  abbrev ss : List Descriptor
+  ss = snapshotsOf (descriptorsOf c)
+
+  abbrev v : Descriptor
+  v = withName ss name
+
+  abbrev w : Descriptor
+  w = linkedOf (renamedOf v (activeOf (descriptorsOf c) .name)) (physical 0)
+
+  abbrev t : List ℕ
+  t = storeAll c (storesOf (Revert name) c)
+
+  revert-split : descriptorsOf c ≡ before ss name ++ (v ∷ (behind ss name ++ (activeOf (descriptorsOf c) ∷ [])))
+  revert-split =
+      active-last c (revert-rows .0) (revert-rows .1)
+      ∙ ap (λ (xs : List Descriptor). xs ++ (activeOf (descriptorsOf c) ∷ [])) (name-split ss name (revert-rows .2))
+      ∙ append-assoc (before ss name) (v ∷ behind ss name) (activeOf (descriptorsOf c) ∷ [])
+
+  stores-are : storesOf (Revert name) c ≡ store (v .alpha .0) (descriptorBlock w (tailAt c (v .alpha .0))) ∷ []
+  unfolding storesOf reverting
+  stores-are = refl
+
+  whole : Whole (length c) (storesOf (Revert name) c)
+  whole = stores-inside (Revert name) c e
+
+  module _ (area : areaBad c ≡ false) (ok : chainSound (chain c) ≡ true) where
+    abbrev xs : List Descriptor
+    xs = before ss name
+
+    abbrev ys : List Descriptor
+    ys = behind ss name ++ (activeOf (descriptorsOf c) ∷ [])
+
+    fits : Fits w
+    fits =
+        let b = end c area ok xs v ys revert-split in
+        let l = low c area ok xs v ys revert-split in
+        let n = most c area ok xs v ys revert-split in
+        fits-of w (layout-c c area ok xs v ys revert-split) (volume-c c area ok xs v ys revert-split) (omega arith) (omega arith) (omega arith) (active-name c area ok)
+
+    tail : length (tailAt c (v .alpha .0)) ≡ 472
+    tail = tail-long c (v .alpha .0) (inside c area ok xs v ys revert-split)
+
+    block : blockAt t (v .alpha .0) ≡ descriptorBlock w (tailAt c (v .alpha .0))
+    block =
+        rw stores-are
+        (stored-last (length c) c refl none (v .alpha .0) (descriptorBlock w (tailAt c (v .alpha .0))) (block-long w (tailAt c (v .alpha .0)) fits tail) (inside c area ok xs v ys revert-split) none (none-stored (v .alpha .0)))
+
+    kept : (q : ℕ) → q < v .alpha .0 → blockAt c q ≡ blockAt t q
+    kept q h = sym (stored-other (length c) c refl whole q (rw stores-are (one-stored (v .alpha .0) (descriptorBlock w (tailAt c (v .alpha .0))) q (omega arith))))
+
+    same-long : length c ≡ length t
+    same-long = sym (stored-length (length c) c refl whole)
+
+    chain-by : chain t ≡ Sound (xs ++ (w ∷ []))
+    chain-by =
+        let n = count-kept c t same-long in
+        changed-last c (descriptorsOf c) xs v ys (sound-is c area ok) revert-split t same-long kept w (tailAt c (v .alpha .0)) block fits tail refl refl refl (active-name c area ok)
+        (reserved c area ok xs v ys revert-split) (phi c area ok xs v ys revert-split) (long c area ok xs v ys revert-split) (omega (arith, end c area ok xs v ys revert-split)) (inl refl)
+        (named-left xs (v ∷ behind ss name) (activeOf (descriptorsOf c) .name) (rw (name-split ss name (revert-rows .2)) at (active-fresh c area ok)))
+        refl (omega (arith, snapshots-few c area ok, ap length (name-split ss name (revert-rows .2)), length-append xs (v ∷ behind ss name)))
+
+  pub reverted-chain : chain t ≡ Sound (before ss name ++ (w ∷ []))
+  reverted-chain = chain-by (revert-rows .0) (revert-rows .1)
