@@ -1,4 +1,4 @@
--- The chain after an accepted revert and after an accepted snap.
+-- Cards with a sound chain, and the chain after an accepted revert.
 use mathlib.Core.Path.{_≡_, refl, sym, ap, _∙_, subst}
 use mathlib.Core.Logic.{_⊎_, inl, inr}
 use mathlib.Core.Bool.{Bool, true, false, not, _&&_, _||_}
@@ -6,7 +6,7 @@ use mathlib.Core.List.{List, [], _∷_, _++_, append-assoc}
 use Prim.Native.Nat.{ℕ, zero, suc, _+_, _*_, _-_, _^_, _≤_, _<_}
 use native.Mathlib.Omega.{arith}
 use lib.ListN.{length, take, drop, getD, length-append}
-use lib.Seq.{split-at, length-take-le}
+use lib.Seq.{split-at, length-take-le, append-snoc}
 use lib.Dec.{eqb, ltb, leb}
 use borrow.Author.Tests.{ltb-true, ltb-false, leb-false, not-false, ne-eqb}
 use Rattle.blocks.specs.Pick.{same}
@@ -33,8 +33,8 @@ use Rattle.calls.proofs.Relinked.{linked-next, relinked}
 use Rattle.calls.proofs.Agreement.{chain-is}
 use Rattle.calls.proofs.Stored.{block-long, stored-descriptor, stored-form, region-ok, tail-long, tail-part, form-kept, form-phi, form-name}
 use Rattle.calls.proofs.Changed.{name-long, layout-small, named-append, named-left, member-from, member-form, member-region, member-fresh, member-inside, changed-is, changed-first, changed-ok, changed-last}
-use Rattle.calls.proofs.StoreLists.{Whole, none, also, isStored, stored-join, stored-length, stored-other, stored-last}
-use Rattle.calls.proofs.Frame.{stores-inside}
+use Rattle.calls.proofs.StoreLists.{Whole, none, also, whole-append, isStored, stored-join, stored-length, stored-other, stored-last}
+use Rattle.calls.proofs.Frame.{stores-inside, inside-copying}
 
 -- a chain is its snapshots, then the active descriptor
 active-from : (d : Descriptor) (ds : List Descriptor) → d ∷ ds ≡ snapshotsOf (d ∷ ds) ++ (activeOf (d ∷ ds) ∷ [])
@@ -82,7 +82,7 @@ module _ (c : List ℕ) (area : areaBad c ≡ false) (ok : chainSound (chain c) 
   abbrev d : Descriptor
   d = activeOf ds
 
-  sound-is : chain c ≡ Sound ds
+  pub sound-is : chain c ≡ Sound ds
   sound-is = chain-is (chain c) ok
 
   some : 0 < length ds
@@ -91,16 +91,16 @@ module _ (c : List ℕ) (area : areaBad c ≡ false) (ok : chainSound (chain c) 
   few : length ds ≤ 256
   few = chain-few c ds sound-is
 
-  active-last : ds ≡ snapshotsOf ds ++ (d ∷ [])
+  pub active-last : ds ≡ snapshotsOf ds ++ (d ∷ [])
   active-last = active-split ds some
 
-  snapshots-few : length (snapshotsOf ds) + 1 ≤ 256
+  pub snapshots-few : length (snapshotsOf ds) + 1 ≤ 256
   snapshots-few = omega (arith, few, ap length active-last, length-append (snapshotsOf ds) (d ∷ []))
 
-  active-name : isName (d .name) ≡ true
+  pub active-name : isName (d .name) ≡ true
   active-name = form-name c (d .alpha .0) d (member-form c ds (snapshotsOf ds) d [] sound-is active-last)
 
-  active-fresh : named (snapshotsOf ds) (d .name) ≡ false
+  pub active-fresh : named (snapshotsOf ds) (d .name) ≡ false
   active-fresh = member-fresh c ds (snapshotsOf ds) d [] sound-is active-last
 
   -- a member of the chain
@@ -108,50 +108,55 @@ module _ (c : List ℕ) (area : areaBad c ≡ false) (ok : chainSound (chain c) 
     abbrev a : ℕ
     a = v .alpha .0
 
-    form : formOk c a v ≡ true
-    form = member-form c ds xs v ys sound-is split
+    pub link-form : formOk c a v ≡ true
+    link-form = member-form c ds xs v ys sound-is split
 
-    inside : 512 * a + 512 ≤ length c
-    inside = member-inside c ds xs v ys sound-is split
+    pub link-inside : 512 * a + 512 ≤ length c
+    link-inside = member-inside c ds xs v ys sound-is split
 
-    region-c : regionOk (descriptorAt c 0) (blockCount c) a v ≡ true
-    region-c = member-region c ds xs v ys sound-is split
+    pub link-region : regionOk (descriptorAt c 0) (blockCount c) a v ≡ true
+    link-region = member-region c ds xs v ys sound-is split
 
-    long : a + costOf v ≤ v .beta .0
-    long = region-long (descriptorAt c 0) (blockCount c) a v region-c
+    pub link-long : a + costOf v ≤ v .beta .0
+    link-long = region-long (descriptorAt c 0) (blockCount c) a v link-region
 
-    end : v .beta .0 ≤ blockCount c
-    end = region-end (descriptorAt c 0) (blockCount c) a v region-c
+    pub link-end : v .beta .0 ≤ blockCount c
+    link-end = region-end (descriptorAt c 0) (blockCount c) a v link-region
 
-    most : blockCount c ≤ 65536
-    most = card-most c area
+    pub link-most : blockCount c ≤ 65536
+    link-most = card-most c area
 
-    low : a < v .beta .0
-    low = omega (arith, long, cost-least (v .layout) (v .volume))
+    pub link-low : a < v .beta .0
+    link-low = omega (arith, link-long, cost-least (v .layout) (v .volume))
 
-    layout-c : v .layout ≤ 2
-    layout-c = layout-small (v .layout) (form-layout c a v form)
+    pub link-layout : v .layout ≤ 2
+    link-layout = layout-small (v .layout) (form-layout c a v link-form)
 
-    volume-c : v .volume ≤ 14336
-    volume-c = form-most c a v form
+    pub link-volume : v .volume ≤ 14336
+    link-volume = form-most c a v link-form
 
-    reserved : reservedOk (part (tailAt c a) 0 24) ≡ true
-    reserved = let e : 512 * a + 40 + 0 ≡ 512 * a + 40 = omega arith in rw (tail-part c a 0 24 inside (omega arith), e) (form-kept c a v form)
+    pub link-reserved : reservedOk (part (tailAt c a) 0 24) ≡ true
+    link-reserved = let e : 512 * a + 40 + 0 ≡ 512 * a + 40 = omega arith in rw (tail-part c a 0 24 link-inside (omega arith), e) (form-kept c a v link-form)
 
-    phi : phiOk (v .layout) (part (tailAt c a) 24 448) ≡ true
-    phi = let e : 512 * a + 40 + 24 ≡ 512 * a + 64 = omega arith in rw (tail-part c a 24 448 inside (omega arith), e) (form-phi c a v form)
+    pub link-phi : phiOk (v .layout) (part (tailAt c a) 24 448) ≡ true
+    link-phi = let e : 512 * a + 40 + 24 ≡ 512 * a + 64 = omega arith in rw (tail-part c a 24 448 link-inside (omega arith), e) (form-phi c a v link-form)
 
-count-kept : (s t : List ℕ) → length s ≡ length t → blockCount s ≡ blockCount t
+pub count-kept : (s t : List ℕ) → length s ≡ length t → blockCount s ≡ blockCount t
 unfolding blockCount
 count-kept s t e = rw e
 
-none-stored : (p : ℕ) → isStored [] p ≡ false
+pub none-stored : (p : ℕ) → isStored [] p ≡ false
 unfolding isStored
 none-stored p = refl
 
-one-stored : (p : ℕ) (b : List ℕ) (q : ℕ) → q < p → isStored (store p b ∷ []) q ≡ false
+pub one-stored : (p : ℕ) (b : List ℕ) (q : ℕ) → (p ≡ q → ⊥) → isStored (store p b ∷ []) q ≡ false
 unfolding isStored
-one-stored p b q h = rw (ne-eqb p q (omega arith))
+one-stored p b q h = rw (ne-eqb p q h)
+
+pub copies-stored : (c : List ℕ) (from p n q : ℕ) → q < p → isStored (copying c from p n) q ≡ false
+unfolding isStored copying
+copies-stored c from p zero q h = refl
+copies-stored c from p (suc n) q h = rw (ne-eqb p q (omega arith)) (copies-stored c (suc from) (suc p) n q (omega arith))
 
 -- a revert
 module _ (c name : List ℕ) (e : isAccepted (answerOf (Revert name) c) ≡ true) where
@@ -195,21 +200,21 @@ module _ (c name : List ℕ) (e : isAccepted (answerOf (Revert name) c) ≡ true
 
     fits : Fits w
     fits =
-        let b = end c area ok xs v ys revert-split in
-        let l = low c area ok xs v ys revert-split in
-        let n = most c area ok xs v ys revert-split in
-        fits-of w (layout-c c area ok xs v ys revert-split) (volume-c c area ok xs v ys revert-split) (omega arith) (omega arith) (omega arith) (active-name c area ok)
+        let b = link-end c area ok xs v ys revert-split in
+        let l = link-low c area ok xs v ys revert-split in
+        let n = link-most c area ok xs v ys revert-split in
+        fits-of w (link-layout c area ok xs v ys revert-split) (link-volume c area ok xs v ys revert-split) (omega arith) (omega arith) (omega arith) (active-name c area ok)
 
     tail : length (tailAt c (v .alpha .0)) ≡ 472
-    tail = tail-long c (v .alpha .0) (inside c area ok xs v ys revert-split)
+    tail = tail-long c (v .alpha .0) (link-inside c area ok xs v ys revert-split)
 
     block : blockAt t (v .alpha .0) ≡ descriptorBlock w (tailAt c (v .alpha .0))
     block =
         rw stores-are
-        (stored-last (length c) c refl none (v .alpha .0) (descriptorBlock w (tailAt c (v .alpha .0))) (block-long w (tailAt c (v .alpha .0)) fits tail) (inside c area ok xs v ys revert-split) none (none-stored (v .alpha .0)))
+        (stored-last (length c) c refl none (v .alpha .0) (descriptorBlock w (tailAt c (v .alpha .0))) (block-long w (tailAt c (v .alpha .0)) fits tail) (link-inside c area ok xs v ys revert-split) none (none-stored (v .alpha .0)))
 
     kept : (q : ℕ) → q < v .alpha .0 → blockAt c q ≡ blockAt t q
-    kept q h = sym (stored-other (length c) c refl whole q (rw stores-are (one-stored (v .alpha .0) (descriptorBlock w (tailAt c (v .alpha .0))) q (omega arith))))
+    kept q h = sym (stored-other (length c) c refl whole q (rw stores-are (one-stored (v .alpha .0) (descriptorBlock w (tailAt c (v .alpha .0))) q (λ k. omega arith))))
 
     same-long : length c ≡ length t
     same-long = sym (stored-length (length c) c refl whole)
@@ -218,7 +223,7 @@ module _ (c name : List ℕ) (e : isAccepted (answerOf (Revert name) c) ≡ true
     chain-by =
         let n = count-kept c t same-long in
         changed-last c (descriptorsOf c) xs v ys (sound-is c area ok) revert-split t same-long kept w (tailAt c (v .alpha .0)) block fits tail refl refl refl (active-name c area ok)
-        (reserved c area ok xs v ys revert-split) (phi c area ok xs v ys revert-split) (long c area ok xs v ys revert-split) (omega (arith, end c area ok xs v ys revert-split)) (inl refl)
+        (link-reserved c area ok xs v ys revert-split) (link-phi c area ok xs v ys revert-split) (link-long c area ok xs v ys revert-split) (omega (arith, link-end c area ok xs v ys revert-split)) (inl refl)
         (named-left xs (v ∷ behind ss name) (activeOf (descriptorsOf c) .name) (rw (name-split ss name (revert-rows .2)) at (active-fresh c area ok)))
         refl (omega (arith, snapshots-few c area ok, ap length (name-split ss name (revert-rows .2)), length-append xs (v ∷ behind ss name)))
 

@@ -89,7 +89,7 @@ unfolding clearing
 inside-clearing n p zero h = none
 inside-clearing n p (suc k) h = also p zeroBlock (length-replicate {A = ℕ} 512 0) (omega arith) (inside-clearing n (suc p) k (omega arith))
 
-inside-copying : (c : List ℕ) (from to k : ℕ) → from ≤ to → 512 * (to + k) ≤ length c → Whole (length c) (copying c from to k)
+pub inside-copying : (c : List ℕ) (from to k : ℕ) → from ≤ to → 512 * (to + k) ≤ length c → Whole (length c) (copying c from to k)
 unfolding copying
 inside-copying c from to zero h l = none
 inside-copying c from to (suc k) h l = also to (blockAt c from) (length-blockAt c from (omega arith)) (omega arith) (inside-copying c (suc from) (suc to) k (omega arith) (omega arith))

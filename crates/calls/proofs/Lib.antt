@@ -22,3 +22,4 @@ pub mod StoreLists
 pub mod Frame
 pub mod AgreeStep
 pub mod ChainAfter
+pub mod SnappedChain
