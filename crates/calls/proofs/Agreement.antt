@@ -44,7 +44,7 @@ unfolding chainSound descriptors
 chain-is (Sound ds) e = refl
 chain-is (Unsound p) e = let z : _≡_ {A = ℕ} 0 1 = cc in absurd (omega arith)
 
-end-from : (p : ℕ) (d : Descriptor) (ds : List Descriptor) → regionStart p (d ∷ ds) (length (d ∷ ds)) ≡ activeOf (d ∷ ds) .beta .0
+pub end-from : (p : ℕ) (d : Descriptor) (ds : List Descriptor) → regionStart p (d ∷ ds) (length (d ∷ ds)) ≡ activeOf (d ∷ ds) .beta .0
 unfolding activeOf
 end-from p d [] = region-start-suc p d [] 0 ∙ region-start-zero (d .beta .0) []
 end-from p d (e ∷ ds) = region-start-suc p d (e ∷ ds) (length (e ∷ ds)) ∙ end-from (d .beta .0) e ds
@@ -89,7 +89,7 @@ module _ (ds : List Descriptor) (some : 0 < length ds) where
             ∙ getD-take (length ds - 1) ds (indexOf (snapshotsOf ds) name) noDescriptor (omega arith),
       )
 
-active-target : (ds : List Descriptor) → targetOf ds Active [] ≡ activeOf ds
+pub active-target : (ds : List Descriptor) → targetOf ds Active [] ≡ activeOf ds
 unfolding targetOf
 active-target ds = refl
 
@@ -184,7 +184,7 @@ module _ (s t : List ℕ) (agree : Agree s t) where
         let m = target-member ds some target name standing in
         omega (arith, leb-false (activeOf ds .volume) l inside, ap (λ (d : Descriptor). d .volume) (m .2), volume-at (m .0) (m .1))
 
-    found-same : find s ds (targetOf ds target name) l ≡ find t ds (targetOf ds target name) l
+    pub found-same : find s ds (targetOf ds target name) l ≡ find t ds (targetOf ds target name) l
     found-same = local-find s t (betaOf s) agree-below (targetOf ds target name) target-region ds l target-volume
 
     block-same : blockFound s (find s ds (targetOf ds target name) l) ≡ blockFound t (find t ds (targetOf ds target name) l)

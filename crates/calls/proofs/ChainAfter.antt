@@ -19,7 +19,7 @@ use Rattle.blocks.proofs.ListLaws.{same-equal, same-self}
 use Rattle.blocks.proofs.DescriptorLaws.{Fits}
 use Rattle.blocks.proofs.SoundLaws.{form-most, form-layout}
 use Rattle.blocks.proofs.ChainLaws.{region-long, region-end, cost-least}
-use Rattle.blocks.proofs.LinkedLaws.{Linked, last, more, chain-linked, chain-few, linked-some}
+use Rattle.blocks.proofs.LinkedLaws.{Linked, last, more, chain-linked, chain-few, linked-some, linked-rise, region-start-suc, region-start-zero}
 use Rattle.calls.specs.Call.{Call, Snap, Revert}
 use Rattle.calls.specs.Parts.{areaBad, descriptorsOf, activeOf, snapshotsOf, withName, indexOf}
 use Rattle.calls.specs.Ladder.{rowsOf, revertRows, snapRows, answerOf}
@@ -30,7 +30,7 @@ use Rattle.calls.proofs.CardLaws.{card-most}
 use Rattle.calls.proofs.Rows.{no, rows-passed}
 use Rattle.calls.proofs.Local.{linked-chain}
 use Rattle.calls.proofs.Relinked.{linked-next, relinked}
-use Rattle.calls.proofs.Agreement.{chain-is}
+use Rattle.calls.proofs.Agreement.{chain-is, end-from}
 use Rattle.calls.proofs.Stored.{block-long, stored-descriptor, stored-form, region-ok, tail-long, tail-part, form-kept, form-phi, form-name}
 use Rattle.calls.proofs.Changed.{name-long, layout-small, named-append, named-left, member-from, member-form, member-region, member-fresh, member-inside, changed-is, changed-first, changed-ok, changed-last}
 use Rattle.calls.proofs.StoreLists.{Whole, none, also, whole-append, isStored, stored-join, stored-length, stored-other, stored-last}
@@ -58,11 +58,22 @@ snapshots-snoc [] e = refl
 snapshots-snoc (x ∷ []) e = refl
 snapshots-snoc (x ∷ y ∷ xs) e = ap (λ (zs : List Descriptor). x ∷ zs) (snapshots-snoc (y ∷ xs) e)
 
+pub active-append : (xs : List Descriptor) (v : Descriptor) (ys : List Descriptor) → activeOf (xs ++ (v ∷ ys)) ≡ activeOf (v ∷ ys)
+unfolding activeOf
+active-append [] v ys = refl
+active-append (x ∷ []) v ys = refl
+active-append (x ∷ y ∷ xs) v ys = active-append (y ∷ xs) v ys
+
+-- the first region of some ends where the last does, or before
+linked-end-below : {c : List ℕ} {es : List Descriptor} {p : ℕ} {v : Descriptor} {ys : List Descriptor} → Linked c es p (v ∷ ys) → v .beta .0 ≤ activeOf (v ∷ ys) .beta .0
+linked-end-below {c = c} {es = es} {p = p} {v = v} {ys = ys} l =
+    omega (arith, end-from p v ys, linked-rise l 1 (length (v ∷ ys)) (omega arith) (omega arith), region-start-suc p v ys 0, region-start-zero (v .beta .0) ys)
+
 -- the descriptors before the one of a name
 abbrev pub before : List Descriptor → List ℕ → List Descriptor
 before ss name = take (indexOf ss name) ss
 
-abbrev behind : List Descriptor → List ℕ → List Descriptor
+abbrev pub behind : List Descriptor → List ℕ → List Descriptor
 behind ss name = drop (suc (indexOf ss name)) ss
 
 name-split : (ss : List Descriptor) (name : List ℕ) → named ss name ≡ true → ss ≡ before ss name ++ (withName ss name ∷ behind ss name)
@@ -141,6 +152,12 @@ module _ (c : List ℕ) (area : areaBad c ≡ false) (ok : chainSound (chain c) 
     pub link-phi : phiOk (v .layout) (part (tailAt c a) 24 448) ≡ true
     link-phi = let e : 512 * a + 40 + 24 ≡ 512 * a + 64 = omega arith in rw (tail-part c a 24 448 link-inside (omega arith), e) (form-phi c a v link-form)
 
+    -- its region ends where the last one does, or before
+    pub end-below : v .beta .0 ≤ d .beta .0
+    end-below =
+        let l = member-from c ds xs v ys sound-is split in
+        omega (arith, linked-end-below l, ap (λ (x : Descriptor). x .beta .0) (active-append xs v ys), ap (λ (zs : List Descriptor). activeOf zs .beta .0) split)
+
 pub count-kept : (s t : List ℕ) → length s ≡ length t → blockCount s ≡ blockCount t
 unfolding blockCount
 count-kept s t e = rw e
@@ -160,7 +177,7 @@ copies-stored c from p (suc n) q h = rw (ne-eqb p q (omega arith)) (copies-store
 
 -- a revert
 module _ (c name : List ℕ) (e : isAccepted (answerOf (Revert name) c) ≡ true) where
-  revert-rows : (areaBad c ≡ false) × (chainSound (chain c) ≡ true) × (named (snapshotsOf (descriptorsOf c)) name ≡ true)
+  pub revert-rows : (areaBad c ≡ false) × (chainSound (chain c) ≡ true) × (named (snapshotsOf (descriptorsOf c)) name ≡ true)
   unfolding rowsOf revertRows
   revert-rows =
       let rows = rows-passed (Revert name) c e in
@@ -178,7 +195,7 @@ module _ (c name : List ℕ) (e : isAccepted (answerOf (Revert name) c) ≡ true
   abbrev t : List ℕ
   t = storeAll c (storesOf (Revert name) c)
 
-  revert-split : descriptorsOf c ≡ before ss name ++ (v ∷ (behind ss name ++ (activeOf (descriptorsOf c) ∷ [])))
+  pub revert-split : descriptorsOf c ≡ before ss name ++ (v ∷ (behind ss name ++ (activeOf (descriptorsOf c) ∷ [])))
   revert-split =
       active-last c (revert-rows .0) (revert-rows .1)
       ∙ ap (λ (xs : List Descriptor). xs ++ (activeOf (descriptorsOf c) ∷ [])) (name-split ss name (revert-rows .2))

@@ -199,7 +199,7 @@ module _ (c : List ℕ) (area : areaBad c ≡ false) (sound : chainSound (chain 
   active-is : active ≡ descriptorAt c (getD (r .starts) (r .count - 1) 0)
   active-is = sym (card-active c r refl area ok (descriptorAt c (getD (r .starts) (r .count - 1) 0)) refl)
 
-  active-through : Through c (r .starts) (r .count) active
+  pub active-through : Through c (r .starts) (r .count) active
   active-through = card-through c r refl area ok (r .count - 1) (omega (arith, some)) active active-is
 
   active-name : length (active .name) ≡ 16

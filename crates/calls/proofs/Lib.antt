@@ -23,3 +23,4 @@ pub mod Frame
 pub mod AgreeStep
 pub mod ChainAfter
 pub mod SnappedChain
+pub mod SameStores

@@ -54,7 +54,7 @@ named-one d n = or-false (same (d .name) n)
     or-false false = refl
 
 module _ (c name : List ℕ) (e : isAccepted (answerOf (Snap name) c) ≡ true) where
-  snap-rows : (areaBad c ≡ false) × (isName name ≡ true) × (chainSound (chain c) ≡ true) × (named (descriptorsOf c) name ≡ false) × (length (snapshotsOf (descriptorsOf c)) < 255)
+  pub snap-rows : (areaBad c ≡ false) × (isName name ≡ true) × (chainSound (chain c) ≡ true) × (named (descriptorsOf c) name ≡ false) × (length (snapshotsOf (descriptorsOf c)) < 255)
       × (activeOf (descriptorsOf c) .beta .0 + costOf (activeOf (descriptorsOf c)) ≤ blockCount c)
   unfolding rowsOf snapRows
   snap-rows =
