@@ -7,13 +7,23 @@ use Prim.Native.Nat.{ℕ, zero, suc, _+_, _*_, _≤_, _<_}
 use native.Mathlib.Omega.{arith}
 use lib.ListN.{length, take}
 use Rattle.blocks.specs.Bytes.{blockAt, Store, store, storeBlock, storeAll}
+use Rattle.blocks.specs.Descriptor.{physical, costOf, renamedOf, linkedOf, extendedOf, reopenedOf}
 use Rattle.blocks.specs.Chain.{Chain, Sound, chain, chainSound, descriptors}
 use Rattle.blocks.specs.declared.descriptor.Descriptor.{Descriptor}
-use Rattle.calls.specs.Parts.{activeOf}
+use Rattle.calls.specs.declared.answer.Answer.{Answer}
+use Rattle.calls.specs.Call.{Call, Ream, Read, Write, Snap, Revert, Listing, Check}
+use Rattle.calls.specs.Parts.{descriptorsOf, activeOf, snapshotsOf, withName}
+use Rattle.calls.specs.Ladder.{answerOf}
+use Rattle.calls.specs.Effect.{storesOf}
+use Rattle.calls.specs.Step.{step, isAccepted}
 use Rattle.calls.specs.History.{betaOf, Agree}
 use Rattle.calls.proofs.Local.{Below}
-use Rattle.calls.proofs.Agreement.{agree-below}
+use Rattle.calls.proofs.Agreement.{agree-below, agree-chain, agree-answer}
 use Rattle.calls.proofs.StoreLists.{Whole, isStored, stored-length, stored-both, stored-anyway, blocks-taken}
+use Rattle.calls.proofs.Frame.{stores-inside}
+use Rattle.calls.proofs.ChainAfter.{before, active-snoc, active-append, reverted-chain}
+use Rattle.calls.proofs.SnappedChain.{snapped-chain}
+use Rattle.calls.proofs.SameStores.{v-below, same-revert, same-snap, snap-covered, same-write, write-covered}
 
 -- the same stores on two cards that agree: they agree again, where every block below the new beta was below the old one or is stored
 module _ (s t : List ℕ) (agree : Agree s t) (ss : List Store) (whole : Whole (length s) ss) (ds : List Descriptor)
@@ -40,3 +50,46 @@ module _ (s t : List ℕ) (agree : Agree s t) (ss : List Store) (whole : Whole (
         beta = beta-is (storeAll s ss) in-s ∙ sym (beta-is (storeAll t ss) in-t);
         below = rw (beta-is (storeAll s ss) in-s) (blocks-taken (storeAll s ss) (storeAll t ss) (activeOf ds .beta .0) (λ p h. same-block p (covered p h)));
       }
+
+active-two : (x y : Descriptor) → activeOf (x ∷ y ∷ []) ≡ y
+unfolding activeOf
+active-two x y = refl
+
+-- an accepted call on two cards that agree
+module _ (s t : List ℕ) (agree : Agree s t) where
+  abbrev ds : List Descriptor
+  ds = descriptorsOf s
+
+  abbrev d : Descriptor
+  d = activeOf ds
+
+  active-beta : betaOf s ≡ d .beta .0
+  unfolding betaOf
+  active-beta = refl
+
+  accepted-too : (k : Call) → isAccepted (answerOf k s) ≡ true → isAccepted (answerOf k t) ≡ true
+  accepted-too k e = ap isAccepted (sym (agree-answer s t agree k)) ∙ e
+
+  -- both cards after the call, given what their chain is then
+  both : (k : Call) (e : isAccepted (answerOf k s) ≡ true) (zs : List Descriptor) → storesOf k s ≡ storesOf k t → chain (storeAll s (storesOf k s)) ≡ Sound zs → chain (storeAll t (storesOf k t)) ≡ Sound zs
+      → ((p : ℕ) → p < activeOf zs .beta .0 → (p < d .beta .0) ⊎ (isStored (storesOf k s) p ≡ true)) → Agree (storeAll s (storesOf k s)) (storeAll t (storesOf k t))
+  both k e zs same-stores in-s in-t covered =
+      subst (λ (ss : List Store). Agree (storeAll s (storesOf k s)) (storeAll t ss)) same-stores
+      (agree-stored s t agree (storesOf k s) (stores-inside k s e) zs in-s (subst (λ (ss : List Store). chain (storeAll t ss) ≡ Sound zs) (sym same-stores) in-t) (λ p h. rw active-beta (covered p h)))
+
+  after-revert : (name : List ℕ) → isAccepted (answerOf (Revert name) s) ≡ true → Agree (storeAll s (storesOf (Revert name) s)) (storeAll t (storesOf (Revert name) t))
+  after-revert name e =
+      let ss = snapshotsOf ds in
+      let w = linkedOf (renamedOf (withName ss name) (d .name)) (physical 0) in
+      both (Revert name) e (before ss name ++ (w ∷ [])) (same-revert s t agree name e) (reverted-chain s name e)
+      (subst (λ (x : Chain). let xs = descriptors x in chain (storeAll t (storesOf (Revert name) t)) ≡ Sound (before (snapshotsOf xs) name ++ (linkedOf (renamedOf (withName (snapshotsOf xs) name) (activeOf xs .name)) (physical 0) ∷ [])))
+      (sym (agree-chain s t agree)) (reverted-chain t name (accepted-too (Revert name) e)))
+      (λ p h. inl (omega (arith, v-below s t agree name e .1, ap (λ (x : Descriptor). x .beta .0) (active-snoc (before ss name) w))))
+
+  after-snap : (name : List ℕ) → isAccepted (answerOf (Snap name) s) ≡ true → Agree (storeAll s (storesOf (Snap name) s)) (storeAll t (storesOf (Snap name) t))
+  after-snap name e =
+      let old = linkedOf (renamedOf d name) (d .beta) in
+      both (Snap name) e (snapshotsOf ds ++ (old ∷ reopenedOf d ∷ [])) (same-snap s t agree name e) (snapped-chain s name e)
+      (subst (λ (x : Chain). let xs = descriptors x in chain (storeAll t (storesOf (Snap name) t)) ≡ Sound (snapshotsOf xs ++ (linkedOf (renamedOf (activeOf xs) name) (activeOf xs .beta) ∷ reopenedOf (activeOf xs) ∷ [])))
+      (sym (agree-chain s t agree)) (snapped-chain t name (accepted-too (Snap name) e)))
+      (λ p h. snap-covered s t agree name e p (omega (arith, ap (λ (x : Descriptor). x .beta .0) (active-append (snapshotsOf ds) old (reopenedOf d ∷ [])), ap (λ (x : Descriptor). x .beta .0) (active-two old (reopenedOf d)))))

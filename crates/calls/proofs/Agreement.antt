@@ -221,7 +221,7 @@ module _ (s t : List ℕ) (agree : Agree s t) where
       (λ (x : Found). row (isMisplaced x) 10 (holderOf x) ∷ row (ltb (blockCount s) (d .beta .0 + need (d .alpha .0) x)) 11 0 ∷ [])
       (rw (active-target ds) at (found-same Active [] l refl e))))))))
 
-  agree-answer : (k : Call) → answerOf k s ≡ answerOf k t
+  pub agree-answer : (k : Call) → answerOf k s ≡ answerOf k t
   unfolding answerOf rowsOf reamRows snapRows revertRows listRows checkRows
   agree-answer (Ream layout volume name) = rw (agree-area, agree-count)
   agree-answer (Read target name l block) = first-same (read-rows target name l block)

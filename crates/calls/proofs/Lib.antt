@@ -20,7 +20,7 @@ pub mod Stored
 pub mod Changed
 pub mod StoreLists
 pub mod Frame
-pub mod AgreeStep
 pub mod ChainAfter
 pub mod SnappedChain
 pub mod SameStores
+pub mod AgreeStep

@@ -77,7 +77,7 @@ module _ (s t : List ℕ) (agree : Agree s t) where
     abbrev v : Descriptor
     v = withName ss name
 
-    v-below : (v .alpha .0 < v .beta .0) × (v .beta .0 ≤ d .beta .0)
+    pub v-below : (v .alpha .0 < v .beta .0) × (v .beta .0 ≤ d .beta .0)
     v-below =
         let r = revert-rows s name e in
         (link-low s (r .0) (r .1) (before ss name) v (behind ss name ++ (d ∷ [])) (revert-split s name e), end-below s (r .0) (r .1) (before ss name) v (behind ss name ++ (d ∷ [])) (revert-split s name e))
@@ -155,3 +155,32 @@ module _ (s t : List ℕ) (agree : Agree s t) where
     pub same-write : storesOf (Write l block) s ≡ storesOf (Write l block) t
     unfolding storesOf
     same-write = rw (← (agree-chain s t agree), ← found-is) (same-writing (find s ds d l) refl)
+
+    -- the blocks that it takes
+    one-more : (x : List ℕ) (rest : List Store) (p : ℕ) → p < d .beta .0 + 1 → (z : Bool) → ltb p (d .beta .0) ≡ z → (p < d .beta .0) ⊎ (isStored (store (d .beta .0) x ∷ rest) p ≡ true)
+    unfolding isStored
+    one-more x rest p h true q = inl (ltb-true p (d .beta .0) q)
+    one-more x rest p h false q = inr (rw (eq-eqb (d .beta .0) p (omega (arith, ltb-false p (d .beta .0) q))))
+
+    two-more : (x y : List ℕ) (rest : List Store) (p : ℕ) → p < d .beta .0 + 2 → (z o : Bool) → ltb p (d .beta .0) ≡ z → eqb (d .beta .0 + 1) p ≡ o
+        → (p < d .beta .0) ⊎ (isStored (store (d .beta .0 + 1) x ∷ store (d .beta .0) y ∷ rest) p ≡ true)
+    unfolding isStored
+    two-more x y rest p h true o q r = inl (ltb-true p (d .beta .0) q)
+    two-more x y rest p h false true q r = inr (rw r)
+    two-more x y rest p h false false q r = inr (rw (r, eq-eqb (d .beta .0) p (omega (arith, ltb-false p (d .beta .0) q, eqb-false (d .beta .0 + 1) p r))))
+
+    taken-by : (m o p : ℕ) (a n : Bool) → p < d .beta .0 + pick a 0 (pick n 2 1)
+        → (p < d .beta .0) ⊎ (isStored (pick (eqb (pick a 0 (pick n 2 1)) 0) (store o block ∷ []) (pick n (store (d .beta .0 + 1) block ∷ setInNewTable s d m l) (store (d .beta .0) block ∷ setInTable s d m l))) p ≡ true)
+    unfolding setInNewTable
+    taken-by m o p true n h = inl (omega arith)
+    taken-by m o p false true h = two-more block _ _ p h (ltb p (d .beta .0)) (eqb (d .beta .0 + 1) p) refl refl
+    taken-by m o p false false h = one-more block _ p h (ltb p (d .beta .0)) refl
+
+    covered-by : (f : Found) (p : ℕ) → p < d .beta .0 + need (d .alpha .0) f → (p < d .beta .0) ⊎ (isStored (writing s d f l block) p ≡ true)
+    unfolding writing need
+    covered-by (Misplaced h) p b = inl (omega arith)
+    covered-by (Entry m o) p b = taken-by (m .0) (o .0) p (not (eqb (o .0) 0) && leb (d .alpha .0) (o .0)) (tableIsNew (d .alpha .0) (m .0)) b
+
+    pub write-covered : (p : ℕ) → p < d .beta .0 + need (d .alpha .0) (foundThrough s d l) → (p < d .beta .0) ⊎ (isStored (storesOf (Write l block) s) p ≡ true)
+    unfolding storesOf
+    write-covered p b = covered-by (foundThrough s d l) p b
