@@ -10,20 +10,23 @@ use Rattle.blocks.specs.Bytes.{blockAt, Store, store, storeBlock, storeAll}
 use Rattle.blocks.specs.Descriptor.{physical, costOf, renamedOf, linkedOf, extendedOf, reopenedOf}
 use Rattle.blocks.specs.Chain.{Chain, Sound, chain, chainSound, descriptors}
 use Rattle.blocks.specs.declared.descriptor.Descriptor.{Descriptor}
+use Rattle.entries.specs.Entry.{find, need}
 use Rattle.calls.specs.declared.answer.Answer.{Answer}
 use Rattle.calls.specs.Call.{Call, Ream, Read, Write, Snap, Revert, Listing, Check}
 use Rattle.calls.specs.Parts.{descriptorsOf, activeOf, snapshotsOf, withName}
 use Rattle.calls.specs.Ladder.{answerOf}
 use Rattle.calls.specs.Effect.{storesOf}
 use Rattle.calls.specs.Step.{step, isAccepted}
-use Rattle.calls.specs.History.{betaOf, Agree}
+use Rattle.calls.specs.History.{betaOf, Agree, isFormat}
 use Rattle.calls.proofs.Local.{Below}
 use Rattle.calls.proofs.Agreement.{agree-below, agree-chain, agree-answer}
 use Rattle.calls.proofs.StoreLists.{Whole, isStored, stored-length, stored-both, stored-anyway, blocks-taken}
 use Rattle.calls.proofs.Frame.{stores-inside}
 use Rattle.calls.proofs.ChainAfter.{before, active-snoc, active-append, reverted-chain}
 use Rattle.calls.proofs.SnappedChain.{snapped-chain}
-use Rattle.calls.proofs.SameStores.{v-below, same-revert, same-snap, snap-covered, same-write, write-covered}
+use Rattle.calls.proofs.SameStores.{v-below, same-revert, same-snap, snap-covered, same-write, found-is, write-covered}
+use Rattle.calls.proofs.WrittenChain.{written-chain}
+use Rattle.calls.proofs.Rows.{no}
 
 -- the same stores on two cards that agree: they agree again, where every block below the new beta was below the old one or is stored
 module _ (s t : List ℕ) (agree : Agree s t) (ss : List Store) (whole : Whole (length s) ss) (ds : List Descriptor)
@@ -93,3 +96,35 @@ module _ (s t : List ℕ) (agree : Agree s t) where
       (subst (λ (x : Chain). let xs = descriptors x in chain (storeAll t (storesOf (Snap name) t)) ≡ Sound (snapshotsOf xs ++ (linkedOf (renamedOf (activeOf xs) name) (activeOf xs .beta) ∷ reopenedOf (activeOf xs) ∷ [])))
       (sym (agree-chain s t agree)) (snapped-chain t name (accepted-too (Snap name) e)))
       (λ p h. snap-covered s t agree name e p (omega (arith, ap (λ (x : Descriptor). x .beta .0) (active-append (snapshotsOf ds) old (reopenedOf d ∷ [])), ap (λ (x : Descriptor). x .beta .0) (active-two old (reopenedOf d)))))
+
+  after-write : (l : ℕ) (block : List ℕ) → isAccepted (answerOf (Write l block) s) ≡ true → Agree (storeAll s (storesOf (Write l block) s)) (storeAll t (storesOf (Write l block) t))
+  after-write l block e =
+      let more = need (d .alpha .0) (find s ds d l) in
+      both (Write l block) e (snapshotsOf ds ++ (extendedOf d more ∷ [])) (same-write s t agree l block e) (written-chain s l block e)
+      (rw (found-is s t agree l block e)
+      (subst (λ (x : Chain). let xs = descriptors x in chain (storeAll t (storesOf (Write l block) t)) ≡ Sound (snapshotsOf xs ++ (extendedOf (activeOf xs) (need (activeOf xs .alpha .0) (find t xs (activeOf xs) l)) ∷ [])))
+      (sym (agree-chain s t agree)) (written-chain t l block (accepted-too (Write l block) e))))
+      (λ p h. write-covered s t agree l block e p (omega (arith, ap (λ (x : Descriptor). x .beta .0) (active-snoc (snapshotsOf ds) (extendedOf d more)))))
+
+  -- every accepted call that is no format
+  none-same : (k : Call) → storesOf k s ≡ [] → storesOf k t ≡ [] → Agree (storeAll s (storesOf k s)) (storeAll t (storesOf k t))
+  unfolding storeAll
+  none-same k e f = rw (e, f) agree
+
+  after-accepted : (k : Call) → isFormat k s ≡ false → isAccepted (answerOf k s) ≡ true → Agree (storeAll s (storesOf k s)) (storeAll t (storesOf k t))
+  unfolding isFormat storesOf
+  after-accepted (Ream layout volume name) f e = no (sym f ∙ e)
+  after-accepted (Read target name l block) f e = none-same (Read target name l block) refl refl
+  after-accepted (Write l block) f e = after-write l block e
+  after-accepted (Snap name) f e = after-snap name e
+  after-accepted (Revert name) f e = after-revert name e
+  after-accepted (Listing records) f e = none-same (Listing records) refl refl
+  after-accepted Check f e = none-same Check refl refl
+
+  step-by : (k : Call) (b : Bool) → isAccepted (answerOf k s) ≡ b → isFormat k s ≡ false → Agree (step k s .card) (step k t .card)
+  unfolding step
+  step-by k true e f = rw (e, accepted-too k e) (after-accepted k f e)
+  step-by k false e f = rw (e, ap isAccepted (sym (agree-answer s t agree k)) ∙ e) agree
+
+  pub agree-step : (k : Call) → isFormat k s ≡ false → Agree (step k s .card) (step k t .card)
+  agree-step k f = step-by k (isAccepted (answerOf k s)) refl f

@@ -84,7 +84,7 @@ list-claim records c ok = (
   listed-rest (descriptorsOf c) (drop (length (descriptorsOf c)) records),
 )
 
-inside-clearing : (n p k : ℕ) → 512 * (p + k) ≤ n → Whole n (clearing p k)
+pub inside-clearing : (n p k : ℕ) → 512 * (p + k) ≤ n → Whole n (clearing p k)
 unfolding clearing
 inside-clearing n p zero h = none
 inside-clearing n p (suc k) h = also p zeroBlock (length-replicate {A = ℕ} 512 0) (omega arith) (inside-clearing n (suc p) k (omega arith))
@@ -95,7 +95,7 @@ inside-copying c from to zero h l = none
 inside-copying c from to (suc k) h l = also to (blockAt c from) (length-blockAt c from (omega arith)) (omega arith) (inside-copying c (suc from) (suc to) k (omega arith) (omega arith))
 
 -- a descriptor's block is whole where its name has sixteen bytes and its tail 472
-block-whole : (d : Descriptor) (tail : List ℕ) → length (d .name) ≡ 16 → length tail ≡ 472 → length (descriptorBlock d tail) ≡ 512
+pub block-whole : (d : Descriptor) (tail : List ℕ) → length (d .name) ≡ 16 → length tail ≡ 472 → length (descriptorBlock d tail) ≡ 512
 unfolding descriptorBlock
 block-whole d tail n t = length-append (headBytes d) tail ∙ omega (arith, head-length d n, t)
 

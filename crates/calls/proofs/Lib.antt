@@ -23,4 +23,6 @@ pub mod Frame
 pub mod ChainAfter
 pub mod SnappedChain
 pub mod SameStores
+pub mod WrittenChain
 pub mod AgreeStep
+pub mod Format

@@ -128,7 +128,7 @@ module _ (s t : List ℕ) (agree : Agree s t) where
         let rows = rows-passed (Write l block) s e in
         (rows 0 (omega arith), not-false (chainSound (chain s)) (rows 2 (omega arith)), rows 3 (omega arith), rows 4 (omega arith))
 
-    found-is : find s ds d l ≡ find t ds d l
+    pub found-is : find s ds d l ≡ find t ds d l
     found-is = rw (active-target ds) at (found-same s t agree Active [] l refl (write-rows .2))
 
     table-below : (m p : Physical) → find s ds d l ≡ Entry m p → m .0 < d .beta .0

@@ -54,7 +54,7 @@ module _ (d : Descriptor) (tail : List ℕ) (fits : Fits d) (whole : length tail
   unfolding descriptorBlock headBytes
   block-mark = refl
 
-  block-tail : (k n : ℕ) → part (descriptorBlock d tail) (40 + k) n ≡ part tail k n
+  pub block-tail : (k n : ℕ) → part (descriptorBlock d tail) (40 + k) n ≡ part tail k n
   unfolding descriptorBlock
   block-tail k n = ap (λ (x : List ℕ). take n x) (subst (λ (m : ℕ). drop (m + k) (headBytes d ++ tail) ≡ drop k tail) head-is (drop-append-add (headBytes d) tail k))
 
@@ -88,11 +88,11 @@ module _ (c : List ℕ) (p : ℕ) (inside : 512 * p + 512 ≤ length c) (d : Des
   pub stored-descriptor : descriptorAt c p ≡ d
   stored-descriptor = sym (block-descriptor c p inside) ∙ ap (λ (b : List ℕ). descriptorAt b 0) is ∙ block-read d tail fits whole
 
-  stored-bytes : (k n : ℕ) → k + n ≤ 512 → part c (512 * p + k) n ≡ part (descriptorBlock d tail) k n
+  pub stored-bytes : (k n : ℕ) → k + n ≤ 512 → part c (512 * p + k) n ≡ part (descriptorBlock d tail) k n
   unfolding blockAt
   stored-bytes k n h = sym (part-part c (512 * p) 512 k n h inside) ∙ ap (λ (b : List ℕ). part b k n) is
 
-  stored-mark : part c (512 * p) 4 ≡ mark
+  pub stored-mark : part c (512 * p) 4 ≡ mark
   stored-mark = let e : 512 * p ≡ 512 * p + 0 = omega arith in ap (λ (n : ℕ). part c n 4) e ∙ stored-bytes 0 4 (omega arith) ∙ block-mark d tail fits whole
 
   -- its form, where layout, L and name are those of a descriptor and the tail has the zero bytes
