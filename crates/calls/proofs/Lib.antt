@@ -26,3 +26,5 @@ pub mod SameStores
 pub mod WrittenChain
 pub mod AgreeStep
 pub mod Format
+pub mod Kept
+pub mod Runs

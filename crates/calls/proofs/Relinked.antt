@@ -28,7 +28,7 @@ module _ (s : List ℕ) where
   first-alpha (last {es = es} {p = p} {d = e} is ok z) d ys q = let k : e ≡ d = cc in rw (← k) (sound-alpha s es p e is ok)
   first-alpha (more {es = es} {p = p} {d = e} is ok z rest) d ys q = let k : e ≡ d = cc in rw (← k) (sound-alpha s es p e is ok)
 
-  later-alpha : {es : List Descriptor} {p : ℕ} {ds : List Descriptor} → Linked s es p ds → (xs : List Descriptor) (d : Descriptor) (ys : List Descriptor) → ds ≡ xs ++ (d ∷ ys) → p ≤ d .alpha .0
+  pub later-alpha : {es : List Descriptor} {p : ℕ} {ds : List Descriptor} → Linked s es p ds → (xs : List Descriptor) (d : Descriptor) (ys : List Descriptor) → ds ≡ xs ++ (d ∷ ys) → p ≤ d .alpha .0
   later-alpha h [] d ys q = omega (arith, first-alpha h d ys q)
   later-alpha (last is ok z) (x ∷ xs) d ys q = omega (arith, ap length q, length-append xs (d ∷ ys))
   later-alpha (more {es = es} {p = p} {d = e} {ds = ds} is ok z rest) (x ∷ xs) d ys q =

@@ -156,13 +156,13 @@ module _ (c name : List ℕ) (e : isAccepted (answerOf (Snap name) c) ≡ true) 
     unfolding isStored
     pair-stored q h = rw (ne-eqb (d .beta .0) q (omega (arith, d-low)), ne-eqb (d .alpha .0) q (omega arith))
 
-    not-stored : (q : ℕ) → q < d .alpha .0 → isStored (storesOf (Snap name) c) q ≡ false
-    not-stored q h =
+    pub snap-above : (q : ℕ) → q < d .alpha .0 → isStored (storesOf (Snap name) c) q ≡ false
+    snap-above q h =
         rw (stores-are, stored-join copies (store (d .beta .0) (descriptorBlock new tail) ∷ store (d .alpha .0) (descriptorBlock old tail) ∷ []) q, copies-stored c (d .alpha .0 + 1) (d .beta .0 + 1) (costOf d - 1) q (omega (arith, d-low)))
         (pair-stored q h)
 
     kept : (q : ℕ) → q < d .alpha .0 → blockAt c q ≡ blockAt t q
-    kept q h = sym (stored-other (length c) c refl whole q (not-stored q h))
+    kept q h = sym (stored-other (length c) c refl whole q (snap-above q h))
 
     same-long : length c ≡ length t
     same-long = sym (stored-length (length c) c refl whole)
