@@ -6,7 +6,7 @@ use mathlib.Core.Bool.{Bool, true, false, not, _&&_, _||_}
 use mathlib.Core.List.{List, [], _∷_, _++_, append-assoc}
 use Prim.Native.Nat.{ℕ, zero, suc, _+_, _*_, _-_, _≤_, _<_}
 use native.Mathlib.Omega.{arith}
-use lib.ListN.{length, take, drop, length-append}
+use lib.ListN.{length, take, drop, length-append, take-append-drop}
 use lib.Seq.{take-append-le, take-append-add, append-snoc}
 use lib.Dec.{eqb, ltb, leb}
 use borrow.Author.Tests.{ne-eqb, leb-true, leb-false, ltb-false, not-false}
@@ -165,3 +165,80 @@ module _ (s : List ℕ) (xs : List Descriptor) (v : Descriptor) (n : List ℕ) (
       (snapped-chain t name e ∙ ap Sound (grown (old ∷ new ∷ [])))
       (ap (λ (ys : List Descriptor). activeOf ys .name) (sym (append-snoc (snapshotsOf rest) old (new ∷ []))) ∙ ap (λ (y : Descriptor). y .name) (active-snoc (snapshotsOf rest ++ (old ∷ [])) new) ∙ active-name)
       (λ p q. snap-above t name e (r .0) (r .1) (r .2) (r .3) (r .5) p (omega (arith, active-above)))
+
+  -- a revert: to a later snapshot v stays, otherwise it is gone
+  module _ (name : List ℕ) (e : isAccepted (answerOf (Revert name) t) ≡ true) where
+    abbrev ss : List Descriptor
+    ss = snapshotsOf (descriptorsOf t)
+
+    abbrev zs : List Descriptor
+    zs = snapshotsOf rest
+
+    abbrev u : Descriptor
+    u = withName ss name
+
+    abbrev w : Descriptor
+    w = linkedOf (renamedOf u (activeOf (descriptorsOf t) .name)) (physical 0)
+
+    abbrev ws : List Descriptor
+    ws = behind ss name ++ (activeOf (descriptorsOf t) ∷ [])
+
+    sound-t : chain t ≡ Sound (descriptorsOf t)
+    sound-t = h .is ∙ ap Sound (sym ds-is)
+
+    later : (i : ℕ) → indexOf ss name ≡ length xs + suc i → before ss name ≡ xs ++ (v ∷ take i zs)
+    later i q = ap (λ (ys : List Descriptor). take (indexOf ss name) ys) stands-snapshots ∙ rw q (take-append-add xs (v ∷ zs) (suc i))
+
+    later-above : (i : ℕ) → indexOf ss name ≡ length xs + suc i → v .beta .0 ≤ u .alpha .0
+    later-above i q =
+        let split : descriptorsOf t ≡ xs ++ (v ∷ (take i zs ++ (u ∷ ws))) = revert-split t name e ∙ ap (λ (ys : List Descriptor). ys ++ (u ∷ ws)) (later i q) ∙ append-assoc xs (v ∷ take i zs) (u ∷ ws) in
+        beta-before (member-from t (descriptorsOf t) xs v (take i zs ++ (u ∷ ws)) sound-t split) v (take i zs) u ws refl
+
+    revert-above : (i : ℕ) → indexOf ss name ≡ length xs + suc i → (p : ℕ) → p < v .beta .0 → isStored (storesOf (Revert name) t) p ≡ false
+    unfolding storesOf reverting
+    revert-above i q p l = one-stored (u .alpha .0) _ p (λ k. omega (arith, later-above i q))
+
+    stands-later : (i : ℕ) → indexOf ss name ≡ length xs + suc i → Stands s xs v n (storeAll t (storesOf (Revert name) t))
+    stands-later i q =
+        stands-by (Revert name) e (take i zs ++ (w ∷ [])) (omega (arith, length-append (take i zs) (w ∷ [])))
+        (reverted-chain t name e ∙ ap Sound (ap (λ (ys : List Descriptor). ys ++ (w ∷ [])) (later i q) ∙ append-assoc xs (v ∷ take i zs) (w ∷ [])))
+        (ap (λ (y : Descriptor). y .name) (active-snoc (take i zs) w) ∙ active-name) (revert-above i q)
+
+    gone : indexOf ss name ≤ length xs → named (snapshotsOf (descriptorsOf (storeAll t (storesOf (Revert name) t)))) (v .name) ≡ false
+    gone q =
+        let j = indexOf ss name in
+        let f : before ss name ≡ take j xs = ap (λ (ys : List Descriptor). take j ys) stands-snapshots ∙ take-append-le j xs (v ∷ zs) q in
+        let g : snapshotsOf (descriptorsOf (storeAll t (storesOf (Revert name) t))) ≡ take j xs = ap snapshotsOf (descriptors-are (storeAll t (storesOf (Revert name) t)) (before ss name ++ (w ∷ [])) (reverted-chain t name e)) ∙ snapshots-snoc (before ss name) w ∙ f in
+        ap (λ (ys : List Descriptor). named ys (v .name)) g
+        ∙ named-left (take j xs) (drop j xs) (v .name) (ap (λ (ys : List Descriptor). named ys (v .name)) (take-append-drop j xs) ∙ member-fresh t (xs ++ (v ∷ rest)) xs v rest (h .is) refl)
+
+    revert-by : (z : Bool) → leb (indexOf ss name) (length xs) ≡ z
+        → Stands s xs v n (storeAll t (storesOf (Revert name) t)) ⊎ (named (snapshotsOf (descriptorsOf (storeAll t (storesOf (Revert name) t)))) (v .name) ≡ false)
+    revert-by true q = inr (gone (leb-true (indexOf ss name) (length xs) q))
+    revert-by false q = inl (stands-later (indexOf ss name - suc (length xs)) (omega (arith, leb-false (indexOf ss name) (length xs) q)))
+
+  -- every call that is no accepted format
+  abbrev Either : List ℕ → Type 0
+  Either c = Stands s xs v n c ⊎ (named (snapshotsOf (descriptorsOf c)) (v .name) ≡ false)
+
+  same-card : (k : Call) → storesOf k t ≡ [] → Either (storeAll t (storesOf k t))
+  unfolding storeAll
+  same-card k q = rw q (inl h)
+
+  stands-accepted : (k : Call) → isFormat k t ≡ false → isAccepted (answerOf k t) ≡ true → Either (storeAll t (storesOf k t))
+  unfolding isFormat storesOf
+  stands-accepted (Ream layout volume name) f e = no (sym f ∙ e)
+  stands-accepted (Read target name l block) f e = same-card (Read target name l block) refl
+  stands-accepted (Write l block) f e = inl (stands-write l block e)
+  stands-accepted (Snap name) f e = inl (stands-snap name e)
+  stands-accepted (Revert name) f e = revert-by name e (leb (indexOf (snapshotsOf (descriptorsOf t)) name) (length xs)) refl
+  stands-accepted (Listing records) f e = same-card (Listing records) refl
+  stands-accepted Check f e = same-card Check refl
+
+  step-by : (k : Call) (b : Bool) → isAccepted (answerOf k t) ≡ b → isFormat k t ≡ false → Either (step k t .card)
+  unfolding step
+  step-by k true e f = rw e (stands-accepted k f e)
+  step-by k false e f = rw e (inl h)
+
+  pub stands-step : (k : Call) → isFormat k t ≡ false → Stands s xs v n (step k t .card) ⊎ (named (snapshotsOf (descriptorsOf (step k t .card))) (v .name) ≡ false)
+  stands-step k f = step-by k (isAccepted (answerOf k t)) refl f
