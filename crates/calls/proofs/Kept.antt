@@ -91,7 +91,7 @@ pub record Stands (s : List ℕ) (xs : List Descriptor) (v : Descriptor) (n : Li
   pub active : activeOf rest .name ≡ n
   pub blocks : (p : ℕ) → p < v .beta .0 → blockAt s p ≡ blockAt t p
 
-descriptors-are : (c : List ℕ) (ds : List Descriptor) → chain c ≡ Sound ds → descriptorsOf c ≡ ds
+pub descriptors-are : (c : List ℕ) (ds : List Descriptor) → chain c ≡ Sound ds → descriptorsOf c ≡ ds
 unfolding descriptors
 descriptors-are c ds e = ap descriptors e
 

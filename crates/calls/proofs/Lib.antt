@@ -28,3 +28,4 @@ pub mod AgreeStep
 pub mod Format
 pub mod Kept
 pub mod Runs
+pub mod Latest

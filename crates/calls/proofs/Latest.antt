@@ -1,0 +1,131 @@
+-- The latest accepted snap of a name in a run: after it a snapshot of that name stands as it was made, or none does.
+use mathlib.Core.Path.{_≡_, refl, sym, ap, _∙_, subst}
+use mathlib.Core.Logic.{_⊎_, inl, inr}
+use mathlib.Core.Bool.{Bool, true, false, not, _&&_, _||_}
+use mathlib.Core.List.{List, [], _∷_, _++_}
+use Prim.Native.Nat.{ℕ, zero, suc, _+_, _*_, _-_, _≤_, _<_}
+use native.Mathlib.Omega.{arith}
+use lib.ListN.{length, take, drop, getD, take-append-drop}
+use lib.Seq.{append-snoc}
+use lib.Dec.{eqb}
+use Rattle.blocks.specs.Pick.{pick, same}
+use Rattle.blocks.specs.Bytes.{storeAll}
+use Rattle.blocks.specs.Descriptor.{physical, renamedOf, linkedOf, extendedOf, reopenedOf}
+use Rattle.blocks.specs.Chain.{Sound, chain, chainSound, descriptors, named}
+use Rattle.blocks.specs.declared.descriptor.Descriptor.{Descriptor}
+use Rattle.blocks.proofs.ListLaws.{same-equal}
+use Rattle.entries.specs.Entry.{need}
+use Rattle.calls.specs.Call.{Call, Ream, Read, Write, Snap, Revert, Listing, Check}
+use Rattle.calls.specs.Parts.{descriptorsOf, activeOf, snapshotsOf, withName, indexOf, foundThrough}
+use Rattle.calls.specs.Ladder.{answerOf}
+use Rattle.calls.specs.Effect.{storesOf}
+use Rattle.calls.specs.Step.{step, after, isAccepted}
+use Rattle.calls.specs.History.{isFormat, Standing, none, more, isSnapOf, Position, Nowhere, At, latestFrom}
+use Rattle.calls.proofs.Rows.{no}
+use Rattle.calls.proofs.Changed.{named-append, named-left}
+use Rattle.calls.proofs.ChainAfter.{before, snapshots-snoc, reverted-chain}
+use Rattle.calls.proofs.SnappedChain.{snapped-chain}
+use Rattle.calls.proofs.WrittenChain.{written-chain}
+use Rattle.calls.proofs.Kept.{Stands, descriptors-are, stands-step}
+use Rattle.calls.proofs.Runs.{standing-length, step-length}
+
+-- a call that is no accepted snap of the name makes no snapshot of it
+module _ (n t : List ℕ) (gone : named (snapshotsOf (descriptorsOf t)) n ≡ false) where
+  gone-by : (c : List ℕ) (ss : List Descriptor) (e : Descriptor) → chain c ≡ Sound (ss ++ (e ∷ [])) → named ss n ≡ false → named (snapshotsOf (descriptorsOf c)) n ≡ false
+  gone-by c ss e is h = ap (λ (ds : List Descriptor). named (snapshotsOf ds) n) (descriptors-are c (ss ++ (e ∷ [])) is) ∙ ap (λ (ds : List Descriptor). named ds n) (snapshots-snoc ss e) ∙ h
+
+  gone-write : (l : ℕ) (block : List ℕ) → isAccepted (answerOf (Write l block) t) ≡ true → named (snapshotsOf (descriptorsOf (storeAll t (storesOf (Write l block) t)))) n ≡ false
+  gone-write l block e = gone-by (storeAll t (storesOf (Write l block) t)) (snapshotsOf (descriptorsOf t)) _ (written-chain t l block e) gone
+
+  gone-snap : (name : List ℕ) → isAccepted (answerOf (Snap name) t) ≡ true → same name n ≡ false → named (snapshotsOf (descriptorsOf (storeAll t (storesOf (Snap name) t)))) n ≡ false
+  unfolding named
+  gone-snap name e other =
+      let d = activeOf (descriptorsOf t) in
+      let old = linkedOf (renamedOf d name) (d .beta) in
+      gone-by (storeAll t (storesOf (Snap name) t)) (snapshotsOf (descriptorsOf t) ++ (old ∷ [])) (reopenedOf d)
+      (snapped-chain t name e ∙ ap Sound (sym (append-snoc (snapshotsOf (descriptorsOf t)) old (reopenedOf d ∷ []))))
+      (named-append (snapshotsOf (descriptorsOf t)) (old ∷ []) n ∙ rw (gone, other))
+
+  gone-revert : (name : List ℕ) → isAccepted (answerOf (Revert name) t) ≡ true → named (snapshotsOf (descriptorsOf (storeAll t (storesOf (Revert name) t)))) n ≡ false
+  gone-revert name e =
+      let ss = snapshotsOf (descriptorsOf t) in
+      gone-by (storeAll t (storesOf (Revert name) t)) (before ss name) _ (reverted-chain t name e)
+      (named-left (before ss name) (drop (indexOf ss name) ss) n (ap (λ (ds : List Descriptor). named ds n) (take-append-drop (indexOf ss name) ss) ∙ gone))
+
+  gone-same : (k : Call) → storesOf k t ≡ [] → named (snapshotsOf (descriptorsOf (storeAll t (storesOf k t)))) n ≡ false
+  unfolding storeAll
+  gone-same k q = rw q gone
+
+  gone-accepted : (k : Call) → isFormat k t ≡ false → isAccepted (answerOf k t) ≡ true → isSnapOf n k ≡ false → named (snapshotsOf (descriptorsOf (storeAll t (storesOf k t)))) n ≡ false
+  unfolding isFormat storesOf isSnapOf
+  gone-accepted (Ream layout volume name) f e o = no (sym f ∙ e)
+  gone-accepted (Read target name l block) f e o = gone-same (Read target name l block) refl
+  gone-accepted (Write l block) f e o = gone-write l block e
+  gone-accepted (Snap name) f e o = gone-snap name e o
+  gone-accepted (Revert name) f e o = gone-revert name e
+  gone-accepted (Listing records) f e o = gone-same (Listing records) refl
+  gone-accepted Check f e o = gone-same Check refl
+
+  step-by : (k : Call) (b : Bool) → isAccepted (answerOf k t) ≡ b → isFormat k t ≡ false → (isSnapOf n k && b) ≡ false → named (snapshotsOf (descriptorsOf (step k t .card))) n ≡ false
+  unfolding step
+  step-by k true e f o = rw e (gone-accepted k f e (and-true (isSnapOf n k) o))
+    where
+      and-true : (x : Bool) → (x && true) ≡ false → x ≡ false
+      and-true true q = q
+      and-true false q = refl
+  step-by k false e f o = rw e gone
+
+  gone-step : (k : Call) → isFormat k t ≡ false → (isSnapOf n k && isAccepted (answerOf k t)) ≡ false → named (snapshotsOf (descriptorsOf (step k t .card))) n ≡ false
+  gone-step k f o = step-by k (isAccepted (answerOf k t)) refl f o
+
+-- a run without an accepted snap of the name
+pub data Unsnapped (n : List ℕ) : List ℕ → List Call → Type 0 where
+  end : {c : List ℕ} → Unsnapped n c []
+  then : {c : List ℕ} {k : Call} {ks : List Call} → (isSnapOf n k && isAccepted (answerOf k c)) ≡ false → Unsnapped n (step k c .card) ks → Unsnapped n c (k ∷ ks)
+
+-- no snapshot of the name comes to be in such a run
+pub gone-run : (n : List ℕ) (ks : List Call) (t : List ℕ) → named (snapshotsOf (descriptorsOf t)) n ≡ false → Standing t ks → Unsnapped n t ks → named (snapshotsOf (descriptorsOf (after ks t))) n ≡ false
+unfolding after
+gone-run n [] t g s u = g
+gone-run n (k ∷ ks) t g (more f b rest) (then o u) =
+    gone-run n ks (step k t .card) (gone-step n t g k f o) (standing-length t (step k t .card) (sym (step-length k t)) ks rest) u
+
+-- and one that stands at its start stands as it was, or is gone
+module _ (s : List ℕ) (xs : List Descriptor) (v : Descriptor) (a : List ℕ) where
+  run-by : (k : Call) (ks : List Call) (t : List ℕ) → Standing (step k t .card) ks → Unsnapped (v .name) (step k t .card) ks
+      → (Stands s xs v a (step k t .card) → Stands s xs v a (after ks (step k t .card)) ⊎ (named (snapshotsOf (descriptorsOf (after ks (step k t .card)))) (v .name) ≡ false))
+      → Stands s xs v a (step k t .card) ⊎ (named (snapshotsOf (descriptorsOf (step k t .card))) (v .name) ≡ false)
+      → Stands s xs v a (after ks (step k t .card)) ⊎ (named (snapshotsOf (descriptorsOf (after ks (step k t .card)))) (v .name) ≡ false)
+  run-by k ks t f u again (inl h) = again h
+  run-by k ks t f u again (inr g) = inr (gone-run (v .name) ks (step k t .card) g f u)
+
+  pub stands-run : (ks : List Call) (t : List ℕ) → Stands s xs v a t → Standing t ks → Unsnapped (v .name) t ks
+      → Stands s xs v a (after ks t) ⊎ (named (snapshotsOf (descriptorsOf (after ks t))) (v .name) ≡ false)
+  unfolding after
+  stands-run [] t h f u = inl h
+  stands-run (k ∷ ks) t h (more f b rest) (then o u) =
+      let g = standing-length t (step k t .card) (sym (step-length k t)) ks rest in
+      run-by k ks t g u (λ x. stands-run ks (step k t .card) x g u) (stands-step s xs v a t h k f)
+
+-- the latest accepted snap, by its position
+pub record LastSnap (n c : List ℕ) (ks : List Call) (j : ℕ) : Type 0 where
+  pub inside : j < length ks
+  pub is : isSnapOf n (getD ks j Check) ≡ true
+  pub accepted-there : isAccepted (answerOf (getD ks j Check) (after (take j ks) c)) ≡ true
+  pub later : Unsnapped n (after (take (suc j) ks) c) (drop (suc j) ks)
+
+at-is : {i j : ℕ} → At i ≡ At j → i ≡ j
+at-is e = cc
+
+-- nowhere
+none-by : (i : ℕ) (best : Position) (h : Bool) → pick h (At i) best ≡ Nowhere → (h ≡ false) × (best ≡ Nowhere)
+none-by i best true e = let z : _≡_ {A = ℕ} 0 1 = cc in absurd (omega arith)
+none-by i best false e = (refl, e)
+
+latest-none : (n : List ℕ) (ks : List Call) (c : List ℕ) (i : ℕ) (best : Position) → latestFrom n c ks i best ≡ Nowhere → (best ≡ Nowhere) × Unsnapped n c ks
+unfolding latestFrom
+latest-none n [] c i best e = (e, end)
+latest-none n (k ∷ ks) c i best e =
+    let r = latest-none n ks (step k c .card) (suc i) (pick (isSnapOf n k && isAccepted (answerOf k c)) (At i) best) e in
+    let b = none-by i best (isSnapOf n k && isAccepted (answerOf k c)) (r .0) in
+    (b .1, then (b .0) (r .1))
