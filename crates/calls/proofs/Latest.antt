@@ -20,7 +20,7 @@ use Rattle.calls.specs.Parts.{descriptorsOf, activeOf, snapshotsOf, with
 use Rattle.calls.specs.Ladder.{answerOf}
 use Rattle.calls.specs.Effect.{storesOf}
 use Rattle.calls.specs.Step.{step, after, isAccepted}
-use Rattle.calls.specs.History.{isFormat, Standing, none, more, isSnapOf, Position, Nowhere, At, latestFrom}
+use Rattle.calls.specs.History.{isFormat, Standing, none, more, isSnapOf, Position, Nowhere, At, latestFrom, latestSnap}
 use Rattle.calls.proofs.Rows.{no}
 use Rattle.calls.proofs.Changed.{named-append, named-left}
 use Rattle.calls.proofs.ChainAfter.{before, snapshots-snoc, reverted-chain}
@@ -129,3 +129,57 @@ latest-none n (k ∷ ks) c i best e =
     let r = latest-none n ks (step k c .card) (suc i) (pick (isSnapOf n k && isAccepted (answerOf k c)) (At i) best) e in
     let b = none-by i best (isSnapOf n k && isAccepted (answerOf k c)) (r .0) in
     (b .1, then (b .0) (r .1))
+
+pub latest-nowhere : (n c : List ℕ) (ks : List Call) → latestSnap n c ks ≡ Nowhere → Unsnapped n c ks
+unfolding latestSnap
+latest-nowhere n c ks e = latest-none n ks c 0 Nowhere e .1
+
+-- at a position: the best so far, and no later one, or one in the list
+both-true : (x y : Bool) → (x && y) ≡ true → (x ≡ true) × (y ≡ true)
+both-true true y e = (refl, e)
+both-true false y e = no e
+
+last-here : (n c : List ℕ) (k : Call) (ks : List Call) → (isSnapOf n k && isAccepted (answerOf k c)) ≡ true → Unsnapped n (step k c .card) ks → LastSnap n c (k ∷ ks) 0
+unfolding after
+last-here n c k ks h u = let b = both-true (isSnapOf n k) (isAccepted (answerOf k c)) h in record { inside = omega arith; is = b .0; accepted-there = b .1; later = u }
+
+last-later : (n c : List ℕ) (k : Call) (ks : List Call) (j : ℕ) → LastSnap n (step k c .card) ks j → LastSnap n c (k ∷ ks) (suc j)
+unfolding after
+last-later n c k ks j l = record { inside = omega (arith, l .inside); is = l .is; accepted-there = l .accepted-there; later = l .later }
+
+abbrev Found : List ℕ → List ℕ → List Call → ℕ → ℕ → Type 0
+Found n c ks i r = (j : ℕ) × (r ≡ i + j) × LastSnap n c ks j
+
+here-by : (n c : List ℕ) (k : Call) (ks : List Call) (i r : ℕ) (best : Position) (h : Bool) → (isSnapOf n k && isAccepted (answerOf k c)) ≡ h → Unsnapped n (step k c .card) ks → pick h (At i) best ≡ At r
+    → ((best ≡ At r) × Unsnapped n c (k ∷ ks)) ⊎ Found n c (k ∷ ks) i r
+here-by n c k ks i r best true q u e = inr (0, (let w : i ≡ r = at-is e in omega arith), last-here n c k ks q u)
+here-by n c k ks i r best false q u e = inl (e, then q u)
+
+tail-by : (n c : List ℕ) (k : Call) (ks : List Call) (i r : ℕ) (best : Position) → ((pick (isSnapOf n k && isAccepted (answerOf k c)) (At i) best ≡ At r) × Unsnapped n (step k c .card) ks) ⊎ Found n (step k c .card) ks (suc i) r
+    → ((best ≡ At r) × Unsnapped n c (k ∷ ks)) ⊎ Found n c (k ∷ ks) i r
+tail-by n c k ks i r best (inl h) = here-by n c k ks i r best (isSnapOf n k && isAccepted (answerOf k c)) refl (h .1) (h .0)
+tail-by n c k ks i r best (inr f) = inr (suc (f .0), omega (arith, f .1), last-later n c k ks (f .0) (f .2))
+
+latest-some : (n : List ℕ) (ks : List Call) (c : List ℕ) (i r : ℕ) (best : Position) → latestFrom n c ks i best ≡ At r → ((best ≡ At r) × Unsnapped n c ks) ⊎ Found n c ks i r
+unfolding latestFrom
+latest-some n [] c i r best e = inl (e, end)
+latest-some n (k ∷ ks) c i r best e = tail-by n c k ks i r best (latest-some n ks (step k c .card) (suc i) r (pick (isSnapOf n k && isAccepted (answerOf k c)) (At i) best) e)
+
+at-by : (n c : List ℕ) (ks : List Call) (r : ℕ) → ((Nowhere ≡ At r) × Unsnapped n c ks) ⊎ Found n c ks 0 r → LastSnap n c ks r
+at-by n c ks r (inl h) = let e = h .0 in let z : _≡_ {A = ℕ} 0 1 = cc in absurd (omega arith)
+at-by n c ks r (inr f) = let e : f .0 ≡ r = omega (arith, f .1) in subst (λ (j : ℕ). LastSnap n c ks j) e (f .2)
+
+pub latest-at : (n c : List ℕ) (ks : List Call) (r : ℕ) → latestSnap n c ks ≡ At r → LastSnap n c ks r
+unfolding latestSnap
+latest-at n c ks r e = at-by n c ks r (latest-some n ks c 0 r Nowhere e)
+
+-- a snap under the name
+pub snap-of : (n : List ℕ) (k : Call) → isSnapOf n k ≡ true → k ≡ Snap n
+unfolding isSnapOf
+snap-of n (Ream layout volume name) e = no e
+snap-of n (Read target name l block) e = no e
+snap-of n (Write l block) e = no e
+snap-of n (Snap name) e = ap Snap (same-equal name n e)
+snap-of n (Revert name) e = no e
+snap-of n (Listing records) e = no e
+snap-of n Check e = no e

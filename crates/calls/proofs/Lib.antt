@@ -29,3 +29,4 @@ pub mod Format
 pub mod Kept
 pub mod Runs
 pub mod Latest
+pub mod Undone

@@ -120,16 +120,16 @@ module _ (c name : List ℕ) (e : isAccepted (answerOf (Snap name) c) ≡ true) 
     copies-whole : Whole (length c) copies
     copies-whole = inside-copying c (d .alpha .0 + 1) (d .beta .0 + 1) (costOf d - 1) (omega (arith, d-low)) (omega (arith, room-bytes, d-least))
 
-    next-nil : d .next .0 ≡ 0
+    pub next-nil : d .next .0 ≡ 0
     next-nil = linked-next c (member-from c (descriptorsOf c) xs d [] (sound-is c area ok) split) d refl
 
-    old-fits : Fits old
+    pub old-fits : Fits old
     old-fits = fits-of old (link-layout c area ok xs d [] split) (link-volume c area ok xs d [] split) (omega (arith, d-low, room, d-most)) (omega (arith, room, d-most)) (omega (arith, room, d-most)) called
 
     new-fits : Fits new
     new-fits = fits-of new (link-layout c area ok xs d [] split) (link-volume c area ok xs d [] split) (omega (arith, room, d-most)) (omega (arith, room, d-most)) (omega (arith, next-nil)) (active-name c area ok)
 
-    tail-whole : length tail ≡ 472
+    pub tail-whole : length tail ≡ 472
     tail-whole = tail-long c (d .alpha .0) d-inside
 
     old-long : length (descriptorBlock old tail) ≡ 512
@@ -141,7 +141,7 @@ module _ (c name : List ℕ) (e : isAccepted (answerOf (Snap name) c) ≡ true) 
     new-inside : 512 * d .beta .0 + 512 ≤ length c
     new-inside = omega (arith, room-bytes, d-least)
 
-    old-block : blockAt t (d .alpha .0) ≡ descriptorBlock old tail
+    pub old-block : blockAt t (d .alpha .0) ≡ descriptorBlock old tail
     old-block =
         rw (stores-are, ← (append-snoc copies (store (d .beta .0) (descriptorBlock new tail)) (store (d .alpha .0) (descriptorBlock old tail) ∷ [])))
         (stored-last (length c) c refl (whole-append copies-whole (also (d .beta .0) (descriptorBlock new tail) new-long new-inside none)) (d .alpha .0) (descriptorBlock old tail) old-long d-inside none (none-stored (d .alpha .0)))
