@@ -99,18 +99,18 @@ pub block-whole : (d : Descriptor) (tail : List ℕ) → length (d .name) ≡ 16
 unfolding descriptorBlock
 block-whole d tail n t = length-append (headBytes d) tail ∙ omega (arith, head-length d n, t)
 
-name-length : (name : List ℕ) → isName name ≡ true → length name ≡ 16
+pub name-length : (name : List ℕ) → isName name ≡ true → length name ≡ 16
 unfolding isName
 name-length name h = eqb-true (length name) 16 (and-left _ _ (and-left _ _ h))
 
-tail-length : (c : List ℕ) (p : ℕ) → 512 * p + 512 ≤ length c → length (tailAt c p) ≡ 472
+pub tail-length : (c : List ℕ) (p : ℕ) → 512 * p + 512 ≤ length c → length (tailAt c p) ≡ 472
 tail-length c p h = length-part c (512 * p + 40) 472 (omega arith)
 
-table-length : (table : List ℕ) (j q : ℕ) → j < 128 → length table ≡ 512 → length (tableWith table j q) ≡ 512
+pub table-length : (table : List ℕ) (j q : ℕ) → j < 128 → length table ≡ 512 → length (tableWith table j q) ≡ 512
 unfolding tableWith
 table-length table j q h e = length-splice table (4 * j) (le32 q) (omega (arith, length-le32 q)) ∙ e
 
-tail-with-length : (tail : List ℕ) (i m : ℕ) → i < 112 → length tail ≡ 472 → length (tailWith tail i m) ≡ 472
+pub tail-with-length : (tail : List ℕ) (i m : ℕ) → i < 112 → length tail ≡ 472 → length (tailWith tail i m) ≡ 472
 unfolding tailWith
 tail-with-length tail i m h e = length-splice tail (24 + 4 * i) (le32 m) (omega (arith, length-le32 m)) ∙ e
 
@@ -174,7 +174,7 @@ module _ (c : List ℕ) (d : Descriptor) (m p : Physical) (l : ℕ) (block : Lis
     entry-inside = entry-by (eqb (need (d .alpha .0) (Entry m p)) 0) refl
 
 -- a card with a sound chain
-regions-ok : (ch : Chain) → chainSound ch ≡ true → regionsOf ch .sound ≡ true
+pub regions-ok : (ch : Chain) → chainSound ch ≡ true → regionsOf ch .sound ≡ true
 unfolding regionsOf chainSound
 regions-ok (Sound ds) e = refl
 regions-ok (Unsound p) e = e
@@ -202,7 +202,7 @@ module _ (c : List ℕ) (area : areaBad c ≡ false) (sound : chainSound (chain 
   pub active-through : Through c (r .starts) (r .count) active
   active-through = card-through c r refl area ok (r .count - 1) (omega (arith, some)) active active-is
 
-  active-name : length (active .name) ≡ 16
+  pub active-name : length (active .name) ≡ 16
   active-name = at-name c active (getD (r .starts) (r .count - 1) 0) active-is (card-inside c r refl area ok (r .count - 1) (omega (arith, some)))
 
   active-alpha : 512 * active .alpha .0 + 512 ≤ length c

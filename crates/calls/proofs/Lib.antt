@@ -30,3 +30,6 @@ pub mod Kept
 pub mod Runs
 pub mod Latest
 pub mod Undone
+pub mod AlgorithmLaws
+pub mod CheckClaims
+pub mod Rollback

@@ -125,7 +125,7 @@ module _ (o : Descriptor) (n : List ℕ) (here : same (o .name) n ≡ true) wher
       rw (or-first (same (x .name) n) (named xs n) h)
       (with-snoc xs (or-second (same (x .name) n) (named xs n) h))
 
-area-kept : (s t : List ℕ) → length s ≡ length t → areaBad s ≡ areaBad t
+pub area-kept : (s t : List ℕ) → length s ≡ length t → areaBad s ≡ areaBad t
 unfolding areaBad blockCount
 area-kept s t e = rw e
 
@@ -137,7 +137,7 @@ descriptors-are : (c : List ℕ) (ds : List Descriptor) → chain c ≡ Sound ds
 unfolding descriptors
 descriptors-are c ds e = ap descriptors e
 
-revert-passes : (c name : List ℕ) → areaBad c ≡ false → isName name ≡ true → chainSound (chain c) ≡ true → named (snapshotsOf (descriptorsOf c)) name ≡ true → isAccepted (answerOf (Revert name) c) ≡ true
+pub revert-passes : (c name : List ℕ) → areaBad c ≡ false → isName name ≡ true → chainSound (chain c) ≡ true → named (snapshotsOf (descriptorsOf c)) name ≡ true → isAccepted (answerOf (Revert name) c) ≡ true
 unfolding answerOf rowsOf revertRows firstRow
 revert-passes c name area called ok is = rw (area, called, ok, is)
 
