@@ -5,8 +5,8 @@ use mathlib.Core.Bool.{Bool, true, false, not, _&&_, _||_}
 use mathlib.Core.List.{List, [], _∷_, _++_}
 use Prim.Native.Nat.{ℕ, zero, suc, _+_, _*_, _-_, _≤_, _<_}
 use native.Mathlib.Omega.{arith}
-use lib.ListN.{length, take, drop, getD, take-append-drop}
-use lib.Seq.{take-append-seam, getD-append-seam, take-take}
+use lib.ListN.{length, take, drop, getD, take-append-drop, length-append, length-drop}
+use lib.Seq.{take-append-seam, getD-append-seam, take-take, take-suc, drop-cons}
 use borrow.Author.Tests.{not-false}
 use Rattle.blocks.specs.Pick.{pick, same}
 use Rattle.blocks.specs.Bytes.{part, blockAt, Store, store, storeAll}
@@ -32,6 +32,9 @@ use Rattle.calls.proofs.Frame.{stores-inside}
 use Rattle.calls.proofs.ChainAfter.{before, behind, active-snoc, link-low, revert-rows, revert-split, reverted-chain}
 use Rattle.calls.proofs.SnappedChain.{snapped-chain}
 use Rattle.calls.proofs.Kept.{Stands, descriptors-are, stands-snapshots, stands-active}
+use Rattle.calls.proofs.AgreeStep.{agree-step}
+use Rattle.calls.proofs.Latest.{Unsnapped, gone-run, stands-run, LastSnap, latest-nowhere, latest-at, snap-of}
+use Rattle.calls.proofs.Runs.{standing-length, standing-take, standing-drop, after-append, after-length, after-split, matched-from, without-drop, without-take}
 use Rattle.calls.proofs.Undone.{revert-passes, area-kept, undone, undone-accepted}
 
 -- the first of a name stands after those that have another
@@ -153,3 +156,107 @@ agree-trans a b c x y =
       beta = x .beta ∙ y .beta;
       below = x .below ∙ subst (λ (m : ℕ). take (512 * m) b ≡ take (512 * m) c) (sym (x .beta)) (y .below);
     }
+
+-- a snapshot of a name stands on its own card
+with-name-is : (ss : List Descriptor) (n : List ℕ) → named ss n ≡ true → withName ss n .name ≡ n
+unfolding named withName
+with-name-is [] n h = no h
+with-name-is (d ∷ ss) n h = name-by d ss n (same (d .name) n) refl h (with-name-is ss n)
+  where
+    name-by : (d : Descriptor) (ss : List Descriptor) (n : List ℕ) (z : Bool) → same (d .name) n ≡ z → (z || named ss n) ≡ true → (named ss n ≡ true → withName ss n .name ≡ n) → pick z d (withName ss n) .name ≡ n
+    name-by d ss n true e h f = same-equal (d .name) n e
+    name-by d ss n false e h f = f h
+
+-- what an accepted revert tells of its card
+revert-called : (t name : List ℕ) → isAccepted (answerOf (Revert name) t) ≡ true → isName name ≡ true
+unfolding rowsOf revertRows
+revert-called t name e = not-false (isName name) (rows-passed (Revert name) t e 1 (omega arith))
+
+-- the card at the end of a list with a revert that is accepted there
+revert-step : (t name : List ℕ) → isAccepted (answerOf (Revert name) t) ≡ true → step (Revert name) t .card ≡ storeAll t (storesOf (Revert name) t)
+unfolding step
+revert-step t name e = rw e
+
+snap-step : (t name : List ℕ) → isAccepted (answerOf (Snap name) t) ≡ true → step (Snap name) t .card ≡ storeAll t (storesOf (Snap name) t)
+unfolding step
+snap-step t name e = rw e
+
+after-one : (ks : List Call) (k : ℕ) (x : Call) (c : List ℕ) → k < length ks → getD ks k Check ≡ x → after (take (suc k) ks) c ≡ step x (after (take k ks) c) .card
+unfolding after
+after-one ks k x c l q = ap (λ (js : List Call). after js c) (take-suc ks k Check l) ∙ after-append (take k ks) (getD ks k Check ∷ []) c ∙ ap (λ (y : Call). step y (after (take k ks) c) .card) q
+
+-- the visit stands on the starting card
+module _ (s : List ℕ) (ks : List Call) (sound-s : chainSound (chain s) ≡ true) (standing : Standing s ks) (k : ℕ) (v : List ℕ) (reverted : RevertedAt s ks k v) where
+  abbrev t : List ℕ
+  t = after (take k ks) s
+
+  there : isAccepted (answerOf (Revert v) t) ≡ true
+  there = reverted .accepted-there
+
+  t-long : length t ≡ length s
+  t-long = after-length (take k ks) s
+
+  t-named : named (snapshotsOf (descriptorsOf t)) v ≡ true
+  t-named = revert-rows t v there .2
+
+  t-after : after (take (suc k) ks) s ≡ storeAll t (storesOf (Revert v) t)
+  t-after = after-one ks k (Revert v) s (reverted .inside) (reverted .is) ∙ revert-step t v there
+
+  not-gone : {A : Type 0} → named (snapshotsOf (descriptorsOf t)) v ≡ false → A
+  not-gone g = no (sym g ∙ t-named)
+
+  module _ (unsnapped : Unsnapped v s (take k ks)) where
+    named-by : (z : Bool) → named (snapshotsOf (descriptorsOf s)) v ≡ z → z ≡ true
+    named-by true q = refl
+    named-by false q = not-gone (gone-run v (take k ks) s q (standing-take s ks k standing) unsnapped)
+
+    s-named : named (snapshotsOf (descriptorsOf s)) v ≡ true
+    s-named = let z = named (snapshotsOf (descriptorsOf s)) v in named-by z refl
+
+    s-accepted : isAccepted (answerOf (Revert v) s) ≡ true
+    s-accepted = revert-passes s v (area-kept s t (sym t-long) ∙ revert-rows t v there .0) (revert-called t v there) sound-s s-named
+
+    abbrev ss : List Descriptor
+    ss = snapshotsOf (descriptorsOf s)
+
+    abbrev d : Descriptor
+    d = withName ss v
+
+    d-name : d .name ≡ v
+    d-name = with-name-is ss v s-named
+
+    abbrev n : List ℕ
+    n = activeOf (descriptorsOf s) .name
+
+    start : Stands s (before ss v) d n s
+    start =
+        record {
+          long = refl;
+          rest = behind ss v ++ (activeOf (descriptorsOf s) ∷ []);
+          some = omega (arith, length-append (behind ss v) (activeOf (descriptorsOf s) ∷ []));
+          is = chain-is (chain s) sound-s ∙ ap Sound (revert-split s v s-accepted);
+          active = ap (λ (x : Descriptor). x .name) (active-snoc (behind ss v) (activeOf (descriptorsOf s)));
+          blocks = λ p l. refl;
+        }
+
+    back-by : Stands s (before ss v) d n t ⊎ (named (snapshotsOf (descriptorsOf t)) (d .name) ≡ false) → Agree (storeAll t (storesOf (Revert v) t)) (storeAll s (storesOf (Revert v) s))
+    back-by (inl h) =
+        subst (λ (m : List ℕ). Agree (storeAll t (storesOf (Revert m) t)) (storeAll s (storesOf (Revert m) s))) d-name
+        (back-agree s (before ss v) d n t start h (subst (λ (m : List ℕ). isAccepted (answerOf (Revert m) s) ≡ true) (sym d-name) s-accepted) (subst (λ (m : List ℕ). isAccepted (answerOf (Revert m) t) ≡ true) (sym d-name) there))
+    back-by (inr g) = not-gone (subst (λ (m : List ℕ). named (snapshotsOf (descriptorsOf t)) m ≡ false) d-name g)
+
+    start-agree : Agree (storeAll t (storesOf (Revert v) t)) (storeAll s (storesOf (Revert v) s))
+    start-agree = back-by (stands-run s (before ss v) d n (take k ks) s start (standing-take s ks k standing) (subst (λ (m : List ℕ). Unsnapped m s (take k ks)) (sym d-name) unsnapped))
+
+    first-after : after (take 1 (drop k ks)) s ≡ storeAll s (storesOf (Revert v) s)
+    unfolding after
+    first-after =
+        ap (λ (js : List Call). after (take 1 js) s) (drop-cons ks k Check (reverted .inside))
+        ∙ ap (λ (x : Call). step x s .card) (reverted .is)
+        ∙ revert-step s v s-accepted
+
+    pub forgets-start : Matched s ks (suc k) (drop k ks) 1
+    forgets-start =
+        matched-from agree-step s ks (suc k) (drop k ks) 1 standing (omega (arith, reverted .inside)) (simp length-drop (omega (arith, reverted .inside)))
+        (ap (λ (js : List Call). drop 1 js) (sym (drop-cons ks k Check (reverted .inside))))
+        (rw (t-after, first-after) start-agree)
