@@ -6,7 +6,7 @@ use mathlib.Core.List.{List, [], _∷_, _++_}
 use Prim.Native.Nat.{ℕ, zero, suc, _+_, _*_, _-_, _≤_, _<_}
 use native.Mathlib.Omega.{arith}
 use lib.ListN.{length, take, drop, getD, take-append-drop, length-append, length-drop}
-use lib.Seq.{take-append-seam, getD-append-seam, take-take, take-suc, drop-cons}
+use lib.Seq.{take-append-seam, getD-append-seam, take-take, take-suc, drop-cons, length-take-le}
 use borrow.Author.Tests.{not-false}
 use Rattle.blocks.specs.Pick.{pick, same}
 use Rattle.blocks.specs.Bytes.{part, blockAt, Store, store, storeAll}
@@ -260,3 +260,82 @@ module _ (s : List ℕ) (ks : List Call) (sound-s : chainSound (chain s) ≡ tru
         matched-from agree-step s ks (suc k) (drop k ks) 1 standing (omega (arith, reverted .inside)) (simp length-drop (omega (arith, reverted .inside)))
         (ap (λ (js : List Call). drop 1 js) (sym (drop-cons ks k Check (reverted .inside))))
         (rw (t-after, first-after) start-agree)
+
+  -- the visit's latest accepted snap is at i
+  module _ (i : ℕ) (l : LastSnap v s (take k ks) i) where
+    taken : length (take k ks) ≡ k
+    taken = length-take-le k ks (omega (arith, reverted .inside))
+
+    earlier : i < k
+    earlier = omega (arith, l .inside, taken)
+
+    abbrev c : List ℕ
+    c = after (take i ks) s
+
+    c-is : after (take i (take k ks)) s ≡ c
+    c-is = ap (λ (js : List Call). after js s) (take-take i k ks (omega (arith, earlier)))
+
+    call-is : getD (take k ks) i Check ≡ Snap v
+    call-is = snap-of v (getD (take k ks) i Check) (l .is)
+
+    snapped : isAccepted (answerOf (Snap v) c) ≡ true
+    snapped =
+        subst (λ (x : List ℕ). isAccepted (answerOf (Snap v) x) ≡ true) c-is
+        (subst (λ (x : Call). isAccepted (answerOf x (after (take i (take k ks)) s)) ≡ true) call-is (l .accepted-there))
+
+    abbrev c′ : List ℕ
+    c′ = storeAll c (storesOf (Snap v) c)
+
+    c′-is : after (take (suc i) (take k ks)) s ≡ c′
+    c′-is = after-one (take k ks) i (Snap v) s (l .inside) call-is ∙ ap (λ (x : List ℕ). step (Snap v) x .card) c-is ∙ snap-step c v snapped
+
+    abbrev js : List Call
+    js = drop (suc i) (take k ks)
+
+    t-is : after js c′ ≡ t
+    t-is =
+        ap (after js) (sym c′-is)
+        ∙ sym (after-append (take (suc i) (take k ks)) js s)
+        ∙ ap (λ (xs : List Call). after xs s) (take-append-drop (suc i) (take k ks))
+
+    c′-long : length s ≡ length c′
+    c′-long = sym (ap length (sym c′-is) ∙ after-length (take (suc i) (take k ks)) s)
+
+    abbrev a : Descriptor
+    a = activeOf (descriptorsOf c)
+
+    abbrev old : Descriptor
+    old = linkedOf (renamedOf a v) (a .beta)
+
+    made-there : Stands c′ (snapshotsOf (descriptorsOf c)) old (a .name) c′
+    made-there =
+        record {
+          long = refl;
+          rest = reopenedOf a ∷ [];
+          some = omega arith;
+          is = snapped-chain c v snapped;
+          active = ap (λ (x : Descriptor). x .name) (active-snoc [] (reopenedOf a));
+          blocks = λ p h. refl;
+        }
+
+    kept-by : Stands c′ (snapshotsOf (descriptorsOf c)) old (a .name) t ⊎ (named (snapshotsOf (descriptorsOf t)) v ≡ false) → Agree (storeAll t (storesOf (Revert v) t)) (storeAll c′ (storesOf (Revert v) c′))
+    kept-by (inl h) = back-agree c′ (snapshotsOf (descriptorsOf c)) old (a .name) t made-there h (undone-accepted c v snapped) there
+    kept-by (inr g) = not-gone g
+
+    still : Agree (storeAll t (storesOf (Revert v) t)) (storeAll c′ (storesOf (Revert v) c′))
+    still =
+        kept-by
+        (subst (λ (x : List ℕ). Stands c′ (snapshotsOf (descriptorsOf c)) old (a .name) x ⊎ (named (snapshotsOf (descriptorsOf x)) v ≡ false)) t-is
+        (stands-run c′ (snapshotsOf (descriptorsOf c)) old (a .name) js c′ made-there
+        (standing-length s c′ c′-long js (standing-drop s (take k ks) (suc i) (standing-take s ks k standing)))
+        (subst (λ (x : List ℕ). Unsnapped v x js) c′-is (l .later))))
+
+    without-long : i ≤ length (without ks i k)
+    unfolding without
+    without-long = omega (arith, length-append (take i ks) (drop (suc k) ks), length-take-le i ks (omega (arith, earlier, reverted .inside)))
+
+    pub forgets-snap : AreBytes (after (take i ks) s) → Matched s ks (suc k) (without ks i k) i
+    forgets-snap bytes =
+        let m : i ≤ k = omega (arith, earlier) in
+        matched-from agree-step s ks (suc k) (without ks i k) i standing (omega (arith, reverted .inside)) without-long (sym (without-drop ks i k m (reverted .inside)))
+        (rw (t-after, without-take ks i k m (reverted .inside)) (agree-trans (storeAll t (storesOf (Revert v) t)) (storeAll c′ (storesOf (Revert v) c′)) c still (undone c v bytes snapped)))
