@@ -32,4 +32,7 @@ pub mod Latest
 pub mod Undone
 pub mod AlgorithmLaws
 pub mod CheckClaims
+pub mod Room
+pub mod CardBytes
 pub mod Rollback
+pub mod Demand

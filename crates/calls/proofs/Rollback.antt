@@ -32,6 +32,7 @@ use Rattle.calls.proofs.Frame.{stores-inside}
 use Rattle.calls.proofs.ChainAfter.{before, behind, active-snoc, link-low, revert-rows, revert-split, reverted-chain}
 use Rattle.calls.proofs.SnappedChain.{snapped-chain}
 use Rattle.calls.proofs.Kept.{Stands, descriptors-are, stands-snapshots, stands-active}
+use Rattle.calls.proofs.Room.{accepted-card}
 use Rattle.calls.proofs.AgreeStep.{agree-step}
 use Rattle.calls.proofs.Latest.{Unsnapped, gone-run, stands-run, LastSnap, latest-nowhere, latest-at, snap-of}
 use Rattle.calls.proofs.Runs.{standing-length, standing-take, standing-drop, after-append, after-length, after-split, matched-from, without-drop, without-take}
@@ -173,14 +174,6 @@ unfolding rowsOf revertRows
 revert-called t name e = not-false (isName name) (rows-passed (Revert name) t e 1 (omega arith))
 
 -- the card at the end of a list with a revert that is accepted there
-revert-step : (t name : List ℕ) → isAccepted (answerOf (Revert name) t) ≡ true → step (Revert name) t .card ≡ storeAll t (storesOf (Revert name) t)
-unfolding step
-revert-step t name e = rw e
-
-snap-step : (t name : List ℕ) → isAccepted (answerOf (Snap name) t) ≡ true → step (Snap name) t .card ≡ storeAll t (storesOf (Snap name) t)
-unfolding step
-snap-step t name e = rw e
-
 after-one : (ks : List Call) (k : ℕ) (x : Call) (c : List ℕ) → k < length ks → getD ks k Check ≡ x → after (take (suc k) ks) c ≡ step x (after (take k ks) c) .card
 unfolding after
 after-one ks k x c l q = ap (λ (js : List Call). after js c) (take-suc ks k Check l) ∙ after-append (take k ks) (getD ks k Check ∷ []) c ∙ ap (λ (y : Call). step y (after (take k ks) c) .card) q
@@ -200,7 +193,7 @@ module _ (s : List ℕ) (ks : List Call) (sound-s : chainSound (chain s) ≡ tru
   t-named = revert-rows t v there .2
 
   t-after : after (take (suc k) ks) s ≡ storeAll t (storesOf (Revert v) t)
-  t-after = after-one ks k (Revert v) s (reverted .inside) (reverted .is) ∙ revert-step t v there
+  t-after = after-one ks k (Revert v) s (reverted .inside) (reverted .is) ∙ accepted-card (Revert v) t there
 
   not-gone : {A : Type 0} → named (snapshotsOf (descriptorsOf t)) v ≡ false → A
   not-gone g = no (sym g ∙ t-named)
@@ -210,10 +203,10 @@ module _ (s : List ℕ) (ks : List Call) (sound-s : chainSound (chain s) ≡ tru
     named-by true q = refl
     named-by false q = not-gone (gone-run v (take k ks) s q (standing-take s ks k standing) unsnapped)
 
-    s-named : named (snapshotsOf (descriptorsOf s)) v ≡ true
+    pub s-named : named (snapshotsOf (descriptorsOf s)) v ≡ true
     s-named = let z = named (snapshotsOf (descriptorsOf s)) v in named-by z refl
 
-    s-accepted : isAccepted (answerOf (Revert v) s) ≡ true
+    pub s-accepted : isAccepted (answerOf (Revert v) s) ≡ true
     s-accepted = revert-passes s v (area-kept s t (sym t-long) ∙ revert-rows t v there .0) (revert-called t v there) sound-s s-named
 
     abbrev ss : List Descriptor
@@ -253,7 +246,7 @@ module _ (s : List ℕ) (ks : List Call) (sound-s : chainSound (chain s) ≡ tru
     first-after =
         ap (λ (js : List Call). after (take 1 js) s) (drop-cons ks k Check (reverted .inside))
         ∙ ap (λ (x : Call). step x s .card) (reverted .is)
-        ∙ revert-step s v s-accepted
+        ∙ accepted-card (Revert v) s s-accepted
 
     pub forgets-start : Matched s ks (suc k) (drop k ks) 1
     forgets-start =
@@ -266,7 +259,7 @@ module _ (s : List ℕ) (ks : List Call) (sound-s : chainSound (chain s) ≡ tru
     taken : length (take k ks) ≡ k
     taken = length-take-le k ks (omega (arith, reverted .inside))
 
-    earlier : i < k
+    pub earlier : i < k
     earlier = omega (arith, l .inside, taken)
 
     abbrev c : List ℕ
@@ -287,7 +280,7 @@ module _ (s : List ℕ) (ks : List Call) (sound-s : chainSound (chain s) ≡ tru
     c′ = storeAll c (storesOf (Snap v) c)
 
     c′-is : after (take (suc i) (take k ks)) s ≡ c′
-    c′-is = after-one (take k ks) i (Snap v) s (l .inside) call-is ∙ ap (λ (x : List ℕ). step (Snap v) x .card) c-is ∙ snap-step c v snapped
+    c′-is = after-one (take k ks) i (Snap v) s (l .inside) call-is ∙ ap (λ (x : List ℕ). step (Snap v) x .card) c-is ∙ accepted-card (Snap v) c snapped
 
     abbrev js : List Call
     js = drop (suc i) (take k ks)
