@@ -34,12 +34,13 @@ use Rattle.calls.specs.Step.{isAccepted}
 use Rattle.calls.proofs.CardLaws.{card-most}
 use Rattle.calls.proofs.Rows.{no, rows-passed}
 use Rattle.calls.proofs.Local.{linked-chain, shared-descriptor, shared-sound}
-use Rattle.calls.proofs.Relinked.{linked-from, linked-head, relinked}
+use Rattle.calls.proofs.Relinked.{linked-from, linked-head, relinked, linked-next}
 use Rattle.calls.proofs.Agreement.{chain-is}
 use Rattle.calls.proofs.Stored.{tail-long, tail-part, form-kept, form-phi, form-name}
 use Rattle.calls.proofs.Changed.{name-long, layout-small, member-form, member-region, member-fresh, member-inside, changed-last}
 use Rattle.calls.proofs.StoreLists.{Whole, also, isStored, stored-length, stored-other}
 use Rattle.calls.proofs.Frame.{stores-inside}
+use Rattle.calls.proofs.ChainAfter.{active-split, none-stored}
 
 -- the first of a list of whole-block stores, and the others
 whole-parts : {n : ℕ} {s : Store} {ss : List Store} → Whole n (s ∷ ss) → (length (s .bytes) ≡ 512) × (512 * s .at + 512 ≤ n) × Whole n ss
@@ -63,22 +64,6 @@ not-stored : (p : ℕ) (b : List ℕ) (ss : List Store) (q : ℕ) → (p ≡ q �
 unfolding isStored
 not-stored p b ss q n h = rw (ne-eqb p q n) h
 
-none-stored : (q : ℕ) → isStored [] q ≡ false
-unfolding isStored
-none-stored q = refl
-
--- a chain is its snapshots and its active descriptor
-pub parts-split : (ds : List Descriptor) → 0 < length ds → ds ≡ snapshotsOf ds ++ (activeOf ds ∷ [])
-unfolding activeOf snapshotsOf
-parts-split [] h = absurd (omega arith)
-parts-split (d ∷ []) h = refl
-parts-split (d ∷ e ∷ ds) h = ap (λ (xs : List Descriptor). d ∷ xs) (parts-split (e ∷ ds) (omega arith))
-
--- the active descriptor has a nil next
-last-next : (s : List ℕ) {es : List Descriptor} {p : ℕ} {ds : List Descriptor} → Linked s es p ds → (d : Descriptor) → ds ≡ d ∷ [] → d .next .0 ≡ 0
-last-next s (last {d = e} is ok z) d q = let k : e ≡ d = cc in rw (← k) z
-last-next s (more {d = e} {ds = ds} is ok z rest) d q = absurd (omega (arith, linked-some rest, ap length q))
-
 -- no more blocks: the descriptor as it was
 pub extended-none : (d : Descriptor) → extendedOf d 0 ≡ d
 extended-none d =
@@ -97,7 +82,7 @@ module _ (c : List ℕ) (ds : List Descriptor) (sound-c : chain c ≡ Sound ds) 
   ds-some = linked-some (chain-linked c ds sound-c)
 
   split : ds ≡ xs ++ (d ∷ [])
-  split = parts-split ds ds-some
+  split = active-split ds ds-some
 
   few : length xs < 256
   few = omega (arith, chain-few c ds sound-c, ap length split, length-append xs (d ∷ []))
@@ -106,7 +91,7 @@ module _ (c : List ℕ) (ds : List Descriptor) (sound-c : chain c ≡ Sound ds) 
   active-linked = linked-from c (chain-linked c ds sound-c) xs d [] split
 
   pub active-next : d .next .0 ≡ 0
-  active-next = last-next c active-linked d refl
+  active-next = linked-next c active-linked d refl
 
   active-form : formOk c (d .alpha .0) d ≡ true
   active-form = member-form c ds xs d [] sound-c split
