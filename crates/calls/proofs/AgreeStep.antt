@@ -54,7 +54,7 @@ module _ (s t : List ℕ) (agree : Agree s t) (ss : List Store) (whole : Whole (
         below = rw (beta-is (storeAll s ss) in-s) (blocks-taken (storeAll s ss) (storeAll t ss) (activeOf ds .beta .0) (λ p h. same-block p (covered p h)));
       }
 
-active-two : (x y : Descriptor) → activeOf (x ∷ y ∷ []) ≡ y
+pub active-two : (x y : Descriptor) → activeOf (x ∷ y ∷ []) ≡ y
 unfolding activeOf
 active-two x y = refl
 

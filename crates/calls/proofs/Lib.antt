@@ -33,6 +33,7 @@ pub mod Undone
 pub mod AlgorithmLaws
 pub mod CheckClaims
 pub mod Room
+pub mod SoundStep
 pub mod CardBytes
 pub mod Rollback
 pub mod Demand

@@ -23,7 +23,7 @@ use Rattle.calls.specs.Ladder.{Row, row, rowsOf, answerOf}
 use Rattle.calls.specs.Effect.{lentOf}
 use Rattle.calls.specs.Algorithms.{Sigma, closeRegion, algorithm1, algorithm2, algorithm3, algorithm4, algorithm5, algorithm6}
 use Rattle.calls.specs.Step.{step, after, outcomes, isAccepted}
-use Rattle.calls.specs.History.{betaOf, Agree, AreBytes, Standing, Position, Nowhere, At, latestSnap, without, formattable, formatted}
+use Rattle.calls.specs.History.{betaOf, Agree, isFormat, AreBytes, Standing, Position, Nowhere, At, latestSnap, without, formattable, formatted}
 use Rattle.calls.specs.Ledger.{Ledger, ledgerStep, ledgerNumber, cellRead, ledgerNames, ledgerOf}
 
 -- Refusals, formats and room.
@@ -66,6 +66,14 @@ pub record MovesBeta (c : List ℕ) : Type 0 where
 
 unfoldable pub RoomClaim : Type 0
 RoomClaim = (c : List ℕ) → MovesBeta c
+
+-- Every call but an accepted format, on a card with a sound chain, leaves a sound chain with the same layout, L and active name.
+unfoldable pub SoundClaim : Type 0
+SoundClaim =
+    (k : Call) (c : List ℕ) → chainSound (chain c) ≡ true → isFormat k c ≡ false
+    → let d = activeOf (descriptorsOf c) in
+    let e = activeOf (descriptorsOf (step k c .card)) in
+    (chainSound (chain (step k c .card)) ≡ true) × (e .layout ≡ d .layout) × (e .volume ≡ d .volume) × (e .name ≡ d .name)
 
 -- a call that stores nothing; a call that fills what is lent
 unfoldable pub isQuiet : Call → Bool
