@@ -37,3 +37,4 @@ pub mod SoundStep
 pub mod CardBytes
 pub mod Rollback
 pub mod Demand
+pub mod LedgerAnswers
