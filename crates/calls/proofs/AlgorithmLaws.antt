@@ -295,7 +295,7 @@ module _ (c : List ℕ) where
       (λ i j. out (omega arith) (omega arith))
       ∙ store-other x to (blockAt c from) (length-blockAt c from (omega arith)) (omega arith) p (λ q. out (omega arith) (omega arith))
 
-  copied-in : (x : List ℕ) → length x ≡ length c → (from to k : ℕ) → from ≤ to → 512 * (to + k) ≤ length c → (p : ℕ) → to ≤ p → p < to + k → (z : Bool) → eqb p to ≡ z
+  pub copied-in : (x : List ℕ) → length x ≡ length c → (from to k : ℕ) → from ≤ to → 512 * (to + k) ≤ length c → (p : ℕ) → to ≤ p → p < to + k → (z : Bool) → eqb p to ≡ z
       → blockAt (storeAll x (copying c from to k)) p ≡ blockAt c (from + (p - to))
   unfolding copying storeAll
   copied-in x e from to zero f h p i j z q = absurd (omega arith)

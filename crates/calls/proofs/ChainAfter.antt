@@ -201,11 +201,11 @@ module _ (c name : List ℕ) (e : isAccepted (answerOf (Revert name) c) ≡ true
       ∙ ap (λ (xs : List Descriptor). xs ++ (activeOf (descriptorsOf c) ∷ [])) (name-split ss name (revert-rows .2))
       ∙ append-assoc (before ss name) (v ∷ behind ss name) (activeOf (descriptorsOf c) ∷ [])
 
-  stores-are : storesOf (Revert name) c ≡ store (v .alpha .0) (descriptorBlock w (tailAt c (v .alpha .0))) ∷ []
+  pub stores-are : storesOf (Revert name) c ≡ store (v .alpha .0) (descriptorBlock w (tailAt c (v .alpha .0))) ∷ []
   unfolding storesOf reverting
   stores-are = refl
 
-  whole : Whole (length c) (storesOf (Revert name) c)
+  pub whole : Whole (length c) (storesOf (Revert name) c)
   whole = stores-inside (Revert name) c e
 
   module _ (area : areaBad c ≡ false) (ok : chainSound (chain c) ≡ true) where
@@ -215,17 +215,17 @@ module _ (c name : List ℕ) (e : isAccepted (answerOf (Revert name) c) ≡ true
     abbrev ys : List Descriptor
     ys = behind ss name ++ (activeOf (descriptorsOf c) ∷ [])
 
-    fits : Fits w
+    pub fits : Fits w
     fits =
         let b = link-end c area ok xs v ys revert-split in
         let l = link-low c area ok xs v ys revert-split in
         let n = link-most c area ok xs v ys revert-split in
         fits-of w (link-layout c area ok xs v ys revert-split) (link-volume c area ok xs v ys revert-split) (omega arith) (omega arith) (omega arith) (active-name c area ok)
 
-    tail : length (tailAt c (v .alpha .0)) ≡ 472
+    pub tail : length (tailAt c (v .alpha .0)) ≡ 472
     tail = tail-long c (v .alpha .0) (link-inside c area ok xs v ys revert-split)
 
-    block : blockAt t (v .alpha .0) ≡ descriptorBlock w (tailAt c (v .alpha .0))
+    pub block : blockAt t (v .alpha .0) ≡ descriptorBlock w (tailAt c (v .alpha .0))
     block =
         rw stores-are
         (stored-last (length c) c refl none (v .alpha .0) (descriptorBlock w (tailAt c (v .alpha .0))) (block-long w (tailAt c (v .alpha .0)) fits tail) (link-inside c area ok xs v ys revert-split) none (none-stored (v .alpha .0)))
@@ -233,7 +233,7 @@ module _ (c name : List ℕ) (e : isAccepted (answerOf (Revert name) c) ≡ true
     kept : (q : ℕ) → q < v .alpha .0 → blockAt c q ≡ blockAt t q
     kept q h = sym (stored-other (length c) c refl whole q (rw stores-are (one-stored (v .alpha .0) (descriptorBlock w (tailAt c (v .alpha .0))) q (λ k. omega arith))))
 
-    same-long : length c ≡ length t
+    pub same-long : length c ≡ length t
     same-long = sym (stored-length (length c) c refl whole)
 
     chain-by : chain t ≡ Sound (xs ++ (w ∷ []))

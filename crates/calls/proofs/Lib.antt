@@ -38,3 +38,5 @@ pub mod CardBytes
 pub mod Rollback
 pub mod Demand
 pub mod LedgerAnswers
+pub mod PassesAfter
+pub mod PassesSnapped

@@ -91,17 +91,17 @@ module _ (c name : List ℕ) (e : isAccepted (answerOf (Snap name) c) ≡ true) 
     abbrev copies : List Store
     copies = copying c (d .alpha .0 + 1) (d .beta .0 + 1) (costOf d - 1)
 
-    split : descriptorsOf c ≡ xs ++ (d ∷ [])
+    pub split : descriptorsOf c ≡ xs ++ (d ∷ [])
     split = active-last c area ok
 
-    stores-are : storesOf (Snap name) c ≡ copies ++ (store (d .beta .0) (descriptorBlock new tail) ∷ store (d .alpha .0) (descriptorBlock old tail) ∷ [])
+    pub stores-are : storesOf (Snap name) c ≡ copies ++ (store (d .beta .0) (descriptorBlock new tail) ∷ store (d .alpha .0) (descriptorBlock old tail) ∷ [])
     unfolding storesOf snapping
     stores-are = refl
 
-    whole : Whole (length c) (storesOf (Snap name) c)
+    pub whole : Whole (length c) (storesOf (Snap name) c)
     whole = stores-inside (Snap name) c e
 
-    d-low : d .alpha .0 < d .beta .0
+    pub d-low : d .alpha .0 < d .beta .0
     d-low = link-low c area ok xs d [] split
 
     d-least : 1 ≤ costOf d
@@ -110,14 +110,14 @@ module _ (c name : List ℕ) (e : isAccepted (answerOf (Snap name) c) ≡ true) 
     d-most : blockCount c ≤ 65536
     d-most = link-most c area ok xs d [] split
 
-    d-inside : 512 * d .alpha .0 + 512 ≤ length c
+    pub d-inside : 512 * d .alpha .0 + 512 ≤ length c
     d-inside = link-inside c area ok xs d [] split
 
-    room-bytes : 512 * (d .beta .0 + costOf d) ≤ length c
+    pub room-bytes : 512 * (d .beta .0 + costOf d) ≤ length c
     unfolding blockCount
     room-bytes = omega (arith, room)
 
-    copies-whole : Whole (length c) copies
+    pub copies-whole : Whole (length c) copies
     copies-whole = inside-copying c (d .alpha .0 + 1) (d .beta .0 + 1) (costOf d - 1) (omega (arith, d-low)) (omega (arith, room-bytes, d-least))
 
     pub next-nil : d .next .0 ≡ 0
@@ -126,19 +126,19 @@ module _ (c name : List ℕ) (e : isAccepted (answerOf (Snap name) c) ≡ true) 
     pub old-fits : Fits old
     old-fits = fits-of old (link-layout c area ok xs d [] split) (link-volume c area ok xs d [] split) (omega (arith, d-low, room, d-most)) (omega (arith, room, d-most)) (omega (arith, room, d-most)) called
 
-    new-fits : Fits new
+    pub new-fits : Fits new
     new-fits = fits-of new (link-layout c area ok xs d [] split) (link-volume c area ok xs d [] split) (omega (arith, room, d-most)) (omega (arith, room, d-most)) (omega (arith, next-nil)) (active-name c area ok)
 
     pub tail-whole : length tail ≡ 472
     tail-whole = tail-long c (d .alpha .0) d-inside
 
-    old-long : length (descriptorBlock old tail) ≡ 512
+    pub old-long : length (descriptorBlock old tail) ≡ 512
     old-long = block-long old tail old-fits tail-whole
 
-    new-long : length (descriptorBlock new tail) ≡ 512
+    pub new-long : length (descriptorBlock new tail) ≡ 512
     new-long = block-long new tail new-fits tail-whole
 
-    new-inside : 512 * d .beta .0 + 512 ≤ length c
+    pub new-inside : 512 * d .beta .0 + 512 ≤ length c
     new-inside = omega (arith, room-bytes, d-least)
 
     pub old-block : blockAt t (d .alpha .0) ≡ descriptorBlock old tail
@@ -146,7 +146,7 @@ module _ (c name : List ℕ) (e : isAccepted (answerOf (Snap name) c) ≡ true) 
         rw (stores-are, ← (append-snoc copies (store (d .beta .0) (descriptorBlock new tail)) (store (d .alpha .0) (descriptorBlock old tail) ∷ [])))
         (stored-last (length c) c refl (whole-append copies-whole (also (d .beta .0) (descriptorBlock new tail) new-long new-inside none)) (d .alpha .0) (descriptorBlock old tail) old-long d-inside none (none-stored (d .alpha .0)))
 
-    new-block : blockAt t (d .beta .0) ≡ descriptorBlock new tail
+    pub new-block : blockAt t (d .beta .0) ≡ descriptorBlock new tail
     new-block =
         rw stores-are
         (stored-last (length c) c refl copies-whole (d .beta .0) (descriptorBlock new tail) new-long new-inside (also (d .alpha .0) (descriptorBlock old tail) old-long d-inside none)
@@ -164,7 +164,7 @@ module _ (c name : List ℕ) (e : isAccepted (answerOf (Snap name) c) ≡ true) 
     kept : (q : ℕ) → q < d .alpha .0 → blockAt c q ≡ blockAt t q
     kept q h = sym (stored-other (length c) c refl whole q (snap-above q h))
 
-    same-long : length c ≡ length t
+    pub same-long : length c ≡ length t
     same-long = sym (stored-length (length c) c refl whole)
 
     same-count : blockCount c ≡ blockCount t
