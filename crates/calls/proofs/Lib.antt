@@ -40,3 +40,4 @@ pub mod Demand
 pub mod LedgerAnswers
 pub mod PassesAfter
 pub mod PassesSnapped
+pub mod LedgerRun
