@@ -61,7 +61,7 @@ module _ (c : List ℕ) (d : Descriptor) (low : d .alpha .0 < d .beta .0) (l : �
   unfolding tableIsNew
   not-new m e = ltb-false m (d .alpha .0) (or-right (eqb m 0) (ltb m (d .alpha .0)) e)
 
-  writing-above : (f : Found) → isStored (writing c d f l block) q ≡ false
+  pub writing-above : (f : Found) → isStored (writing c d f l block) q ≡ false
   unfolding writing need isStored
   writing-above (Misplaced x) = refl
   writing-above (Entry m o) =

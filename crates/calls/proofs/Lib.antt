@@ -40,4 +40,5 @@ pub mod Demand
 pub mod LedgerAnswers
 pub mod PassesAfter
 pub mod PassesSnapped
+pub mod PassesWrite
 pub mod LedgerRun
