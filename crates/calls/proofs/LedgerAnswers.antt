@@ -60,7 +60,7 @@ phi-table : (c : List ℕ) (d : Descriptor) (i : ℕ) → eqb (d .layout) 1 ≡ 
 unfolding tableOf
 phi-table c d i e = rw e
 
-group-below : (l v : ℕ) → l < v → l / 128 < tableCount v
+pub group-below : (l v : ℕ) → l < v → l / 128 < tableCount v
 unfolding tableCount
 group-below l v h = omega arith
 
@@ -70,7 +70,7 @@ second-layout false b h e = h
 
 -- a card that passes
 module _ (c : List ℕ) (p : Passes c) where
-  linked-of : Linked c [] 0 (descriptorsOf c)
+  pub linked-of : Linked c [] 0 (descriptorsOf c)
   linked-of = chain-linked c (descriptorsOf c) (chain-is (chain c) (p .sound))
 
   some-of : 0 < length (descriptorsOf c)
@@ -85,7 +85,7 @@ module _ (c : List ℕ) (p : Passes c) where
       ∙ sym (region-volume (descriptorAt c 0) (blockCount c) _ _ (region-of (length (descriptorsOf c) - 1) (omega (arith, some-of)) .region))
       ∙ ap (λ (d : Descriptor). d .volume) (sym (active-at (descriptorsOf c) some-of))
 
-  beta-upto : betaOf c ≤ blockCount c
+  pub beta-upto : betaOf c ≤ blockCount c
   unfolding betaOf
   beta-upto = omega (arith, linked-end linked-of, end-active (descriptorsOf c) some-of)
 
@@ -138,7 +138,7 @@ which-volume : (c : List ℕ) (d e : Descriptor) (v : Volume) (b : Bool) → (b 
 which-volume c d e v true h = refl
 which-volume c d e v false h = h refl
 
-volume-named : (c : List ℕ) (ds : List Descriptor) (name : List ℕ) → named ds name ≡ true → volumeNamed (volumesOf c ds) name ≡ volumeOf c (withName ds name)
+pub volume-named : (c : List ℕ) (ds : List Descriptor) (name : List ℕ) → named ds name ≡ true → volumeNamed (volumesOf c ds) name ≡ volumeOf c (withName ds name)
 unfolding volumeNamed volumesOf withName named volumeOf
 volume-named c [] name h = no h
 volume-named c (d ∷ ds) name h =

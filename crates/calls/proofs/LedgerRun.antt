@@ -24,9 +24,9 @@ use Rattle.calls.proofs.Runs.{standing-length, step-length}
 use Rattle.calls.proofs.LedgerAnswers.{ledger-reads, ledger-lists, ledger-number, ledger-place, ledger-no-room}
 use Rattle.calls.proofs.PassesAfter.{passes-revert}
 use Rattle.calls.proofs.PassesSnapped.{passes-snap}
+use Rattle.calls.proofs.LedgerNext.{ledger-revert}
 
 module _ (passes-write : (c : List ℕ) (l : ℕ) (block : List ℕ) → Passes c → isAccepted (answerOf (Write l block) c) ≡ true → Passes (step (Write l block) c .card))
-    (ledger-revert : (c name : List ℕ) → Passes c → isAccepted (answerOf (Revert name) c) ≡ true → ledgerOf (step (Revert name) c .card) ≡ ledgerStep (Revert name) (ledgerOf c))
     (ledger-snap : (c name : List ℕ) → Passes c → isAccepted (answerOf (Snap name) c) ≡ true → ledgerOf (step (Snap name) c .card) ≡ ledgerStep (Snap name) (ledgerOf c))
     (ledger-write : (c : List ℕ) (l : ℕ) (block : List ℕ) → Passes c → isAccepted (answerOf (Write l block) c) ≡ true → ledgerOf (step (Write l block) c .card) ≡ ledgerStep (Write l block) (ledgerOf c)) where
   -- one call on a card that passes

@@ -41,4 +41,5 @@ pub mod LedgerAnswers
 pub mod PassesAfter
 pub mod PassesSnapped
 pub mod PassesWrite
+pub mod LedgerNext
 pub mod LedgerRun
