@@ -41,5 +41,6 @@ pub mod LedgerAnswers
 pub mod PassesAfter
 pub mod PassesSnapped
 pub mod PassesWrite
+pub mod WriteFacts
 pub mod LedgerNext
 pub mod LedgerRun
