@@ -1,14 +1,17 @@
 -- Laws of a descriptor's bytes: its fields put one after the other are its bytes, and a descriptor that was stored is the one that is read.
 use mathlib.Core.Path.{_≡_, refl, sym, ap, _∙_}
+use mathlib.Core.Bool.{Bool, true, false}
 use mathlib.Core.List.{List, [], _∷_, _++_}
 use Prim.Native.Nat.{ℕ, _+_, _*_, _≤_, _<_, _^_}
 use native.Mathlib.Omega.{arith}
 use lib.ListN.{length, take, drop, length-append, length-drop}
 use lib.Seq.{take-all, drop-drop}
-use Rattle.blocks.specs.Bytes.{u32At, le32, splice, part, blockAt, storeBlock}
+use Rattle.blocks.specs.Pick.{same}
+use Rattle.blocks.specs.Bytes.{u32At, u64At, le32, splice, part, blockAt, storeBlock}
 use Rattle.blocks.specs.Descriptor.{mark, descriptorAt, headBytes, tailAt, descriptorBlock}
 use Rattle.blocks.specs.declared.descriptor.Descriptor.{Descriptor}
-use Rattle.blocks.proofs.ByteLaws.{put-next, u32-within, part-within, digits, splice-start, length-part, part-part, store-length, store-other}
+use Rattle.blocks.proofs.ListLaws.{same-equal}
+use Rattle.blocks.proofs.ByteLaws.{put-next, u32-part, u32-within, part-within, digits, splice-start, length-part, part-part, store-length, store-other}
 
 -- the fields, put one after the other from the start of a block
 pub head-put : (c₀ c₁ c₂ c₃ c₄ c₅ c₆ c₇ : List ℕ) (d : Descriptor) → 40 ≤ length c₀ → length (d .name) ≡ 16
@@ -116,3 +119,17 @@ tail-block c p h = part-part c (512 * p) 512 40 472 (omega arith) h
 pub store-tail : (c : List ℕ) (q : ℕ) (b : List ℕ) (p : ℕ) → length b ≡ 512 → 512 * q + 512 ≤ length c → 512 * p + 512 ≤ length c → (p ≡ q → ⊥) → tailAt (storeBlock c q b) p ≡ tailAt c p
 store-tail c q b p whole inside h n =
     sym (tail-block (storeBlock c q b) p (rw (store-length c q b whole inside) h)) ∙ ap (λ (x : List ℕ). part x 40 472) (store-other c q b whole inside p n) ∙ tail-block c p h
+
+-- sixteen bytes that differ from a name in a 64-bit word are not that name
+pub words-apart : (c name : List ℕ) (p place k x y : ℕ) → place ≡ 512 * p + 24 + k → k + 8 ≤ 16 → x ≡ u64At c place → y ≡ u64At name k → (x ≡ y → ⊥) → false ≡ same (descriptorAt c p .name) name
+unfolding descriptorAt u64At
+words-apart c name p place k x y at inside e f n = by (same (part c (512 * p + 24) 16) name) refl
+  where
+    word : u32At (part c (512 * p + 24) 16) k + 4294967296 * u32At (part c (512 * p + 24) 16) (k + 4) ≡ x
+    word =
+        let q : 512 * p + 24 + (k + 4) ≡ place + 4 = omega arith in
+        rw (u32-part c (512 * p + 24) 16 k (omega arith), u32-part c (512 * p + 24) 16 (k + 4) (omega arith), q, ← at) (sym e)
+
+    by : (b : Bool) → same (part c (512 * p + 24) 16) name ≡ b → false ≡ b
+    by true h = absurd (n (sym word ∙ ap (λ (z : List ℕ). u32At z k + 4294967296 * u32At z (k + 4)) (same-equal (part c (512 * p + 24) 16) name h) ∙ sym f))
+    by false h = refl

@@ -19,6 +19,10 @@ splice c at d = take at c ++ d ++ drop (at + length d) c
 unfoldable pub u32At : List ℕ → ℕ → ℕ
 u32At c at = getD c at 0 + 256 * getD c (at + 1) 0 + 65536 * getD c (at + 2) 0 + 16777216 * getD c (at + 3) 0
 
+-- two such numbers, one after the other, as one of 64 bits
+unfoldable pub u64At : List ℕ → ℕ → ℕ
+u64At c at = u32At c at + 4294967296 * u32At c (at + 4)
+
 -- the four bytes of a stored number
 unfoldable pub le32 : ℕ → List ℕ
 le32 v = v % 256 ∷ v / 256 % 256 ∷ v / 65536 % 256 ∷ v / 16777216 % 256 ∷ []

@@ -4,7 +4,7 @@ ghost use mathlib.Core.Path.{_≡_};
 ghost use Prim.Native.Nat.{_+_, _*_, _≤_, _<_};
 ghost use lib.ListN.{length};
 ghost use Rattle.blocks.specs.Pick.{same, allZero};
-ghost use Rattle.blocks.specs.Bytes.{u32At, le32, splice, part, blockAt, storeBlock};
+ghost use Rattle.blocks.specs.Bytes.{u32At, u64At, le32, splice, part, blockAt, storeBlock};
 
 fn wide(x: u8) -> u32
     ensures { λ r. ⌜ r ≡ x ⌝ }
@@ -22,6 +22,16 @@ pub fn get_u32(area: &[u8], at: usize) -> u32
         + 256 * wide(area[at + 1])
         + 65536 * wide(area[at + 2])
         + 16777216 * wide(area[at + 3])
+}
+
+// The two numbers of 32 bits at `at` and after it, as one.
+pub fn get_u64(area: &[u8], at: usize) -> u64
+    requires { ⌜ at + 8 ≤ length (now area) ⌝ }
+    ensures { λ r. ⌜ r ≡ u64At (now (area .entry)) at ⌝ }
+{
+    let low = get_u32(area, at) as u64;
+    let high = get_u32(area, at + 4) as u64;
+    low + 4294967296 * high
 }
 
 // Copies all of `from` into `area` from index `at`.

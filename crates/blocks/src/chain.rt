@@ -107,12 +107,18 @@ pub fn is_placed(first: Descriptor, n: usize, p: Physical, d: Descriptor) -> boo
     beta < n
 }
 
-// Whether the descriptor in block `p` has the name.
+// Whether the descriptor in block `p` has the name: most that differ do so in one of two 64-bit words.
 pub fn has_name(card: &[u8], p: Physical, name: [u8; 16]) -> bool
     requires { ⌜ 512 * p .0 + 512 ≤ length (now card) ⌝ }
     ensures { λ r. ⌜ r ≡ same (descriptorAt (now (card .entry)) (p .0) .name) name ⌝ }
 {
     let at = 512 * (p.0 as usize) + 24;
+    if bytes::get_u64(card, at) != bytes::get_u64(&name, 0) {
+        return false;
+    }
+    if bytes::get_u64(card, at + 8) != bytes::get_u64(&name, 8) {
+        return false;
+    }
     bytes::same_bytes(&card[at..at + 16], &name)
 }
 
