@@ -239,6 +239,10 @@ module _ (c starts : List ℕ) (p k : ℕ) (w : Walked c starts p k) where
                 let last : pick (eqb (d .next .0) 0) (Sound (ds ++ (d ∷ []))) (chainFrom c (256 - (k + 1)) (ds ++ (d ∷ [])) (d .next .0)) ≡ Sound (ds ++ (d ∷ [])) = rw z in
                 regions-equal (k + 1) (length (ds ++ (d ∷ []))) starts′ (startsOf (ds ++ (d ∷ []))) (sym l) starts-more ∙ sym (ap regionsOf (walk-on ∙ last))
 
+            -- the next descriptor's block is on the card
+            pub walked-next : (d .next .0 ≡ 0 → ⊥) → 512 * d .next .0 + 512 ≤ length c
+            walked-next z = let link = region-next first n p d ok z in omega (arith, link .0, link .1, count)
+
             pub walked-more : (d .next .0 ≡ 0 → ⊥) → Walked c starts′ (d .next .0) (k + 1)
             walked-more z =
                 let link = region-next first n p d ok z in
@@ -247,7 +251,7 @@ module _ (c starts : List ℕ) (p k : ℕ) (w : Walked c starts p k) where
                   few = omega arith;
                   long = length-set starts (k + 1) (d .beta .0) ∙ w .long;
                   here = at-end;
-                  inside = λ j l. inside-by j l at-end (omega (arith, link .0, link .1, count)) (ltb j (k + 1)) refl;
+                  inside = λ j l. inside-by j l at-end (walked-next z) (ltb j (k + 1)) refl;
                   so-far = rw ds-more starts-more;
                   rest = rw ds-more (walk-on ∙ rw (ne-eqb (d .next .0) 0 z));
                 }

@@ -158,11 +158,11 @@ pub fn walk_chain(card: &[u8]) -> Regions
         return unsound(0);
     }
     let first = descriptor::read_descriptor(card, Physical(0));
+    let mut d = first;
     let mut starts = [0u32; 257];
     let mut p: u32 = 0;
     let mut k: usize = 0;
     while k < 256 {
-        let d = descriptor::read_descriptor(card, Physical(p));
         if !is_formed(card, Physical(p), d) {
             return unsound(p);
         }
@@ -186,6 +186,7 @@ pub fn walk_chain(card: &[u8]) -> Regions
             };
         }
         p = next;
+        d = descriptor::read_descriptor(card, Physical(p));
     }
     unsound(p)
 }

@@ -1,19 +1,19 @@
--- `walk_chain` meets its contract: after k turns k sound descriptors have passed.
+-- `walk_chain` meets its contract: after k turns k sound descriptors have passed, and the next one is at hand.
 use mathlib.Core.Path.{_≡_, refl, sym, _∙_}
 use Prim.Native.Nat.{ℕ, _≤_, _-_, _<_, _/_}
 use native.Mathlib.Omega.{arith}
 use lib.ListN.{length}
 use borrow.Author.Needs.{needs}
 use Rattle.blocks.specs.Descriptor.{descriptorAt}
-use Rattle.blocks.proofs.ChainLaws.{Walked, walked-here, walked-passed, walk-none, walked-none, walk-out, walk-unformed, walk-unplaced, walk-repeated, walk-end, walked-more}
+use Rattle.blocks.proofs.ChainLaws.{Walked, walked-here, walked-passed, walk-none, walked-none, walk-out, walk-unformed, walk-unplaced, walk-repeated, walk-end, walked-next, walked-more}
 use Rattle.blocks.proofs.chain.walk_chain.Statement.{statement}
 use Rattle.blocks.proofs.chain.walk_chain.Tie as tie
 
 abbrev Inv-loop : tie.InvT-loop
-Inv-loop card n first starts₀ p₀ k₀ starts p k = Walked card starts p k
+Inv-loop card n first d₀ starts₀ p₀ k₀ d starts p k = Walked card starts p k × (d ≡ descriptorAt card p)
 
 abbrev μ-loop : tie.MeasureT-loop
-μ-loop card n first starts₀ p₀ k₀ starts p k = 256 - k
+μ-loop card n first d₀ starts₀ p₀ k₀ d starts p k = 256 - k
 
 unsound-requires : tie.Need-unsound-requires Inv-loop μ-loop
 unsound-requires c κs = search needs
@@ -27,9 +27,6 @@ read-descriptor-requires c κs = omega arith
 loop-holds : tie.Need-loop-holds Inv-loop μ-loop
 loop-holds c = search walked-none
 
-read-descriptor-requires-2 : tie.Need-read-descriptor-requires-2 Inv-loop μ-loop
-read-descriptor-requires-2 c κs = search walked-here
-
 is-formed-requires : tie.Need-is-formed-requires Inv-loop μ-loop
 is-formed-requires c κs = search walked-here
 
@@ -39,8 +36,8 @@ unsound-requires-2 c κs = search needs
 returns-2 : tie.Need-returns-2 Inv-loop μ-loop
 returns-2 c =
     let f = c .before .before in
-    let l = f .before .before .before in
-    walk-unformed _ _ _ _ (l .loop .inv) (omega arith) _ (f .before .read-descriptor2 .ensures) _ (l .before .read-descriptor .ensures) _ refl _ (f .is-formed .ensures) (c .before .if2 .taken) _ (c .unsound2 .ensures)
+    let l = f .before .before in
+    walk-unformed _ _ _ _ (l .loop .inv .0) (omega arith) _ (l .loop .inv .1) _ (l .before .read-descriptor .ensures) _ refl _ (f .is-formed .ensures) (c .before .if2 .taken) _ (c .unsound2 .ensures)
 
 is-placed-requires : tie.Need-is-placed-requires Inv-loop μ-loop
 is-placed-requires c κs = search needs
@@ -75,6 +72,15 @@ array-write-starts c = search needs
 returns-5 : tie.Need-returns-5 Inv-loop μ-loop
 returns-5 c = search walk-end
 
+read-descriptor-requires-2 : tie.Need-read-descriptor-requires-2 Inv-loop μ-loop
+read-descriptor-requires-2 c κs =
+    let n = c .before .before in
+    let p = n .before .before .before in
+    let f = p .before .before in
+    let l = f .before .before .before in
+    walked-next _ _ _ _ (l .loop .inv .0) (omega arith) _ (l .loop .inv .1) _ (l .before .read-descriptor .ensures) _ refl _ (f .before .is-formed .ensures) (f .if2 .left) _ (p .before .is-placed .ensures) (p .if3 .left) _
+    (n .is-named .ensures) (c .before .if4 .left) (c .if5 .left)
+
 loop-less : tie.Need-loop-less Inv-loop μ-loop
 loop-less c = search needs
 
@@ -97,7 +103,6 @@ walk-chain-spec =
     returns
     read-descriptor-requires
     loop-holds
-    read-descriptor-requires-2
     is-formed-requires
     unsound-requires-2
     returns-2
@@ -112,6 +117,7 @@ walk-chain-spec =
     mul-starts
     array-write-starts
     returns-5
+    read-descriptor-requires-2
     loop-less
     loop-again
     unsound-requires-5
