@@ -53,7 +53,7 @@ unfolding step
 accepted-lent k c e = rw e
 
 -- an entry of a table block and one of Phi, read from the block
-entry-in : (c : List ℕ) (m j : ℕ) → j < 128 → u32At (blockAt c m) (4 * j) ≡ entryAt c m j
+pub entry-in : (c : List ℕ) (m j : ℕ) → j < 128 → u32At (blockAt c m) (4 * j) ≡ entryAt c m j
 unfolding blockAt entryAt
 entry-in c m j h = u32-part c (512 * m) 512 (4 * j) (omega arith)
 

@@ -105,7 +105,7 @@ zeros-at zero k = refl
 zeros-at (suc n) zero = refl
 zeros-at (suc n) (suc k) = zeros-at n k
 
-zero-number : (n k : ℕ) → u32At (replicate n 0) k ≡ 0
+pub zero-number : (n k : ℕ) → u32At (replicate n 0) k ≡ 0
 unfolding u32At
 zero-number n k = rw (zeros-at n k, zeros-at n (k + 1), zeros-at n (k + 2), zeros-at n (k + 3))
 

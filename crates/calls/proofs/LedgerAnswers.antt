@@ -52,7 +52,7 @@ placed-by ds d m e false true true own phi h = refl
 placed-by ds d m e false true false own phi h = rw h
 placed-by ds d m e false false z own phi h = no (phi refl)
 
-own-set : (c : List ℕ) (d : Descriptor) (i : ℕ) → eqb (d .layout) 1 ≡ true → eqb (tableOf c d i) 0 ≡ false
+pub own-set : (c : List ℕ) (d : Descriptor) (i : ℕ) → eqb (d .layout) 1 ≡ true → eqb (tableOf c d i) 0 ≡ false
 unfolding tableOf
 own-set c d i e = rw e (ne-eqb (d .alpha .0 + 1 + i) 0 (omega arith))
 
@@ -73,10 +73,10 @@ module _ (c : List ℕ) (p : Passes c) where
   pub linked-of : Linked c [] 0 (descriptorsOf c)
   linked-of = chain-linked c (descriptorsOf c) (chain-is (chain c) (p .sound))
 
-  some-of : 0 < length (descriptorsOf c)
+  pub some-of : 0 < length (descriptorsOf c)
   some-of = linked-some linked-of
 
-  region-of : (k : ℕ) → k < length (descriptorsOf c) → RegionAt c (regionStart 0 (descriptorsOf c) k) (regionStart 0 (descriptorsOf c) (suc k)) (getD (descriptorsOf c) k noDescriptor)
+  pub region-of : (k : ℕ) → k < length (descriptorsOf c) → RegionAt c (regionStart 0 (descriptorsOf c) k) (regionStart 0 (descriptorsOf c) (suc k)) (getD (descriptorsOf c) k noDescriptor)
   region-of k h = linked-at linked-of k h
 
   volume-of : (k : ℕ) → k < length (descriptorsOf c) → getD (descriptorsOf c) k noDescriptor .volume ≡ activeOf (descriptorsOf c) .volume

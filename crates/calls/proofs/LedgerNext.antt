@@ -2,11 +2,11 @@
 use mathlib.Core.Path.{_≡_, refl, sym, ap, _∙_, subst}
 use mathlib.Core.Bool.{Bool, true, false, not, _&&_, _||_}
 use mathlib.Core.List.{List, [], _∷_, _++_}
-use Prim.Native.Nat.{ℕ, zero, suc, _+_, _*_, _-_, _/_, _%_, _≤_, _<_}
+use Prim.Native.Nat.{ℕ, zero, suc, _+_, _*_, _/_, _%_, _≤_, _<_}
 use native.Mathlib.Omega.{arith}
-use lib.ListN.{length, take, drop, getD, length-append}
+use lib.ListN.{length, take, getD, length-append}
 use lib.Dec.{eqb, ltb, leb}
-use borrow.Author.Tests.{eq-eqb, eqb-true, eqb-false, ne-eqb, ltb-true}
+use borrow.Author.Tests.{eq-eqb, eqb-true, eqb-false, ne-eqb}
 use Rattle.blocks.specs.Pick.{pick, same}
 use Rattle.blocks.specs.Bytes.{u32At, part, blockCount, blockAt, zeroBlock, storeAll}
 use Rattle.blocks.specs.Descriptor.{physical, tableCount, noDescriptor, tailAt, descriptorBlock, linkedOf, renamedOf}
@@ -18,8 +18,8 @@ use Rattle.entries.specs.declared.find.Found.{Found}
 use Rattle.entries.specs.declared.find.Found.the-variants.{Misplaced, Entry}
 use Rattle.entries.proofs.EntryLaws.{placed-below, find-placed}
 use Rattle.calls.specs.Parts.{descriptorsOf, activeOf, snapshotsOf, withName, indexOf, foundThrough, isMisplaced, blockFound}
-use Rattle.calls.specs.Ledger.{Volume, Ledger, volumesBefore, volumeNamed, ledgerStep, cellsFrom, volumeOf, volumesOf, ledgerOf}
-use Rattle.calls.specs.Call.{Call, Write, Snap, Revert}
+use Rattle.calls.specs.Ledger.{Volume, volumesBefore, volumeNamed, ledgerStep, cellsFrom, volumeOf, volumesOf, ledgerOf}
+use Rattle.calls.specs.Call.{Revert}
 use Rattle.calls.specs.Check.{Passes}
 use Rattle.calls.specs.Ladder.{answerOf}
 use Rattle.calls.specs.Effect.{storesOf, reverting}
@@ -70,6 +70,13 @@ unfolding volumesOf volumeOf
 volumes-same s t [] h = refl
 volumes-same s t (d ∷ ds) h =
     rw (cells-same s t d d (d .volume) 0 (λ j a b. h 0 (omega arith) j (omega arith)), volumes-same s t ds (λ i a j b. h (suc i) (omega arith) j b))
+
+-- a card's ledger by the snapshots and the active descriptor of its chain
+pub ledger-parts : (t : List ℕ) (ss : List Descriptor) (d : Descriptor) → snapshotsOf (descriptorsOf t) ≡ ss → activeOf (descriptorsOf t) ≡ d → ledgerOf t ≡ record { snapshots = volumesOf t ss; active = volumeOf t d }
+unfolding ledgerOf
+ledger-parts t ss d a b =
+    ap (λ (y : List Descriptor). record { snapshots = volumesOf t y; active = volumeOf t (activeOf (descriptorsOf t)) }) a
+    ∙ ap (λ (y : Descriptor). record { snapshots = volumesOf t ss; active = volumeOf t y }) b
 
 -- an entry found in place in one list of descriptors is the same in another, where what is in place in the one is so in the other
 module _ (ds es : List Descriptor) (d e : Descriptor) (kept : (p : ℕ) → inPlace ds d p ≡ true → inPlace es e p ≡ true) where
@@ -197,7 +204,7 @@ placed-apart xs v ys d p h n e =
     let a : isDescriptor (xs ++ (v ∷ ys)) p ≡ true = subst (λ (x : ℕ). isDescriptor (xs ++ (v ∷ ys)) x ≡ true) e (is-descriptor xs v ys) in
     no (sym (no-descriptor-by (ltb p (d .beta .0)) (isDescriptor (xs ++ (v ∷ ys)) p) (isTable (xs ++ (v ∷ ys)) p) a) ∙ (rw (ne-eqb p 0 n) at h))
 
-get-left : (xs ys : List Descriptor) (i : ℕ) → i < length xs → getD (xs ++ ys) i noDescriptor ≡ getD xs i noDescriptor
+pub get-left : (xs ys : List Descriptor) (i : ℕ) → i < length xs → getD (xs ++ ys) i noDescriptor ≡ getD xs i noDescriptor
 get-left [] ys i h = absurd (omega arith)
 get-left (x ∷ xs) ys zero h = refl
 get-left (x ∷ xs) ys (suc i) h = get-left xs ys i (omega arith)
@@ -336,10 +343,6 @@ module _ (c name : List ℕ) (p : Passes c) (acc : isAccepted (answerOf (Revert 
       cell-at k kk d d is refl refl refl l m
       (λ i b. phi-shared c t d i (omega (arith, r .some)) long (other (d .alpha .0) (λ q. omega (arith, r .some))) b) (λ i b q. omega arith)
 
-  ledger-as : (ss : List Descriptor) (d : Descriptor) → snapshotsOf (descriptorsOf t) ≡ ss → activeOf (descriptorsOf t) ≡ d → ledgerOf t ≡ record { snapshots = volumesOf t ss; active = volumeOf t d }
-  unfolding ledgerOf
-  ledger-as ss d a b = ap (λ (x : List Descriptor). record { snapshots = volumesOf t x; active = volumeOf t (activeOf (descriptorsOf t)) }) a ∙ ap (λ (x : Descriptor). record { snapshots = volumesOf t ss; active = volumeOf t x }) b
-
   snapshots-after : volumesOf t xs ≡ volumesBefore (volumesOf c (snapshotsOf ds)) name
   snapshots-after = volumes-same c t xs cell-x ∙ sym (volumes-before c (snapshotsOf ds) name)
 
@@ -350,7 +353,7 @@ module _ (c name : List ℕ) (p : Passes c) (acc : isAccepted (answerOf (Revert 
   reverted-ledger : ledgerOf t ≡ ledgerStep (Revert name) (ledgerOf c)
   unfolding ledgerStep ledgerOf volumeOf
   reverted-ledger =
-      ledger-as xs w (ap snapshotsOf after ∙ snapshots-snoc xs w) (ap activeOf after ∙ active-snoc xs w)
+      ledger-parts t xs w (ap snapshotsOf after ∙ snapshots-snoc xs w) (ap activeOf after ∙ active-snoc xs w)
       ∙ ap (λ (x : List Volume). record { snapshots = x; active = record { name = activeOf ds .name; cells = cellsFrom t w (w .volume) 0 } }) snapshots-after
       ∙ ap (λ (x : List (List ℕ)). record { snapshots = volumesBefore (volumesOf c (snapshotsOf ds)) name; active = record { name = activeOf ds .name; cells = x } }) cells-after
 

@@ -42,5 +42,9 @@ pub mod PassesAfter
 pub mod PassesSnapped
 pub mod PassesWrite
 pub mod WriteFacts
+pub mod WriteNew
 pub mod LedgerNext
+pub mod CellEntry
+pub mod LedgerSnap
+pub mod LedgerWrite
 pub mod LedgerRun

@@ -154,7 +154,7 @@ module _ (c t : List ℕ) (ds : List Descriptor) (d : Descriptor) (layout : (eqb
       rw (same-table (l / 128) (omega (arith, few)))
       (entry-by (l / 128) (l % 128) (omega arith) (omega arith) (eqb (d .layout) 1) (eqb (tableOf c d (l / 128)) 0) refl refl)
 
-  same-below : (l : ℕ) → l < d .volume → entryOf t d l ≡ entryOf c d l
+  pub same-below : (l : ℕ) → l < d .volume → entryOf t d l ≡ entryOf c d l
   same-below l h = same-entry l (under l (d .volume) h)
 
   same-phi : (i : ℕ) → i < tableCount (d .volume) → phiAt t d i ≡ phiAt c d i

@@ -106,7 +106,7 @@ module _ (c s : List ℕ) (ds es : List Descriptor) (d : Descriptor) (layout : (
       rw (table-phi s new i e, table-phi c d i e, same-phi i h, q)
       (placed (phiAt c d i) (r .phi (layout-two (d .layout) (eqb (d .layout) 1) (eqb (d .layout) 2) refl refl layout e) .in-place i h) (eqb-false (phiAt c d i) 0 q) j k)
 
-  same-entry : (l : ℕ) → l < 128 * tableCount (d .volume) → entryOf s new l ≡ entryOf c d l
+  pub same-entry : (l : ℕ) → l < 128 * tableCount (d .volume) → entryOf s new l ≡ entryOf c d l
   unfolding entryOf
   same-entry l h = new-by (l / 128) (l % 128) (omega arith) (omega arith) (eqb (d .layout) 1) (eqb (phiAt c d (l / 128)) 0) refl refl
 
@@ -150,7 +150,7 @@ pair-not : (x y : ℕ) (f g : List ℕ) (q : ℕ) → (x ≡ q → ⊥) → (y �
 unfolding isStored
 pair-not x y f g q h k = rw (ne-eqb x q h, ne-eqb y q k)
 
-block-entry : (s c : List ℕ) (m n j : ℕ) → blockAt s m ≡ blockAt c n → j < 128 → entryAt s m j ≡ entryAt c n j
+pub block-entry : (s c : List ℕ) (m n j : ℕ) → blockAt s m ≡ blockAt c n → j < 128 → entryAt s m j ≡ entryAt c n j
 unfolding entryAt blockAt
 block-entry s c m n j e h = sym (u32-part s (512 * m) 512 (4 * j) (omega arith)) ∙ ap (λ (b : List ℕ). u32At b (4 * j)) e ∙ u32-part c (512 * n) 512 (4 * j) (omega arith)
 
@@ -192,13 +192,13 @@ module _ (c name : List ℕ) (pass : Passes c) (e : isAccepted (answerOf (Snap n
   are : storesOf (Snap name) c ≡ copies ++ pair
   are = let r = snap-rows c name e in stores-are c name e (r .0) (r .1) (r .2) (r .3) (r .5)
 
-  cut : chn ≡ snaps ++ (act ∷ [])
+  pub cut : chn ≡ snaps ++ (act ∷ [])
   cut = let r = snap-rows c name e in split c name e (r .0) (r .1) (r .2) (r .3) (r .5)
 
   long : length c ≡ length t
   long = let r = snap-rows c name e in same-long c name e (r .0) (r .1) (r .2) (r .3) (r .5)
 
-  low : base < top
+  pub low : base < top
   low = let r = snap-rows c name e in d-low c name e (r .0) (r .1) (r .2) (r .3) (r .5)
 
   room : 512 * (top + costOf act) ≤ length c
@@ -210,19 +210,19 @@ module _ (c name : List ℕ) (pass : Passes c) (e : isAccepted (answerOf (Snap n
   top-inside : 512 * top + 512 ≤ length c
   top-inside = let r = snap-rows c name e in new-inside c name e (r .0) (r .1) (r .2) (r .3) (r .5)
 
-  old-phi : (i : ℕ) → i < 112 → phiAt t act i ≡ phiAt c act i
+  pub old-phi : (i : ℕ) → i < 112 → phiAt t act i ≡ phiAt c act i
   unfolding phiAt
   old-phi =
       let r = snap-rows c name e in
       tail-phi t c base base (omega (arith, long, base-inside)) base-inside old (old-block c name e (r .0) (r .1) (r .2) (r .3) (r .5)) (old-fits c name e (r .0) (r .1) (r .2) (r .3) (r .5)) (tail-whole c name e (r .0) (r .1) (r .2) (r .3) (r .5))
 
-  new-phi : (i : ℕ) → i < 112 → phiAt t opened i ≡ phiAt c act i
+  pub new-phi : (i : ℕ) → i < 112 → phiAt t opened i ≡ phiAt c act i
   unfolding phiAt
   new-phi =
       let r = snap-rows c name e in
       tail-phi t c top base (omega (arith, long, top-inside)) base-inside opened (new-block c name e (r .0) (r .1) (r .2) (r .3) (r .5)) (new-fits c name e (r .0) (r .1) (r .2) (r .3) (r .5)) (tail-whole c name e (r .0) (r .1) (r .2) (r .3) (r .5))
 
-  kept : (q : ℕ) → (base ≡ q → ⊥) → q < top → blockAt t q ≡ blockAt c q
+  pub kept : (q : ℕ) → (base ≡ q → ⊥) → q < top → blockAt t q ≡ blockAt c q
   kept q n h =
       stored-other (length c) c refl (let r = snap-rows c name e in whole c name e (r .0) (r .1) (r .2) (r .3) (r .5)) q
       (rw (are, stored-join copies pair q, copies-stored c (base + 1) (top + 1) (costOf act - 1) q (omega (arith, h)))
@@ -234,7 +234,7 @@ module _ (c name : List ℕ) (pass : Passes c) (e : isAccepted (answerOf (Snap n
       also top (descriptorBlock opened (tailAt c base)) (new-long c name e (r .0) (r .1) (r .2) (r .3) (r .5)) top-inside
       (also base (descriptorBlock old (tailAt c base)) (old-long c name e (r .0) (r .1) (r .2) (r .3) (r .5)) base-inside none)
 
-  copied : act .layout ≡ 1 → (i : ℕ) → i < tableCount (act .volume) → blockAt t (top + 1 + i) ≡ blockAt c (base + 1 + i)
+  pub copied : act .layout ≡ 1 → (i : ℕ) → i < tableCount (act .volume) → blockAt t (top + 1 + i) ≡ blockAt c (base + 1 + i)
   copied one i h =
       let r = snap-rows c name e in
       let n = cost-one act one in
@@ -246,7 +246,7 @@ module _ (c name : List ℕ) (pass : Passes c) (e : isAccepted (answerOf (Snap n
       ∙ copied-in c c refl (base + 1) (top + 1) (costOf act - 1) (omega (arith, low)) (omega (arith, room, n)) (top + 1 + i) (omega arith) (omega (arith, n, h)) (eqb (top + 1 + i) (top + 1)) refl
       ∙ ap (λ (x : ℕ). blockAt c x) back)
 
-  placed-entry : (d : Descriptor) → d .beta .0 ≤ top → (m : ℕ) → inPlace chn d m ≡ true → (m ≡ 0 → ⊥) → (j : ℕ) → j < 128 → entryAt t m j ≡ entryAt c m j
+  pub placed-entry : (d : Descriptor) → d .beta .0 ≤ top → (m : ℕ) → inPlace chn d m ≡ true → (m ≡ 0 → ⊥) → (j : ℕ) → j < 128 → entryAt t m j ≡ entryAt c m j
   placed-entry d b m q z j l =
       block-entry t c m m j
       (kept m (λ k. placed-not act name (physical 0) [] m snaps d (subst (λ (zs : List Descriptor). inPlace zs d m ≡ true) cut q) z (sym k)) (omega (arith, placed-below chn d m q z, b))) l
@@ -260,40 +260,40 @@ module _ (c name : List ℕ) (pass : Passes c) (e : isAccepted (answerOf (Snap n
       then-chain
       (λ q h. placed-longer act name (act .beta) opened q snaps d d (omega (arith, b, r .beta)) (omega arith) (subst (λ (zs : List Descriptor). inPlace zs d q ≡ true) cut h))
 
-  linked : Linked c [] 0 chn
+  pub linked : Linked c [] 0 chn
   linked = chain-linked c chn (sound-is c (pass .area) (pass .sound))
 
-  counted : length snaps < length chn
+  pub counted : length snaps < length chn
   counted = omega (arith, ap length cut, length-append snaps (act ∷ []))
 
   act-is : getD chn (length snaps) noDescriptor ≡ act
   act-is = ap (λ (zs : List Descriptor). getD zs (length snaps) noDescriptor) cut ∙ get-mid snaps act []
 
-  act-at : RegionAt c (regionStart 0 chn (length snaps)) (regionStart 0 chn (suc (length snaps))) act
+  pub act-at : RegionAt c (regionStart 0 chn (length snaps)) (regionStart 0 chn (suc (length snaps))) act
   act-at = subst (λ (d : Descriptor). RegionAt c (regionStart 0 chn (length snaps)) (regionStart 0 chn (suc (length snaps))) d) act-is (linked-at linked (length snaps) counted)
 
-  act-rules : Rules c chn act
+  pub act-rules : Rules c chn act
   act-rules = subst (λ (d : Descriptor). Rules c chn d) act-is (pass .rules (length snaps) counted)
 
-  rules-old : Rules t then-chain old
+  pub rules-old : Rules t then-chain old
   rules-old =
       rules-renamed t then-chain act name (act .beta)
       (moved act (regionStart 0 chn (length snaps)) (regionStart 0 chn (suc (length snaps))) act-at (omega (arith, act-at .beta)) act-rules old-phi (λ one i h q. omega (arith, q)))
 
-  rules-new : Rules t then-chain opened
+  pub rules-new : Rules t then-chain opened
   rules-new =
       rules-reopened c t chn then-chain act (form-layout c _ act (act-at .form)) (few-tables (act .volume) (form-most c _ act (act-at .form))) act-rules new-phi
       (λ one i h j l. block-entry t c (top + 1 + i) (base + 1 + i) j (copied one i h) l)
       (placed-entry act (omega arith))
       (λ q h. placed-longer act name (act .beta) opened q snaps act opened (omega arith) (omega arith) (subst (λ (zs : List Descriptor). inPlace zs act q ≡ true) cut h))
 
-  phi-shared : (d : Descriptor) → (base ≡ d .alpha .0 → ⊥) → d .alpha .0 < top → (i : ℕ) → i < 112 → phiAt t d i ≡ phiAt c d i
+  pub phi-shared : (d : Descriptor) → (base ≡ d .alpha .0 → ⊥) → d .alpha .0 < top → (i : ℕ) → i < 112 → phiAt t d i ≡ phiAt c d i
   unfolding phiAt
   phi-shared d n h i l =
       let q : 512 * d .alpha .0 + 64 + 4 * i ≡ 512 * d .alpha .0 + (64 + 4 * i) = omega arith in
       rw q (shared-number t c (d .alpha .0) (omega (arith, long, room, h)) (omega (arith, room, h)) (kept (d .alpha .0) n h) (64 + 4 * i) (omega arith))
 
-  rules-first : (k : ℕ) → k < length snaps → Rules t then-chain (getD snaps k noDescriptor)
+  pub rules-first : (k : ℕ) → k < length snaps → Rules t then-chain (getD snaps k noDescriptor)
   rules-first k h =
       let d = getD chn k noDescriptor in
       let p = regionStart 0 chn k in

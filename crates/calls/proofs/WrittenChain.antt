@@ -60,7 +60,7 @@ module _ (n : ℕ) (p : ℕ) (b : List ℕ) (ys : List Store) (after : isStored 
       stored-last (storeBlock c (x .at) (x .bytes)) (store-length c (x .at) (x .bytes) (h .0) i ∙ e) xs (h .2)
 
 -- a block that the first store does not name, nor the others
-not-stored : (p : ℕ) (b : List ℕ) (ss : List Store) (q : ℕ) → (p ≡ q → ⊥) → isStored ss q ≡ false → isStored (store p b ∷ ss) q ≡ false
+pub not-stored : (p : ℕ) (b : List ℕ) (ss : List Store) (q : ℕ) → (p ≡ q → ⊥) → isStored ss q ≡ false → isStored (store p b ∷ ss) q ≡ false
 unfolding isStored
 not-stored p b ss q n h = rw (ne-eqb p q n) h
 
@@ -78,7 +78,7 @@ module _ (c : List ℕ) (ds : List Descriptor) (sound-c : chain c ≡ Sound ds) 
   abbrev xs : List Descriptor
   xs = snapshotsOf ds
 
-  ds-some : 0 < length ds
+  pub ds-some : 0 < length ds
   ds-some = linked-some (chain-linked c ds sound-c)
 
   split : ds ≡ xs ++ (d ∷ [])
@@ -93,7 +93,7 @@ module _ (c : List ℕ) (ds : List Descriptor) (sound-c : chain c ≡ Sound ds) 
   pub active-next : d .next .0 ≡ 0
   active-next = linked-next c active-linked d refl
 
-  active-form : formOk c (d .alpha .0) d ≡ true
+  pub active-form : formOk c (d .alpha .0) d ≡ true
   active-form = member-form c ds xs d [] sound-c split
 
   active-region : regionOk (descriptorAt c 0) (blockCount c) (d .alpha .0) d ≡ true
@@ -227,7 +227,7 @@ table-is : (m′ p : Physical) (m q : ℕ) (t : Bool) → pick t (Entry (physica
 table-is m′ p m q true e = let k : physical m ≡ m′ = cc in sym (ap (λ (x : Physical). x .0) k)
 table-is m′ p m q false e = let z : _≡_ {A = ℕ} 0 1 = cc in absurd (omega arith)
 
-entry-table : (ds : List Descriptor) (d : Descriptor) (m q : ℕ) (m′ p : Physical) → entryFound ds d m q ≡ Entry m′ p → m′ .0 ≡ m
+pub entry-table : (ds : List Descriptor) (d : Descriptor) (m q : ℕ) (m′ p : Physical) → entryFound ds d m q ≡ Entry m′ p → m′ .0 ≡ m
 unfolding entryFound
 entry-table ds d m q m′ p e = table-is m′ p m q (inPlace ds d q) e
 
@@ -260,7 +260,7 @@ module _ (c : List ℕ) (ds : List Descriptor) (d : Descriptor) (l : ℕ) (m p :
   table-placed e = table-found .1 e
 
 -- a table block above alpha is not new; one that is not new is set and at or above alpha
-new-table : (alpha m : ℕ) → alpha < m → tableIsNew alpha m ≡ false
+pub new-table : (alpha m : ℕ) → alpha < m → tableIsNew alpha m ≡ false
 unfolding tableIsNew
 new-table alpha m h = rw (ne-eqb m 0 (omega arith), le-ltb m alpha (omega arith))
 
@@ -285,7 +285,7 @@ need-nothing alpha m p e =
     let s = need-set (not (eqb (p .0) 0) && leb alpha (p .0)) (tableIsNew alpha (m .0)) (need alpha (Entry m p)) refl e in
     (eqb-false (p .0) 0 (not-true (eqb (p .0) 0) (and-left (not (eqb (p .0) 0)) (leb alpha (p .0)) s)), leb-true alpha (p .0) (and-right (not (eqb (p .0) 0)) (leb alpha (p .0)) s))
 
-need-more : (alpha : ℕ) (m p : Physical) → (need alpha (Entry m p) ≡ 0 → ⊥) → need alpha (Entry m p) ≡ pick (tableIsNew alpha (m .0)) 2 1
+pub need-more : (alpha : ℕ) (m p : Physical) → (need alpha (Entry m p) ≡ 0 → ⊥) → need alpha (Entry m p) ≡ pick (tableIsNew alpha (m .0)) 2 1
 unfolding need
 need-more alpha m p z = need-some (not (eqb (p .0) 0) && leb alpha (p .0)) (tableIsNew alpha (m .0)) (need alpha (Entry m p)) refl z
 
