@@ -1,21 +1,25 @@
--- The ledger of the card after an accepted write is the ledger's own step, from what the write leaves of the active descriptor's entries.
+-- The ledger of the card after an accepted write is the ledger's own step, and that card passes.
 use mathlib.Core.Path.{_≡_, refl, sym, ap, _∙_, subst}
-use mathlib.Core.Bool.{Bool, true}
+use mathlib.Core.Bool.{Bool, true, false, not, _&&_}
 use mathlib.Core.List.{List, [], _∷_, _++_}
 use Prim.Native.Nat.{ℕ, zero, suc, _+_, _-_, _≤_, _<_}
 use native.Mathlib.Omega.{arith}
 use lib.ListN.{length, getD, set, length-append}
-use borrow.Author.Tests.{ne-eqb, leb-false}
+use lib.Dec.{eqb, leb}
+use borrow.Author.Tests.{ne-eqb, eqb-true, eqb-false, leb-false}
 use Rattle.blocks.specs.Pick.{pick}
 use Rattle.blocks.specs.Bytes.{blockAt, zeroBlock, storeAll}
 use Rattle.blocks.specs.Descriptor.{noDescriptor, extendedOf}
+use Rattle.blocks.specs.declared.numbers.Physical.{Physical}
 use Rattle.blocks.specs.declared.descriptor.Descriptor.{Descriptor}
 use Rattle.blocks.proofs.SoundLaws.{form-layout}
 use Rattle.blocks.proofs.LinkedLaws.{linked-at}
-use Rattle.entries.specs.Entry.{need}
+use Rattle.entries.specs.Entry.{tableIsNew, need}
+use Rattle.entries.specs.declared.find.Found.{Found}
+use Rattle.entries.specs.declared.find.Found.the-variants.{Misplaced, Entry}
 use Rattle.entries.specs.Rules.{entryOf}
 use Rattle.entries.proofs.EntryLaws.{placed-below}
-use Rattle.calls.specs.Parts.{descriptorsOf, activeOf, snapshotsOf, foundThrough, blockFound}
+use Rattle.calls.specs.Parts.{descriptorsOf, activeOf, snapshotsOf, foundThrough, isMisplaced, blockFound}
 use Rattle.calls.specs.Ledger.{Volume, ledgerStep, cellsFrom, volumeOf, volumesOf, ledgerOf}
 use Rattle.calls.specs.Call.{Write}
 use Rattle.calls.specs.Check.{Passes}
@@ -23,7 +27,7 @@ use Rattle.calls.specs.Ladder.{writeRows, rowsOf, answerOf}
 use Rattle.calls.specs.Effect.{storesOf}
 use Rattle.calls.specs.Step.{step, isAccepted}
 use Rattle.calls.proofs.CardLaws.{active-at}
-use Rattle.calls.proofs.Rows.{rows-passed}
+use Rattle.calls.proofs.Rows.{no, rows-passed}
 use Rattle.calls.proofs.ChainAfter.{active-split, active-snoc, snapshots-snoc}
 use Rattle.calls.proofs.WrittenChain.{written-chain}
 use Rattle.calls.proofs.Kept.{descriptors-are}
@@ -31,6 +35,8 @@ use Rattle.calls.proofs.Room.{accepted-card}
 use Rattle.calls.proofs.LedgerAnswers.{group-below, linked-of, some-of}
 use Rattle.calls.proofs.PassesWrite.{shared-entry, snapshot-region, write-below, passes-write-by}
 use Rattle.calls.proofs.WriteFacts.{WriteFacts}
+use Rattle.calls.proofs.WriteOwn.{own-none, own-one}
+use Rattle.calls.proofs.WriteNew.{new-two}
 use Rattle.calls.proofs.LedgerNext.{cells-same, volumes-same, get-left, ledger-parts}
 use Rattle.calls.proofs.CellEntry.{blockNamed, named-same, cell-entry}
 
@@ -155,14 +161,52 @@ module _ (c : List ℕ) (passes : Passes c) (l : ℕ) (block : List ℕ) (ok : i
         ∙ ap (λ (vs : List Volume). record { snapshots = vs; active = record { name = d .name; cells = cellsFrom t x (x .volume) 0 } }) (volumes-same c t xs snapshot-cell)
         ∙ ap (λ (bs : List (List ℕ)). record { snapshots = volumesOf c xs; active = record { name = d .name; cells = bs } }) cells-after
 
-module _ (write-facts : (c : List ℕ) → Passes c → (l : ℕ) (block : List ℕ) → isAccepted (answerOf (Write l block) c) ≡ true
+-- a write takes no block, one or two
+need-by : (s new : Bool) (n : ℕ) → n ≡ pick s 0 (pick new 2 1) → (n ≡ 0 → ⊥) → (n ≡ 1 → ⊥) → n ≡ 2
+need-by true new n e z o = absurd (z e)
+need-by false true n e z o = e
+need-by false false n e z o = absurd (o e)
+
+need-two : (alpha : ℕ) (m p : Physical) → (need alpha (Entry m p) ≡ 0 → ⊥) → (need alpha (Entry m p) ≡ 1 → ⊥) → need alpha (Entry m p) ≡ 2
+unfolding need
+need-two alpha m p z o = need-by (not (eqb (p .0) 0) && leb alpha (p .0)) (tableIsNew alpha (m .0)) (need alpha (Entry m p)) refl z o
+
+taken : (c : List ℕ) (l : ℕ) (block : List ℕ) {n k : ℕ} → n ≡ k
+    → let d = activeOf (descriptorsOf c) in
+    let t = storeAll c (storesOf (Write l block) c) in
+    let xs = snapshotsOf (descriptorsOf c) in
+    WriteFacts c t (xs ++ (extendedOf d k ∷ [])) d (extendedOf d k) l block → WriteFacts c t (xs ++ (extendedOf d n ∷ [])) d (extendedOf d n) l block
+taken c l block e facts =
+    let d = activeOf (descriptorsOf c) in
+    subst (λ (n : ℕ). WriteFacts c (storeAll c (storesOf (Write l block) c)) (snapshotsOf (descriptorsOf c) ++ (extendedOf d n ∷ [])) d (extendedOf d n) l block) (sym e) facts
+
+-- what the write leaves, by the blocks that it takes
+facts-by : (c : List ℕ) → Passes c → (l : ℕ) (block : List ℕ) → isAccepted (answerOf (Write l block) c) ≡ true
+    → let d = activeOf (descriptorsOf c) in
+    (f : Found) → foundThrough c d l ≡ f → isMisplaced f ≡ false → (z o : Bool) → eqb (need (d .alpha .0) f) 0 ≡ z → eqb (need (d .alpha .0) f) 1 ≡ o
+    → WriteFacts c (storeAll c (storesOf (Write l block) c)) (snapshotsOf (descriptorsOf c) ++ (extendedOf d (need (d .alpha .0) f) ∷ [])) d (extendedOf d (need (d .alpha .0) f)) l block
+unfolding isMisplaced
+facts-by c p l block ok (Misplaced h) e m z o u v = no (sym m)
+facts-by c p l block ok (Entry a b) e m true o u v = taken c l block (eqb-true _ 0 u) (own-none c p l block ok a b e (eqb-true _ 0 u))
+facts-by c p l block ok (Entry a b) e m false true u v = taken c l block (eqb-true _ 1 v) (own-one c p l block ok a b e (eqb-true _ 1 v))
+facts-by c p l block ok (Entry a b) e m false false u v =
+    let two = need-two (activeOf (descriptorsOf c) .alpha .0) a b (eqb-false _ 0 u) (eqb-false _ 1 v) in
+    taken c l block two (new-two c p l block ok a b e two)
+
+pub write-facts : (c : List ℕ) → Passes c → (l : ℕ) (block : List ℕ) → isAccepted (answerOf (Write l block) c) ≡ true
     → let d = activeOf (descriptorsOf c) in
     let x = extendedOf d (need (d .alpha .0) (foundThrough c d l)) in
-    WriteFacts c (storeAll c (storesOf (Write l block) c)) (snapshotsOf (descriptorsOf c) ++ (x ∷ [])) d x l block) where
-  -- the card after an accepted write passes
-  pub passes-write : (c : List ℕ) (l : ℕ) (block : List ℕ) → Passes c → isAccepted (answerOf (Write l block) c) ≡ true → Passes (step (Write l block) c .card)
-  passes-write c l block p ok = passes-write-by c p l block ok (write-facts c p l block ok .rules)
+    WriteFacts c (storeAll c (storesOf (Write l block) c)) (snapshotsOf (descriptorsOf c) ++ (x ∷ [])) d x l block
+unfolding rowsOf writeRows
+write-facts c p l block ok =
+    let d = activeOf (descriptorsOf c) in
+    let f = foundThrough c d l in
+    facts-by c p l block ok f refl (rows-passed (Write l block) c ok 4 (omega arith)) (eqb (need (d .alpha .0) f) 0) (eqb (need (d .alpha .0) f) 1) refl refl
 
-  -- and its ledger is the ledger's step
-  pub ledger-write : (c : List ℕ) (l : ℕ) (block : List ℕ) → Passes c → isAccepted (answerOf (Write l block) c) ≡ true → ledgerOf (step (Write l block) c .card) ≡ ledgerStep (Write l block) (ledgerOf c)
-  ledger-write c l block p ok = ap ledgerOf (accepted-card (Write l block) c ok) ∙ written-ledger c p l block ok (write-facts c p l block ok)
+-- the card after an accepted write passes
+pub passes-write : (c : List ℕ) (l : ℕ) (block : List ℕ) → Passes c → isAccepted (answerOf (Write l block) c) ≡ true → Passes (step (Write l block) c .card)
+passes-write c l block p ok = passes-write-by c p l block ok (write-facts c p l block ok .rules)
+
+-- and its ledger is the ledger's step
+pub ledger-write : (c : List ℕ) (l : ℕ) (block : List ℕ) → Passes c → isAccepted (answerOf (Write l block) c) ≡ true → ledgerOf (step (Write l block) c .card) ≡ ledgerStep (Write l block) (ledgerOf c)
+ledger-write c l block p ok = ap ledgerOf (accepted-card (Write l block) c ok) ∙ written-ledger c p l block ok (write-facts c p l block ok)

@@ -38,12 +38,14 @@ pub mod CardBytes
 pub mod Rollback
 pub mod Demand
 pub mod LedgerAnswers
+pub mod FoundEntry
 pub mod PassesAfter
 pub mod PassesSnapped
 pub mod PassesWrite
 pub mod WriteFacts
-pub mod WriteNew
 pub mod LedgerNext
+pub mod WriteOwn
+pub mod WriteNew
 pub mod CellEntry
 pub mod LedgerSnap
 pub mod LedgerWrite

@@ -410,7 +410,7 @@ module _ (s t : List ℕ) (ds es : List Descriptor) (d : Descriptor) (few : tabl
   kept-by m j l true h = refl
   kept-by m j l false h = shared-number s t m (h refl .0) (omega (arith, h refl .0, long)) (h refl .1) (4 * j) (omega arith)
 
-  kept-entry : (l : ℕ) → l < 128 * tableCount (d .volume) → entryOf s d l ≡ entryOf t d l
+  pub kept-entry : (l : ℕ) → l < 128 * tableCount (d .volume) → entryOf s d l ≡ entryOf t d l
   unfolding entryOf
   kept-entry l h =
       rw (← kept-table (l / 128) (omega (arith, few)))

@@ -10,7 +10,7 @@ use lib.Dec.{eqb, ltb}
 use borrow.Author.Tests.{ne-eqb, eqb-true, eqb-false, ltb-true, ltb-false, leb-false}
 use Rattle.blocks.specs.Pick.{pick}
 use Rattle.blocks.specs.Bytes.{u32At, le32, splice, blockCount, blockAt, zeroBlock, Store, store, storeAll}
-use Rattle.blocks.specs.Descriptor.{physical, extendedOf, tableCount, noDescriptor, tailAt, descriptorBlock}
+use Rattle.blocks.specs.Descriptor.{extendedOf, tableCount, noDescriptor, tailAt, descriptorBlock}
 use Rattle.blocks.specs.Chain.{Sound, chain}
 use Rattle.blocks.specs.declared.numbers.Physical.{Physical}
 use Rattle.blocks.specs.declared.descriptor.Descriptor.{Descriptor}
@@ -18,10 +18,10 @@ use Rattle.blocks.proofs.ByteLaws.{u32-part, u32-in, u32-before, u32-after, len
 use Rattle.blocks.proofs.DescriptorLaws.{Fits}
 use Rattle.blocks.proofs.SoundLaws.{form-layout}
 use Rattle.entries.specs.InPlace.{inPlace}
-use Rattle.entries.specs.Entry.{entryAt, phiAt, tableOf, entryFound, find, tableIsNew, need, tableWith, tailWith, setInNewTable, writing}
+use Rattle.entries.specs.Entry.{entryAt, phiAt, tableOf, find, tableIsNew, need, tableWith, tailWith, setInNewTable, writing}
 use Rattle.entries.specs.Rules.{entryOf, Rules}
 use Rattle.entries.specs.declared.find.Found.{Found}
-use Rattle.entries.specs.declared.find.Found.the-variants.{Misplaced, Entry}
+use Rattle.entries.specs.declared.find.Found.the-variants.{Entry}
 use Rattle.entries.proofs.EntryLaws.{placed-below}
 use Rattle.calls.specs.Call.{Write}
 use Rattle.calls.specs.Parts.{descriptorsOf, activeOf, snapshotsOf, foundThrough}
@@ -37,9 +37,10 @@ use Rattle.calls.proofs.Changed.{name-long}
 use Rattle.calls.proofs.StoreLists.{Whole, isStored, stored-length, stored-other}
 use Rattle.calls.proofs.Frame.{stores-inside}
 use Rattle.calls.proofs.ChainAfter.{active-split, none-stored}
-use Rattle.calls.proofs.WrittenChain.{stored-last, not-stored, ds-some, active-next, active-form, active-rise, active-volume, active-name, placed-not-active, entry-table, table-own, new-table, need-more, put-length}
+use Rattle.calls.proofs.WrittenChain.{stored-last, not-stored, ds-some, active-next, active-form, active-rise, active-volume, active-name, placed-not-active, table-own, new-table, need-more, put-length}
 use Rattle.calls.proofs.Format.{zero-number}
 use Rattle.calls.proofs.AlgorithmLaws.{entry-in}
+use Rattle.calls.proofs.FoundEntry.{found-table}
 use Rattle.calls.proofs.LedgerAnswers.{group-below}
 use Rattle.calls.proofs.LocalEntries.{Region}
 use Rattle.calls.proofs.PassesAfter.{under, table-phi, layout-two, few-tables, number-of}
@@ -266,20 +267,6 @@ module _ (c t : List ℕ) (ds es : List Descriptor) (d : Descriptor) (l m : ℕ)
         };
       }
 
--- the table block of an entry that was found is the one that its group has
-group-table-by : (ds : List Descriptor) (d : Descriptor) (m q : ℕ) (m′ p : Physical) (o i z : Bool) → eqb m 0 ≡ z
-    → pick o (entryFound ds d m q) (pick i (pick z (Entry (physical 0) (physical 0)) (entryFound ds d m q)) (Misplaced (d .alpha))) ≡ Entry m′ p → m′ .0 ≡ m
-group-table-by ds d m q m′ p true i z h e = entry-table ds d m q m′ p e
-group-table-by ds d m q m′ p false true true h e = let k : physical 0 ≡ m′ = cc in sym (ap (λ (y : Physical). y .0) k) ∙ sym (eqb-true m 0 h)
-group-table-by ds d m q m′ p false true false h e = entry-table ds d m q m′ p e
-group-table-by ds d m q m′ p false false z h e = let y : _≡_ {A = ℕ} 0 1 = cc in absurd (omega arith)
-
-pub group-table : (c : List ℕ) (ds : List Descriptor) (d : Descriptor) (l : ℕ) (m p : Physical) → find c ds d l ≡ Entry m p → m .0 ≡ tableOf c d (l / 128)
-unfolding find
-group-table c ds d l m p is =
-    let n = tableOf c d (l / 128) in
-    group-table-by ds d n (entryAt c n (l % 128)) m p (eqb (d .layout) 1) (inPlace ds d n) (eqb n 0) refl is
-
 -- two blocks are taken where the table block is new
 two-new : (n : Bool) (k : ℕ) → k ≡ pick n 2 1 → k ≡ 2 → n ≡ true
 two-new true k e h = refl
@@ -408,7 +395,7 @@ module _ (c : List ℕ) (passes : Passes c) (l : ℕ) (block : List ℕ) (ok : i
         (not-stored (act .alpha .0) head-bytes [] (act .beta .0) (λ v. omega (arith, v, rise)) (none-stored (act .beta .0)))
         c refl (store (act .beta .0 + 1) block ∷ []) whole)
         (stored-last (length c) (act .alpha .0) head-bytes [] (none-stored (act .alpha .0)) c refl (store (act .beta .0 + 1) block ∷ store (act .beta .0) new-bytes ∷ []) whole)
-        (λ q h n. stored-other (length c) c refl whole q (not-in q h n)) (group-table c chn act l m p is)
+        (λ q h n. stored-other (length c) c refl whole q (not-in q h n)) (found-table c chn act l m p is)
         act-wider act-new (extended-new snaps act 2 1 (omega arith) regions) (placed-not-active chn chn-some) act-rules
 
     pub new-two : WriteFacts c (storeAll c (storesOf (Write l block) c)) (snaps ++ (extendedOf act 2 ∷ [])) act (extendedOf act 2) l block

@@ -192,7 +192,7 @@ module _ (c : List ℕ) (ds : List Descriptor) (sound-c : chain c ≡ Sound ds) 
           (omega (arith, active-long)) end (inl active-next) (member-fresh c ds xs d [] sound-c split) active-next few
 
 -- tests joined
-or-right : (a b : Bool) → b ≡ true → (a || b) ≡ true
+pub or-right : (a b : Bool) → b ≡ true → (a || b) ≡ true
 or-right true b e = refl
 or-right false b e = e
 
@@ -264,7 +264,7 @@ pub new-table : (alpha m : ℕ) → alpha < m → tableIsNew alpha m ≡ false
 unfolding tableIsNew
 new-table alpha m h = rw (ne-eqb m 0 (omega arith), le-ltb m alpha (omega arith))
 
-old-table : (alpha m : ℕ) → tableIsNew alpha m ≡ false → (m ≡ 0 → ⊥) × (alpha ≤ m)
+pub old-table : (alpha m : ℕ) → tableIsNew alpha m ≡ false → (m ≡ 0 → ⊥) × (alpha ≤ m)
 unfolding tableIsNew
 old-table alpha m h = let r = or-none (eqb m 0) (ltb m alpha) h in (eqb-false m 0 (r .0), ltb-false m alpha (r .1))
 
