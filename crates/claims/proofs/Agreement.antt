@@ -1,0 +1,255 @@
+-- Two cards that agree, that is with equal bytes below one beta, have one chain, and every call has the same outcome on both.
+use mathlib.Core.Path.{_≡_, refl, sym, ap, _∙_, subst}
+use mathlib.Core.Bool.{Bool, true, false, not, _&&_, _||_}
+use mathlib.Core.List.{List, [], _∷_, _++_}
+use Prim.Native.Nat.{ℕ, zero, suc, _+_, _*_, _-_, _/_, _%_, _≤_, _<_}
+use native.Mathlib.Omega.{arith}
+use lib.ListN.{length, take, getD}
+use lib.Seq.{length-take-le, getD-take}
+use lib.Dec.{eqb, ltb, leb}
+use borrow.Author.Tests.{eq-eqb, ltb-true, leb-false, eqb-true, not-false}
+use Rattle.blocks.specs.Pick.{pick}
+use Rattle.blocks.specs.Bytes.{part, blockCount, blockAt, storeAll}
+use Rattle.blocks.specs.Name.{isName}
+use Rattle.blocks.specs.Descriptor.{tableCount, cost, costOf, noDescriptor, descriptorAt}
+use Rattle.blocks.specs.Chain.{Chain, Unsound, Sound, chain, chainSound, descriptors, named}
+use Rattle.blocks.specs.declared.descriptor.Descriptor.{Descriptor}
+use Rattle.blocks.proofs.ByteLaws.{part-part}
+use Rattle.blocks.proofs.ChainLaws.{cost-least, region-volume}
+use Rattle.blocks.proofs.SoundLaws.{form-most}
+use Rattle.blocks.proofs.LinkedLaws.{Linked, chain-linked, chain-few, regionStart, region-start-zero, region-start-suc, linked-some, linked-end, linked-rise, linked-at, RegionAt, at-alpha, at-long}
+use Rattle.entries.specs.Entry.{find, need}
+use Rattle.entries.specs.Naming.{checkOne}
+use Rattle.entries.specs.declared.find.Found.{Found}
+use Rattle.calls.specs.declared.answer.Answer.{Answer}
+use Rattle.calls.specs.declared.answer.Target.{Target}
+use Rattle.calls.specs.declared.answer.Target.the-variants.{Active, Snapshot}
+use Rattle.calls.specs.declared.answer.Record.{Record}
+use Rattle.calls.specs.Call.{Call, Ream, Read, Write, Snap, Revert, Listing, Check, Lent, Block, Outcome, answer, accepted}
+use Rattle.calls.specs.Parts.{areaBad, descriptorsOf, activeOf, snapshotsOf, withName, indexOf, isSnapshot, targetOf, foundThrough, isMisplaced, holderOf, blockFound}
+use Rattle.calls.specs.Check.{orElse, checkAll, checkCard, isFault, faultHolder}
+use Rattle.calls.specs.Ladder.{Row, row, areaRow, blockRow, chainRow, volumeRow, firstRow, reamRows, readRows, writeRows, snapRows, revertRows, listRows, checkRows, rowsOf, answerOf}
+use Rattle.calls.specs.Effect.{storesOf, lentOf, filledOf}
+use Rattle.calls.specs.Step.{Done, step, isAccepted}
+use Rattle.claims.specs.History.{betaOf, Agree}
+use Rattle.calls.proofs.NamedLaws.{named-index, with-name-index}
+use Rattle.calls.proofs.CardLaws.{active-at, snapshots-at}
+use Rattle.claims.proofs.Rows.{rows-passed}
+use Rattle.claims.proofs.Local.{Below, below-linked, linked-chain}
+use Rattle.claims.proofs.LocalEntries.{Region, local-find, local-block, local-check}
+
+-- a sound chain is its descriptors; its last region ends at the active beta
+pub chain-is : (ch : Chain) → chainSound ch ≡ true → ch ≡ Sound (descriptors ch)
+unfolding chainSound descriptors
+chain-is (Sound ds) e = refl
+chain-is (Unsound p) e = let z : _≡_ {A = ℕ} 0 1 = cc in absurd (omega arith)
+
+pub end-from : (p : ℕ) (d : Descriptor) (ds : List Descriptor) → regionStart p (d ∷ ds) (length (d ∷ ds)) ≡ activeOf (d ∷ ds) .beta .0
+unfolding activeOf
+end-from p d [] = region-start-suc p d [] 0 ∙ region-start-zero (d .beta .0) []
+end-from p d (e ∷ ds) = region-start-suc p d (e ∷ ds) (length (e ∷ ds)) ∙ end-from (d .beta .0) e ds
+
+pub end-active : (ds : List Descriptor) → 0 < length ds → regionStart 0 ds (length ds) ≡ activeOf ds .beta .0
+end-active [] h = absurd (omega arith)
+end-active (d ∷ ds) h = end-from 0 d ds
+
+-- a block below where two cards are equal
+taken-block : (s : List ℕ) (b p : ℕ) → p < b → 512 * b ≤ length s → blockAt s p ≡ part (take (512 * b) s) (512 * p) 512
+unfolding blockAt
+taken-block s b p h l = let e : 0 + 512 * p ≡ 512 * p = omega arith in sym (part-part s 0 (512 * b) (512 * p) 512 (omega arith) (omega arith) ∙ ap (λ (n : ℕ). part s n 512) e)
+
+-- rows that are the same as far as they decide
+data SameRows : List Row → List Row → Type 0 where
+  same-rows : {xs ys : List Row} → xs ≡ ys → SameRows xs ys
+  then : {r : Row} {xs ys : List Row} → (r .holds ≡ false → SameRows xs ys) → SameRows (r ∷ xs) (r ∷ ys)
+
+rows-by : (r : Row) (x y : Answer) (b : Bool) → r .holds ≡ b → (r .holds ≡ false → x ≡ y) → pick b (answer (r .number) (r .place)) x ≡ pick b (answer (r .number) (r .place)) y
+rows-by r x y true e h = refl
+rows-by r x y false e h = h e
+
+first-same : {xs ys : List Row} → SameRows xs ys → firstRow xs ≡ firstRow ys
+unfolding firstRow
+first-same (same-rows e) = ap firstRow e
+first-same (then {r = r} {xs = xs} {ys = ys} h) = rows-by r (firstRow xs) (firstRow ys) (r .holds) refl (λ e. first-same (h e))
+
+-- the descriptor that a read goes through is one of the chain
+module _ (ds : List Descriptor) (some : 0 < length ds) where
+  pub target-member : (target : Target) (name : List ℕ) → (isSnapshot target && not (named (snapshotsOf ds) name)) ≡ false
+      → (k : ℕ) × (k < length ds) × (targetOf ds target name ≡ getD ds k noDescriptor)
+  unfolding targetOf
+  target-member Active name h = (length ds - 1, omega arith, active-at ds some)
+  target-member Snapshot name h =
+      let e = snapshots-at ds some in
+      let n : length (snapshotsOf ds) ≡ length ds - 1 = ap length e ∙ length-take-le (length ds - 1) ds (omega arith) in
+      let i : indexOf (snapshotsOf ds) name < length (snapshotsOf ds) = ltb-true _ _ (sym (named-index (snapshotsOf ds) name) ∙ not-false (named (snapshotsOf ds) name) h) in (
+        indexOf (snapshotsOf ds) name,
+        omega arith,
+        with-name-index (snapshotsOf ds) name
+            ∙ ap (λ (xs : List Descriptor). getD xs (indexOf (snapshotsOf ds) name) noDescriptor) e
+            ∙ getD-take (length ds - 1) ds (indexOf (snapshotsOf ds) name) noDescriptor (omega arith),
+      )
+
+pub active-target : (ds : List Descriptor) → targetOf ds Active [] ≡ activeOf ds
+unfolding targetOf
+active-target ds = refl
+
+abbrev done : Answer → Lent → List ℕ → Done
+done a l card = record { outcome = record { answer = a; lent = l }; card = card }
+
+module _ (s t : List ℕ) (agree : Agree s t) where
+  abbrev ds : List Descriptor
+  ds = descriptorsOf s
+
+  sound-is : chain s ≡ Sound ds
+  sound-is = chain-is (chain s) (agree .sound)
+
+  linked : Linked s [] 0 ds
+  linked = chain-linked s ds sound-is
+
+  some : 0 < length ds
+  some = linked-some linked
+
+  end-is : regionStart 0 ds (length ds) ≡ betaOf s
+  unfolding betaOf
+  end-is = end-active ds some
+
+  -- the descriptor of region k
+  at : (k : ℕ) → k < length ds → RegionAt s (regionStart 0 ds k) (regionStart 0 ds (suc k)) (getD ds k noDescriptor)
+  at k h = linked-at linked k h
+
+  start-below : 0 < betaOf s
+  start-below =
+      let r = at 0 some in
+      omega (arith, at-long s _ _ _ r, cost-least (getD ds 0 noDescriptor .layout) (getD ds 0 noDescriptor .volume), linked-rise linked 1 (length ds) (omega (arith, some)) (omega arith), end-is)
+
+  beta-inside : 512 * betaOf s ≤ length s
+  unfolding blockCount
+  beta-inside = let h : betaOf s ≤ length s / 512 = omega (arith, linked-end linked, end-is) in omega arith
+
+  pub agree-below : Below s t (betaOf s)
+  agree-below =
+      record {
+        long = agree .long;
+        some = start-below;
+        inside = beta-inside;
+        blocks = λ p h. taken-block s (betaOf s) p h beta-inside ∙ ap (λ (c : List ℕ). part c (512 * p) 512) (agree .below) ∙ sym (taken-block t (betaOf s) p h (omega (arith, beta-inside, agree .long)));
+      }
+
+  pub agree-chain : chain s ≡ chain t
+  agree-chain = sound-is ∙ sym (linked-chain t ds (below-linked s t (betaOf s) agree-below linked (omega (arith, end-is))) (chain-few s ds sound-is))
+
+  agree-area : areaBad s ≡ areaBad t
+  unfolding areaBad blockCount
+  agree-area = rw (agree .long)
+
+  agree-count : blockCount s ≡ blockCount t
+  unfolding blockCount
+  agree-count = rw (agree .long)
+
+  own-by : (d : Descriptor) (a b : ℕ) → d .layout ≡ 1 → a + costOf d ≤ b → a + tableCount (d .volume) < b
+  unfolding cost
+  own-by d a b e h = let q : a + (1 + tableCount (d .volume)) ≤ b = rw (eq-eqb (d .layout) 1 e) at h in omega arith
+
+  few-by : (v : ℕ) → v ≤ 14336 → tableCount v ≤ 112
+  unfolding tableCount
+  few-by v h = omega arith
+
+  pub agree-region : (k : ℕ) → k < length ds → Region (getD ds k noDescriptor) (betaOf s)
+  agree-region k h =
+      let d = getD ds k noDescriptor in
+      let r = at k h in
+      let a = at-alpha s _ _ d r in
+      let l = at-long s _ _ d r in
+      record {
+        some = omega (arith, a, l, r .beta, cost-least (d .layout) (d .volume));
+        upto = omega (arith, r .beta, linked-rise linked (suc k) (length ds) (omega arith) (omega arith), end-is);
+        own = λ e. own-by d (d .alpha .0) (d .beta .0) e (omega (arith, a, l, r .beta));
+        few = few-by (d .volume) (form-most s _ d (r .form));
+      }
+
+  -- L is one for all descriptors
+  volume-at : (k : ℕ) → k < length ds → getD ds k noDescriptor .volume ≡ activeOf ds .volume
+  volume-at k h =
+      region-volume (descriptorAt s 0) (blockCount s) _ _ (at k h .region)
+      ∙ sym (region-volume (descriptorAt s 0) (blockCount s) _ _ (at (length ds - 1) (omega (arith, some)) .region))
+      ∙ ap (λ (d : Descriptor). d .volume) (sym (active-at ds some))
+
+  -- what a read or a write finds
+  module _ (target : Target) (name : List ℕ) (l : ℕ) (standing : (isSnapshot target && not (named (snapshotsOf ds) name)) ≡ false) (inside : leb (activeOf ds .volume) l ≡ false) where
+    target-region : Region (targetOf ds target name) (betaOf s)
+    target-region = let m = target-member ds some target name standing in rw (m .2) (agree-region (m .0) (m .1))
+
+    target-volume : l < targetOf ds target name .volume
+    target-volume =
+        let m = target-member ds some target name standing in
+        omega (arith, leb-false (activeOf ds .volume) l inside, ap (λ (d : Descriptor). d .volume) (m .2), volume-at (m .0) (m .1))
+
+    pub found-same : find s ds (targetOf ds target name) l ≡ find t ds (targetOf ds target name) l
+    found-same = local-find s t (betaOf s) agree-below (targetOf ds target name) target-region ds l target-volume
+
+    block-same : blockFound s (find s ds (targetOf ds target name) l) ≡ blockFound t (find t ds (targetOf ds target name) l)
+    block-same = local-block s t (betaOf s) agree-below (targetOf ds target name) target-region ds l ∙ ap (blockFound t) found-same
+
+  read-passed : (target : Target) (name : List ℕ) (l : ℕ) (block : List ℕ) → isAccepted (answerOf (Read target name l block) s) ≡ true
+      → ((isSnapshot target && not (named (snapshotsOf ds) name)) ≡ false) × (leb (activeOf ds .volume) l ≡ false)
+  unfolding rowsOf readRows
+  read-passed target name l block e = let passed = rows-passed (Read target name l block) s e in (passed 4 (omega arith), passed 5 (omega arith))
+
+  -- check
+  check-rest : (rest : List Descriptor) → ((k : ℕ) → k < length rest → Region (getD rest k noDescriptor) (betaOf s)) → checkAll s ds rest ≡ checkAll t ds rest
+  unfolding checkAll
+  check-rest [] h = refl
+  check-rest (d ∷ rest) h = rw (local-check s t (betaOf s) agree-below d (h 0 (omega arith)) ds, check-rest rest (λ k l. h (suc k) (omega arith)))
+
+  check-card : checkCard s ≡ checkCard t
+  unfolding checkCard
+  check-card = rw (← agree-chain) (check-rest ds agree-region)
+
+  -- every call has the same answer
+  read-rows : (target : Target) (name : List ℕ) (l : ℕ) (block : List ℕ) → SameRows (readRows s target name l block) (readRows t target name l block)
+  unfolding readRows
+  read-rows target name l block =
+      rw (← agree-area, ← agree-chain)
+      (then (λ a. then (λ b. then (λ c. then (λ d. then (λ e. then (λ f. same-rows (ap (λ (x : Found). row (isMisplaced x) 10 (holderOf x) ∷ []) (found-same target name l e f)))))))))
+
+  write-rows : (l : ℕ) (block : List ℕ) → SameRows (writeRows s l block) (writeRows t l block)
+  unfolding writeRows
+  write-rows l block =
+      let d = activeOf ds in
+      rw (← agree-area, ← agree-chain, ← agree-count)
+      (then (λ a. then (λ b. then (λ c. then (λ e. same-rows (ap
+      (λ (x : Found). row (isMisplaced x) 10 (holderOf x) ∷ row (ltb (blockCount s) (d .beta .0 + need (d .alpha .0) x)) 11 0 ∷ [])
+      (rw (active-target ds) at (found-same Active [] l refl e))))))))
+
+  pub agree-answer : (k : Call) → answerOf k s ≡ answerOf k t
+  unfolding answerOf rowsOf reamRows snapRows revertRows listRows checkRows
+  agree-answer (Ream layout volume name) = rw (agree-area, agree-count)
+  agree-answer (Read target name l block) = first-same (read-rows target name l block)
+  agree-answer (Write l block) = first-same (write-rows l block)
+  agree-answer (Snap name) = rw (agree-area, agree-chain, agree-count)
+  agree-answer (Revert name) = rw (agree-area, agree-chain)
+  agree-answer (Listing records) = rw (agree-area, agree-chain)
+  agree-answer Check = rw (agree-area, agree-chain, check-card)
+
+  -- and leaves the same in what was lent, where it is accepted
+  agree-filled : (k : Call) → isAccepted (answerOf k s) ≡ true → filledOf k s ≡ filledOf k t
+  unfolding filledOf
+  agree-filled (Ream layout volume name) e = refl
+  agree-filled (Read target name l block) e = rw (← agree-chain) (ap Block (block-same target name l (read-passed target name l block e .0) (read-passed target name l block e .1)))
+  agree-filled (Write l block) e = refl
+  agree-filled (Snap name) e = refl
+  agree-filled (Revert name) e = refl
+  agree-filled (Listing records) e = rw agree-chain
+  agree-filled Check e = refl
+
+  outcome-by : (k : Call) (b : Bool) → (b ≡ true → filledOf k s ≡ filledOf k t) → (x y : List ℕ)
+      → pick b (done (answerOf k t) (filledOf k s) x) (done (answerOf k t) (lentOf k) s) .outcome
+      ≡ pick b (done (answerOf k t) (filledOf k t) y) (done (answerOf k t) (lentOf k) t) .outcome
+  outcome-by k true h x y = rw (h refl)
+  outcome-by k false h x y = refl
+
+  pub agree-outcome : (k : Call) → step k s .outcome ≡ step k t .outcome
+  unfolding step
+  agree-outcome k =
+      rw (agree-answer k)
+      (outcome-by k (isAccepted (answerOf k t)) (λ e. agree-filled k (ap isAccepted (agree-answer k) ∙ e)) (storeAll s (storesOf k s)) (storeAll t (storesOf k t)))

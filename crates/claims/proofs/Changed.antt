@@ -1,0 +1,135 @@
+-- The chain after a descriptor block was stored: the descriptors before it, then what was stored.
+use mathlib.Core.Path.{_≡_, refl, sym, ap, _∙_, subst}
+use mathlib.Core.Logic.{_⊎_, inl, inr}
+use mathlib.Core.Bool.{Bool, true, false, not, _&&_, _||_}
+use mathlib.Core.List.{List, [], _∷_, _++_}
+use Prim.Native.Nat.{ℕ, zero, suc, _+_, _*_, _-_, _^_, _≤_, _<_}
+use native.Mathlib.Omega.{arith}
+use lib.ListN.{length, length-append}
+use lib.Dec.{eqb, ltb, leb}
+use borrow.Author.Tests.{eqb-true, eqb-false, not-true}
+use Rattle.blocks.specs.Pick.{pick, same}
+use Rattle.blocks.specs.Bytes.{part, blockCount, blockAt}
+use Rattle.blocks.specs.Name.{isName}
+use Rattle.blocks.specs.Descriptor.{costOf, descriptorAt, tailAt, descriptorBlock, reservedOk, phiOk}
+use Rattle.blocks.specs.Chain.{formOk, regionOk, named, sound, Sound, chain}
+use Rattle.blocks.specs.declared.descriptor.Descriptor.{Descriptor}
+use Rattle.blocks.proofs.Tests.{and-left, and-right}
+use Rattle.blocks.proofs.DescriptorLaws.{Fits}
+use Rattle.blocks.proofs.NameLaws.{name-wrong-length}
+use Rattle.blocks.proofs.SoundLaws.{form-most, form-layout}
+use Rattle.blocks.proofs.ChainLaws.{region-layout, region-volume, region-end, region-long, cost-least}
+use Rattle.blocks.proofs.LinkedLaws.{Linked, last, more, chain-linked, sound-form, sound-region, sound-alpha}
+use Rattle.calls.specs.Parts.{activeOf, snapshotsOf, withName}
+use Rattle.claims.proofs.Local.{linked-chain, shared-descriptor}
+use Rattle.claims.proofs.Relinked.{linked-from, linked-head, relinked}
+use Rattle.claims.proofs.Stored.{stored-descriptor, stored-form, region-ok, tail-long, tail-part, form-kept, form-phi}
+
+-- a name has sixteen bytes; a layout is small
+pub name-long : (n : List ℕ) → isName n ≡ true → length n ≡ 16
+name-long n h = by (eqb (length n) 16) refl
+  where
+    by : (z : Bool) → eqb (length n) 16 ≡ z → length n ≡ 16
+    by true e = eqb-true (length n) 16 e
+    by false e = let f : false ≡ true = name-wrong-length n (eqb-false (length n) 16 e) ∙ h in let y : _≡_ {A = ℕ} 0 1 = cc in absurd (omega arith)
+
+layout-by : (l : ℕ) (x y : Bool) → eqb l 1 ≡ x → eqb l 2 ≡ y → (x || y) ≡ true → l ≤ 2
+layout-by l true y e f h = omega (arith, eqb-true l 1 e)
+layout-by l false true e f h = omega (arith, eqb-true l 2 f)
+layout-by l false false e f h = let y : _≡_ {A = ℕ} 0 1 = cc in absurd (omega arith)
+
+pub layout-small : (l : ℕ) → (eqb l 1 || eqb l 2) ≡ true → l ≤ 2
+layout-small l h = layout-by l (eqb l 1) (eqb l 2) refl refl h
+
+-- names of lists joined
+named-by : (x : Bool) (b c : Bool) → (x || (b || c)) ≡ ((x || b) || c)
+named-by true b c = refl
+named-by false b c = refl
+
+pub named-append : (xs ys : List Descriptor) (n : List ℕ) → named (xs ++ ys) n ≡ (named xs n || named ys n)
+unfolding named
+named-append [] ys n = refl
+named-append (x ∷ xs) ys n = rw (named-append xs ys n) (named-by (same (x .name) n) (named xs n) (named ys n))
+
+or-left : (a b : Bool) → (a || b) ≡ false → a ≡ false
+or-left true b e = e
+or-left false b e = refl
+
+pub named-left : (xs ys : List Descriptor) (n : List ℕ) → named (xs ++ ys) n ≡ false → named xs n ≡ false
+named-left xs ys n h = or-left (named xs n) (named ys n) (sym (named-append xs ys n) ∙ h)
+
+-- a descriptor of a chain, by its place in the list
+module _ (s : List ℕ) (ds xs : List Descriptor) (d : Descriptor) (ys : List Descriptor) (sound-s : chain s ≡ Sound ds) (split : ds ≡ xs ++ (d ∷ ys)) where
+  pub member-from : Linked s xs (d .alpha .0) (d ∷ ys)
+  member-from = linked-from s (chain-linked s ds sound-s) xs d ys split
+
+  pub member-is : d ≡ descriptorAt s (d .alpha .0)
+  member-is = linked-head s member-from d ys refl .0
+
+  member-ok : sound s xs (d .alpha .0) ≡ true
+  member-ok = linked-head s member-from d ys refl .1
+
+  pub member-form : formOk s (d .alpha .0) d ≡ true
+  member-form = sound-form s xs (d .alpha .0) d member-is member-ok
+
+  pub member-region : regionOk (descriptorAt s 0) (blockCount s) (d .alpha .0) d ≡ true
+  member-region = sound-region s xs (d .alpha .0) d member-is member-ok
+
+  pub member-fresh : named xs (d .name) ≡ false
+  unfolding sound
+  member-fresh =
+      rw member-is
+      (not-true (named xs (descriptorAt s (d .alpha .0) .name))
+      (and-right (formOk s (d .alpha .0) (descriptorAt s (d .alpha .0)) && regionOk (descriptorAt s 0) (blockCount s) (d .alpha .0) (descriptorAt s (d .alpha .0)))
+      (not (named xs (descriptorAt s (d .alpha .0) .name))) member-ok))
+
+  pub member-inside : 512 * d .alpha .0 + 512 ≤ length s
+  unfolding blockCount
+  member-inside =
+      let r = member-region in
+      omega (arith, region-long (descriptorAt s 0) (blockCount s) (d .alpha .0) d r, region-end (descriptorAt s 0) (blockCount s) (d .alpha .0) d r, cost-least (d .layout) (d .volume))
+
+  -- the card t has e with some tail in the block of d, and the blocks before it as they were
+  module _ (t : List ℕ) (long : length s ≡ length t) (kept : (q : ℕ) → q < d .alpha .0 → blockAt s q ≡ blockAt t q)
+      (e : Descriptor) (tail : List ℕ) (is : blockAt t (d .alpha .0) ≡ descriptorBlock e tail) (fits : Fits e) (whole : length tail ≡ 472)
+      (layout : e .layout ≡ d .layout) (volume : e .volume ≡ d .volume) (alpha : e .alpha .0 ≡ d .alpha .0) (name : isName (e .name) ≡ true)
+      (reserved : reservedOk (part tail 0 24) ≡ true) (phi : phiOk (d .layout) (part tail 24 448) ≡ true)
+      (region : e .alpha .0 + costOf e ≤ e .beta .0) (end : e .beta .0 ≤ blockCount t)
+      (next : (e .next .0 ≡ 0) ⊎ ((e .next .0 ≡ e .beta .0) × (e .beta .0 < blockCount t)))
+      (fresh : named xs (e .name) ≡ false) where
+    in-t : 512 * d .alpha .0 + 512 ≤ length t
+    in-t = omega (arith, member-inside)
+
+    pub changed-is : descriptorAt t (d .alpha .0) ≡ e
+    changed-is = stored-descriptor t (d .alpha .0) in-t e tail is fits whole
+
+    first-by : (z : Bool) → eqb (d .alpha .0) 0 ≡ z → (e .layout ≡ descriptorAt t 0 .layout) × (e .volume ≡ descriptorAt t 0 .volume)
+    first-by true h = let a = eqb-true (d .alpha .0) 0 h in let q : descriptorAt t 0 ≡ e = rw (← a) changed-is in rw q (refl, refl)
+    first-by false h =
+        let a = eqb-false (d .alpha .0) 0 h in
+        let q : descriptorAt s 0 ≡ descriptorAt t 0 = shared-descriptor s t 0 (omega (arith, member-inside)) (omega (arith, in-t)) (kept 0 (omega arith)) in
+        rw (← q) (
+          layout ∙ region-layout (descriptorAt s 0) (blockCount s) (d .alpha .0) d member-region,
+          volume ∙ region-volume (descriptorAt s 0) (blockCount s) (d .alpha .0) d member-region,
+        )
+
+    pub changed-first : (e .layout ≡ descriptorAt t 0 .layout) × (e .volume ≡ descriptorAt t 0 .volume)
+    changed-first = first-by (eqb (d .alpha .0) 0) refl
+
+    pub changed-ok : sound t xs (d .alpha .0) ≡ true
+    unfolding sound
+    changed-ok =
+        let f = changed-first in
+        rw (
+          changed-is,
+          stored-form t (d .alpha .0) in-t e tail is fits whole d layout volume name s (d .alpha .0) member-form reserved phi,
+          region-ok (descriptorAt t 0) (blockCount t) (d .alpha .0) e (f .0) (f .1) alpha region end next,
+          fresh,
+        )
+
+    -- e ends the chain
+    pub changed-last : e .next .0 ≡ 0 → length xs < 256 → chain t ≡ Sound (xs ++ (e ∷ []))
+    changed-last z few =
+        linked-chain t (xs ++ (e ∷ []))
+        (relinked s t long d ys (e ∷ []) (omega (arith, member-inside)) kept (chain-linked s ds sound-s) xs split (last (sym changed-is) changed-ok z))
+        (omega (arith, length-append xs (e ∷ [])))

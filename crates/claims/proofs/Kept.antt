@@ -1,0 +1,244 @@
+-- A snapshot stays as it is under every call but a format and a revert to it or to an earlier one: its descriptor, those before it and all blocks
+-- below its beta; and so does the active name.
+use mathlib.Core.Path.{_≡_, refl, sym, ap, _∙_, subst}
+use mathlib.Core.Logic.{_⊎_, inl, inr}
+use mathlib.Core.Bool.{Bool, true, false, not, _&&_, _||_}
+use mathlib.Core.List.{List, [], _∷_, _++_, append-assoc}
+use Prim.Native.Nat.{ℕ, zero, suc, _+_, _*_, _-_, _≤_, _<_}
+use native.Mathlib.Omega.{arith}
+use lib.ListN.{length, take, drop, length-append, take-append-drop}
+use lib.Seq.{take-append-le, take-append-add, append-snoc}
+use lib.Dec.{eqb, ltb, leb}
+use borrow.Author.Tests.{ne-eqb, leb-true, leb-false, ltb-false, not-false}
+use Rattle.blocks.specs.Pick.{pick}
+use Rattle.blocks.specs.Bytes.{blockAt, Store, store, storeAll}
+use Rattle.blocks.specs.Descriptor.{physical, costOf, renamedOf, linkedOf, extendedOf, reopenedOf}
+use Rattle.blocks.specs.Chain.{Chain, Sound, chain, chainSound, descriptors, named}
+use Rattle.blocks.specs.declared.descriptor.Descriptor.{Descriptor}
+use Rattle.blocks.proofs.Tests.{and-right}
+use Rattle.blocks.proofs.LinkedLaws.{Linked, last, more, chain-linked, sound-next}
+use Rattle.entries.specs.Entry.{find, tableIsNew, need, setInTable, setInNewTable, writing}
+use Rattle.entries.specs.declared.find.Found.{Found}
+use Rattle.entries.specs.declared.find.Found.the-variants.{Misplaced, Entry}
+use Rattle.calls.specs.Call.{Call, Ream, Read, Write, Snap, Revert, Listing, Check}
+use Rattle.calls.specs.Parts.{areaBad, descriptorsOf, activeOf, snapshotsOf, withName, indexOf, foundThrough}
+use Rattle.calls.specs.Ladder.{rowsOf, writeRows, answerOf}
+use Rattle.calls.specs.Effect.{storesOf, reverting}
+use Rattle.calls.specs.Step.{step, isAccepted}
+use Rattle.claims.specs.History.{isFormat}
+use Rattle.claims.proofs.Rows.{no, rows-passed}
+use Rattle.claims.proofs.Relinked.{later-alpha}
+use Rattle.claims.proofs.Changed.{named-left, member-from, member-fresh}
+use Rattle.claims.proofs.StoreLists.{Whole, isStored, stored-length, stored-other}
+use Rattle.claims.proofs.Frame.{stores-inside}
+use Rattle.claims.proofs.ChainAfter.{before, behind, active-split, active-snoc, snapshots-snoc, active-append, active-last, link-low, one-stored, revert-rows, revert-split, reverted-chain}
+use Rattle.claims.proofs.SnappedChain.{snap-rows, snap-above, snapped-chain}
+use Rattle.claims.proofs.WrittenChain.{written-chain}
+
+-- a later region starts where an earlier one ends, or after
+beta-before : {c : List ℕ} {es : List Descriptor} {p : ℕ} {ds : List Descriptor} → Linked c es p ds → (v : Descriptor) (us : List Descriptor) (u : Descriptor) (ws : List Descriptor) → ds ≡ v ∷ (us ++ (u ∷ ws))
+    → v .beta .0 ≤ u .alpha .0
+beta-before (last is ok z) v us u ws q = absurd (omega (arith, ap length q, length-append us (u ∷ ws)))
+beta-before {c = c} (more {es = es} {p = p} {d = e} {ds = ds} is ok z rest) v us u ws q =
+    let k : ds ≡ us ++ (u ∷ ws) = cc in
+    let x : e ≡ v = cc in
+    omega (arith, later-alpha c rest us u ws k, sound-next c es p e is ok z, ap (λ (y : Descriptor). y .beta .0) x)
+
+-- a write stores no block below the active alpha
+or-right : (a b : Bool) → (a || b) ≡ false → b ≡ false
+or-right true b e = no (sym e)
+or-right false b e = e
+
+module _ (c : List ℕ) (d : Descriptor) (low : d .alpha .0 < d .beta .0) (l : ℕ) (block : List ℕ) (q : ℕ) (h : q < d .alpha .0) where
+  above-by : (m o : ℕ) (a n : Bool) → (a ≡ true → d .alpha .0 ≤ o) → (n ≡ false → d .alpha .0 ≤ m)
+      → isStored (pick (eqb (pick a 0 (pick n 2 1)) 0) (store o block ∷ []) (pick n (store (d .beta .0 + 1) block ∷ setInNewTable c d m l) (store (d .beta .0) block ∷ setInTable c d m l))) q ≡ false
+  unfolding isStored setInNewTable setInTable
+  above-by m o true n f g = rw (ne-eqb o q (omega (arith, f refl)))
+  above-by m o false true f g = rw (ne-eqb (d .beta .0 + 1) q (omega arith), ne-eqb (d .beta .0) q (omega arith), ne-eqb (d .alpha .0) q (omega arith))
+  above-by m o false false f g = rw (ne-eqb (d .beta .0) q (omega arith), ne-eqb (d .alpha .0) q (omega arith), ne-eqb m q (omega (arith, g refl)))
+
+  not-new : (m : ℕ) → tableIsNew (d .alpha .0) m ≡ false → d .alpha .0 ≤ m
+  unfolding tableIsNew
+  not-new m e = ltb-false m (d .alpha .0) (or-right (eqb m 0) (ltb m (d .alpha .0)) e)
+
+  pub writing-above : (f : Found) → isStored (writing c d f l block) q ≡ false
+  unfolding writing need isStored
+  writing-above (Misplaced x) = refl
+  writing-above (Entry m o) =
+      above-by (m .0) (o .0) (not (eqb (o .0) 0) && leb (d .alpha .0) (o .0)) (tableIsNew (d .alpha .0) (m .0))
+      (λ e. leb-true (d .alpha .0) (o .0) (and-right (not (eqb (o .0) 0)) (leb (d .alpha .0) (o .0)) e)) (not-new (m .0))
+
+-- the parts of a chain with v before its last descriptor
+module _ (xs : List Descriptor) (v : Descriptor) (rest : List Descriptor) (some : 0 < length rest) where
+  rest-is : rest ≡ snapshotsOf rest ++ (activeOf rest ∷ [])
+  rest-is = active-split rest some
+
+  whole-is : xs ++ (v ∷ rest) ≡ (xs ++ (v ∷ snapshotsOf rest)) ++ (activeOf rest ∷ [])
+  whole-is = ap (λ (zs : List Descriptor). xs ++ (v ∷ zs)) rest-is ∙ sym (append-assoc xs (v ∷ snapshotsOf rest) (activeOf rest ∷ []))
+
+  pub snapshots-are : snapshotsOf (xs ++ (v ∷ rest)) ≡ xs ++ (v ∷ snapshotsOf rest)
+  snapshots-are = ap snapshotsOf whole-is ∙ snapshots-snoc (xs ++ (v ∷ snapshotsOf rest)) (activeOf rest)
+
+  pub active-is : activeOf (xs ++ (v ∷ rest)) ≡ activeOf rest
+  active-is = ap activeOf whole-is ∙ active-snoc (xs ++ (v ∷ snapshotsOf rest)) (activeOf rest)
+
+-- v stands on t after the descriptors xs, with the blocks below its beta as on s, and the active name is n
+pub record Stands (s : List ℕ) (xs : List Descriptor) (v : Descriptor) (n : List ℕ) (t : List ℕ) : Type 0 where
+  pub long : length s ≡ length t
+  pub rest : List Descriptor
+  pub some : 0 < length rest
+  pub is : chain t ≡ Sound (xs ++ (v ∷ rest))
+  pub active : activeOf rest .name ≡ n
+  pub blocks : (p : ℕ) → p < v .beta .0 → blockAt s p ≡ blockAt t p
+
+pub descriptors-are : (c : List ℕ) (ds : List Descriptor) → chain c ≡ Sound ds → descriptorsOf c ≡ ds
+unfolding descriptors
+descriptors-are c ds e = ap descriptors e
+
+module _ (s : List ℕ) (xs : List Descriptor) (v : Descriptor) (n : List ℕ) (t : List ℕ) (h : Stands s xs v n t) where
+  abbrev rest : List Descriptor
+  rest = h .rest
+
+  ds-is : descriptorsOf t ≡ xs ++ (v ∷ rest)
+  ds-is = descriptors-are t (xs ++ (v ∷ rest)) (h .is)
+
+  pub stands-snapshots : snapshotsOf (descriptorsOf t) ≡ xs ++ (v ∷ snapshotsOf rest)
+  stands-snapshots = ap snapshotsOf ds-is ∙ snapshots-are xs v rest (h .some)
+
+  pub stands-active : activeOf (descriptorsOf t) ≡ activeOf rest
+  stands-active = ap activeOf ds-is ∙ active-is xs v rest (h .some)
+
+  -- what stands after v starts where v ends
+  after-v : (us : List Descriptor) (u : Descriptor) (ws : List Descriptor) → rest ≡ us ++ (u ∷ ws) → v .beta .0 ≤ u .alpha .0
+  after-v us u ws q = beta-before (member-from t (xs ++ (v ∷ rest)) xs v rest (h .is) refl) v us u ws (ap (λ (zs : List Descriptor). v ∷ zs) q)
+
+  active-above : v .beta .0 ≤ activeOf (descriptorsOf t) .alpha .0
+  active-above = omega (arith, after-v (snapshotsOf rest) (activeOf rest) [] (active-split rest (h .some)), ap (λ (x : Descriptor). x .alpha .0) stands-active)
+
+  -- stores at or above v's beta, and a chain that still has v
+  stands-by : (k : Call) → isAccepted (answerOf k t) ≡ true → (ys : List Descriptor) → 0 < length ys → chain (storeAll t (storesOf k t)) ≡ Sound (xs ++ (v ∷ ys)) → activeOf ys .name ≡ n
+      → ((p : ℕ) → p < v .beta .0 → isStored (storesOf k t) p ≡ false) → Stands s xs v n (storeAll t (storesOf k t))
+  stands-by k e ys m is a low =
+      let w = stores-inside k t e in
+      record {
+        long = h .long ∙ sym (stored-length (length t) t refl w);
+        rest = ys;
+        some = m;
+        is = is;
+        active = a;
+        blocks = λ p l. h .blocks p l ∙ sym (stored-other (length t) t refl w p (low p l));
+      }
+
+  grown : (zs : List Descriptor) → snapshotsOf (descriptorsOf t) ++ zs ≡ xs ++ (v ∷ (snapshotsOf rest ++ zs))
+  grown zs = ap (λ (ys : List Descriptor). ys ++ zs) stands-snapshots ∙ append-assoc xs (v ∷ snapshotsOf rest) zs
+
+  active-name : activeOf (descriptorsOf t) .name ≡ n
+  active-name = ap (λ (x : Descriptor). x .name) stands-active ∙ h .active
+
+  -- a write
+  write-rows : (l : ℕ) (block : List ℕ) → isAccepted (answerOf (Write l block) t) ≡ true → (areaBad t ≡ false) × (chainSound (chain t) ≡ true)
+  unfolding rowsOf writeRows
+  write-rows l block e = let rows = rows-passed (Write l block) t e in (rows 0 (omega arith), not-false (chainSound (chain t)) (rows 2 (omega arith)))
+
+  write-above : (l : ℕ) (block : List ℕ) → isAccepted (answerOf (Write l block) t) ≡ true → (p : ℕ) → p < v .beta .0 → isStored (storesOf (Write l block) t) p ≡ false
+  unfolding storesOf
+  write-above l block e p q =
+      let r = write-rows l block e in
+      let d = activeOf (descriptorsOf t) in
+      writing-above t d (link-low t (r .0) (r .1) (snapshotsOf (descriptorsOf t)) d [] (active-last t (r .0) (r .1))) l block p (omega (arith, active-above)) (foundThrough t d l)
+
+  pub stands-write : (l : ℕ) (block : List ℕ) → isAccepted (answerOf (Write l block) t) ≡ true → Stands s xs v n (storeAll t (storesOf (Write l block) t))
+  stands-write l block e =
+      let d = activeOf (descriptorsOf t) in
+      let x = extendedOf d (need (d .alpha .0) (foundThrough t d l)) in
+      stands-by (Write l block) e (snapshotsOf rest ++ (x ∷ [])) (omega (arith, length-append (snapshotsOf rest) (x ∷ [])))
+      (written-chain t l block e ∙ ap Sound (grown (x ∷ []))) (ap (λ (y : Descriptor). y .name) (active-snoc (snapshotsOf rest) x) ∙ active-name) (write-above l block e)
+
+  -- a snap
+  pub stands-snap : (name : List ℕ) → isAccepted (answerOf (Snap name) t) ≡ true → Stands s xs v n (storeAll t (storesOf (Snap name) t))
+  stands-snap name e =
+      let d = activeOf (descriptorsOf t) in
+      let old = linkedOf (renamedOf d name) (d .beta) in
+      let new = reopenedOf d in
+      let r = snap-rows t name e in
+      stands-by (Snap name) e (snapshotsOf rest ++ (old ∷ new ∷ [])) (omega (arith, length-append (snapshotsOf rest) (old ∷ new ∷ [])))
+      (snapped-chain t name e ∙ ap Sound (grown (old ∷ new ∷ [])))
+      (ap (λ (ys : List Descriptor). activeOf ys .name) (sym (append-snoc (snapshotsOf rest) old (new ∷ []))) ∙ ap (λ (y : Descriptor). y .name) (active-snoc (snapshotsOf rest ++ (old ∷ [])) new) ∙ active-name)
+      (λ p q. snap-above t name e (r .0) (r .1) (r .2) (r .3) (r .5) p (omega (arith, active-above)))
+
+  -- a revert: to a later snapshot v stays, otherwise it is gone
+  module _ (name : List ℕ) (e : isAccepted (answerOf (Revert name) t) ≡ true) where
+    abbrev ss : List Descriptor
+    ss = snapshotsOf (descriptorsOf t)
+
+    abbrev zs : List Descriptor
+    zs = snapshotsOf rest
+
+    abbrev u : Descriptor
+    u = withName ss name
+
+    abbrev w : Descriptor
+    w = linkedOf (renamedOf u (activeOf (descriptorsOf t) .name)) (physical 0)
+
+    abbrev ws : List Descriptor
+    ws = behind ss name ++ (activeOf (descriptorsOf t) ∷ [])
+
+    sound-t : chain t ≡ Sound (descriptorsOf t)
+    sound-t = h .is ∙ ap Sound (sym ds-is)
+
+    later : (i : ℕ) → indexOf ss name ≡ length xs + suc i → before ss name ≡ xs ++ (v ∷ take i zs)
+    later i q = ap (λ (ys : List Descriptor). take (indexOf ss name) ys) stands-snapshots ∙ rw q (take-append-add xs (v ∷ zs) (suc i))
+
+    later-above : (i : ℕ) → indexOf ss name ≡ length xs + suc i → v .beta .0 ≤ u .alpha .0
+    later-above i q =
+        let split : descriptorsOf t ≡ xs ++ (v ∷ (take i zs ++ (u ∷ ws))) = revert-split t name e ∙ ap (λ (ys : List Descriptor). ys ++ (u ∷ ws)) (later i q) ∙ append-assoc xs (v ∷ take i zs) (u ∷ ws) in
+        beta-before (member-from t (descriptorsOf t) xs v (take i zs ++ (u ∷ ws)) sound-t split) v (take i zs) u ws refl
+
+    revert-above : (i : ℕ) → indexOf ss name ≡ length xs + suc i → (p : ℕ) → p < v .beta .0 → isStored (storesOf (Revert name) t) p ≡ false
+    unfolding storesOf reverting
+    revert-above i q p l = one-stored (u .alpha .0) _ p (λ k. omega (arith, later-above i q))
+
+    stands-later : (i : ℕ) → indexOf ss name ≡ length xs + suc i → Stands s xs v n (storeAll t (storesOf (Revert name) t))
+    stands-later i q =
+        stands-by (Revert name) e (take i zs ++ (w ∷ [])) (omega (arith, length-append (take i zs) (w ∷ [])))
+        (reverted-chain t name e ∙ ap Sound (ap (λ (ys : List Descriptor). ys ++ (w ∷ [])) (later i q) ∙ append-assoc xs (v ∷ take i zs) (w ∷ [])))
+        (ap (λ (y : Descriptor). y .name) (active-snoc (take i zs) w) ∙ active-name) (revert-above i q)
+
+    gone : indexOf ss name ≤ length xs → named (snapshotsOf (descriptorsOf (storeAll t (storesOf (Revert name) t)))) (v .name) ≡ false
+    gone q =
+        let j = indexOf ss name in
+        let f : before ss name ≡ take j xs = ap (λ (ys : List Descriptor). take j ys) stands-snapshots ∙ take-append-le j xs (v ∷ zs) q in
+        let g : snapshotsOf (descriptorsOf (storeAll t (storesOf (Revert name) t))) ≡ take j xs = ap snapshotsOf (descriptors-are (storeAll t (storesOf (Revert name) t)) (before ss name ++ (w ∷ [])) (reverted-chain t name e)) ∙ snapshots-snoc (before ss name) w ∙ f in
+        ap (λ (ys : List Descriptor). named ys (v .name)) g
+        ∙ named-left (take j xs) (drop j xs) (v .name) (ap (λ (ys : List Descriptor). named ys (v .name)) (take-append-drop j xs) ∙ member-fresh t (xs ++ (v ∷ rest)) xs v rest (h .is) refl)
+
+    revert-by : (z : Bool) → leb (indexOf ss name) (length xs) ≡ z
+        → Stands s xs v n (storeAll t (storesOf (Revert name) t)) ⊎ (named (snapshotsOf (descriptorsOf (storeAll t (storesOf (Revert name) t)))) (v .name) ≡ false)
+    revert-by true q = inr (gone (leb-true (indexOf ss name) (length xs) q))
+    revert-by false q = inl (stands-later (indexOf ss name - suc (length xs)) (omega (arith, leb-false (indexOf ss name) (length xs) q)))
+
+  -- every call that is no accepted format
+  abbrev Either : List ℕ → Type 0
+  Either c = Stands s xs v n c ⊎ (named (snapshotsOf (descriptorsOf c)) (v .name) ≡ false)
+
+  same-card : (k : Call) → storesOf k t ≡ [] → Either (storeAll t (storesOf k t))
+  unfolding storeAll
+  same-card k q = rw q (inl h)
+
+  stands-accepted : (k : Call) → isFormat k t ≡ false → isAccepted (answerOf k t) ≡ true → Either (storeAll t (storesOf k t))
+  unfolding isFormat storesOf
+  stands-accepted (Ream layout volume name) f e = no (sym f ∙ e)
+  stands-accepted (Read target name l block) f e = same-card (Read target name l block) refl
+  stands-accepted (Write l block) f e = inl (stands-write l block e)
+  stands-accepted (Snap name) f e = inl (stands-snap name e)
+  stands-accepted (Revert name) f e = revert-by name e (leb (indexOf (snapshotsOf (descriptorsOf t)) name) (length xs)) refl
+  stands-accepted (Listing records) f e = same-card (Listing records) refl
+  stands-accepted Check f e = same-card Check refl
+
+  step-by : (k : Call) (b : Bool) → isAccepted (answerOf k t) ≡ b → isFormat k t ≡ false → Either (step k t .card)
+  unfolding step
+  step-by k true e f = rw e (stands-accepted k f e)
+  step-by k false e f = rw e (inl h)
+
+  pub stands-step : (k : Call) → isFormat k t ≡ false → Stands s xs v n (step k t .card) ⊎ (named (snapshotsOf (descriptorsOf (step k t .card))) (v .name) ≡ false)
+  stands-step k f = step-by k (isAccepted (answerOf k t)) refl f

@@ -1,0 +1,361 @@
+-- The ledger of the card after a call is the ledger's own step.
+use mathlib.Core.Path.{_≡_, refl, sym, ap, _∙_, subst}
+use mathlib.Core.Bool.{Bool, true, false, not, _&&_, _||_}
+use mathlib.Core.List.{List, [], _∷_, _++_}
+use Prim.Native.Nat.{ℕ, zero, suc, _+_, _*_, _/_, _%_, _≤_, _<_}
+use native.Mathlib.Omega.{arith}
+use lib.ListN.{length, take, getD, length-append}
+use lib.Dec.{eqb, ltb, leb}
+use borrow.Author.Tests.{eq-eqb, eqb-true, eqb-false, ne-eqb}
+use Rattle.blocks.specs.Pick.{pick, same}
+use Rattle.blocks.specs.Bytes.{u32At, part, blockCount, blockAt, zeroBlock, storeAll}
+use Rattle.blocks.specs.Descriptor.{physical, tableCount, noDescriptor, tailAt, descriptorBlock, linkedOf, renamedOf}
+use Rattle.blocks.specs.declared.numbers.Physical.{Physical}
+use Rattle.blocks.specs.declared.descriptor.Descriptor.{Descriptor}
+use Rattle.entries.specs.InPlace.{inPlace, isDescriptor, isTable}
+use Rattle.entries.specs.Entry.{entryAt, phiAt, tableOf, entryFound, find}
+use Rattle.entries.specs.declared.find.Found.{Found}
+use Rattle.entries.specs.declared.find.Found.the-variants.{Misplaced, Entry}
+use Rattle.entries.proofs.EntryLaws.{placed-below, find-placed}
+use Rattle.calls.specs.Parts.{descriptorsOf, activeOf, snapshotsOf, withName, indexOf, foundThrough, isMisplaced, blockFound}
+use Rattle.claims.specs.Ledger.{Volume, volumesBefore, volumeNamed, ledgerStep, cellsFrom, volumeOf, volumesOf, ledgerOf}
+use Rattle.calls.specs.Call.{Revert}
+use Rattle.calls.specs.Check.{Passes}
+use Rattle.calls.specs.Ladder.{answerOf}
+use Rattle.calls.specs.Effect.{storesOf, reverting}
+use Rattle.calls.specs.Step.{step, isAccepted}
+use Rattle.claims.specs.History.{betaOf}
+use Rattle.blocks.proofs.LinkedLaws.{linked-at, linked-rise, at-alpha}
+use Rattle.claims.proofs.LocalEntries.{Region}
+use Rattle.claims.proofs.Agreement.{agree-region}
+use Rattle.claims.proofs.StoreLists.{stored-other}
+use Rattle.claims.proofs.ChainAfter.{before, behind, active-snoc, snapshots-snoc, link-inside, one-stored, revert-rows, revert-split, reverted-chain, fits, block, same-long, whole}
+use Rattle.claims.proofs.Kept.{descriptors-are}
+use Rattle.claims.proofs.Room.{accepted-card}
+use Rattle.claims.proofs.SoundStep.{agree-self}
+use Rattle.claims.proofs.LedgerAnswers.{linked-of, beta-upto, group-below, passing-found, volume-named}
+use Rattle.claims.proofs.Rows.{no}
+use Rattle.claims.proofs.Local.{shared-number}
+use Rattle.blocks.proofs.ByteLaws.{u32-part}
+use Rattle.blocks.proofs.DescriptorLaws.{Fits}
+use Rattle.claims.proofs.Stored.{stored-bytes, block-tail, tail-part, tail-long}
+
+-- the volumes before a name are those of the descriptors before it
+before-by : (c : List ℕ) (d : Descriptor) (ds : List Descriptor) (name : List ℕ) (vs : List Volume) (b : Bool) → vs ≡ volumesOf c (take (indexOf ds name) ds)
+    → pick b [] (volumeOf c d ∷ vs) ≡ volumesOf c (take (pick b 0 (suc (indexOf ds name))) (d ∷ ds))
+unfolding volumesOf
+before-by c d ds name vs true h = refl
+before-by c d ds name vs false h = ap (λ (xs : List Volume). volumeOf c d ∷ xs) h
+
+pub volumes-before : (c : List ℕ) (ds : List Descriptor) (name : List ℕ) → volumesBefore (volumesOf c ds) name ≡ volumesOf c (take (indexOf ds name) ds)
+unfolding volumesBefore volumesOf volumeOf indexOf
+volumes-before c [] name = refl
+volumes-before c (d ∷ ds) name = before-by c d ds name (volumesBefore (volumesOf c ds) name) (same (d .name) name) (volumes-before c ds name)
+
+pub volumes-append : (c : List ℕ) (xs ys : List Descriptor) → volumesOf c (xs ++ ys) ≡ volumesOf c xs ++ volumesOf c ys
+unfolding volumesOf
+volumes-append c [] ys = refl
+volumes-append c (x ∷ xs) ys = ap (λ (vs : List Volume). volumeOf c x ∷ vs) (volumes-append c xs ys)
+
+-- the same cells of two cards, each through its descriptor
+pub cells-same : (s t : List ℕ) (d e : Descriptor) (n l : ℕ) → ((j : ℕ) → l ≤ j → j < l + n → blockFound t (foundThrough t e j) ≡ blockFound s (foundThrough s d j)) → cellsFrom t e n l ≡ cellsFrom s d n l
+unfolding cellsFrom
+cells-same s t d e zero l h = refl
+cells-same s t d e (suc n) l h = rw (h l (omega arith) (omega arith), cells-same s t d e n (suc l) (λ j a b. h j (omega arith) (omega arith)))
+
+pub volumes-same : (s t : List ℕ) (ds : List Descriptor)
+    → ((i : ℕ) → i < length ds → (j : ℕ) → j < getD ds i noDescriptor .volume → blockFound t (foundThrough t (getD ds i noDescriptor) j) ≡ blockFound s (foundThrough s (getD ds i noDescriptor) j))
+    → volumesOf t ds ≡ volumesOf s ds
+unfolding volumesOf volumeOf
+volumes-same s t [] h = refl
+volumes-same s t (d ∷ ds) h =
+    rw (cells-same s t d d (d .volume) 0 (λ j a b. h 0 (omega arith) j (omega arith)), volumes-same s t ds (λ i a j b. h (suc i) (omega arith) j b))
+
+-- a card's ledger by the snapshots and the active descriptor of its chain
+pub ledger-parts : (t : List ℕ) (ss : List Descriptor) (d : Descriptor) → snapshotsOf (descriptorsOf t) ≡ ss → activeOf (descriptorsOf t) ≡ d → ledgerOf t ≡ record { snapshots = volumesOf t ss; active = volumeOf t d }
+unfolding ledgerOf
+ledger-parts t ss d a b =
+    ap (λ (y : List Descriptor). record { snapshots = volumesOf t y; active = volumeOf t (activeOf (descriptorsOf t)) }) a
+    ∙ ap (λ (y : Descriptor). record { snapshots = volumesOf t ss; active = volumeOf t y }) b
+
+-- an entry found in place in one list of descriptors is the same in another, where what is in place in the one is so in the other
+module _ (ds es : List Descriptor) (d e : Descriptor) (kept : (p : ℕ) → inPlace ds d p ≡ true → inPlace es e p ≡ true) where
+  entry-by : (m p : ℕ) (b : Bool) → inPlace ds d p ≡ b → isMisplaced (pick b (Entry (physical m) (physical p)) (Misplaced (physical m))) ≡ false
+      → pick (inPlace es e p) (Entry (physical m) (physical p)) (Misplaced (physical m)) ≡ pick b (Entry (physical m) (physical p)) (Misplaced (physical m))
+  unfolding isMisplaced
+  entry-by m p true q h = rw (kept p q)
+  entry-by m p false q h = no (sym h)
+
+  entry-kept : (m p : ℕ) → isMisplaced (entryFound ds d m p) ≡ false → entryFound es e m p ≡ entryFound ds d m p
+  unfolding entryFound
+  entry-kept m p h = entry-by m p (inPlace ds d p) refl h
+
+  found-kept : (m p r : ℕ) (o i z : Bool) → inPlace ds d m ≡ i → (o ≡ true → r ≡ p) → (i ≡ true → z ≡ false → r ≡ p)
+      → isMisplaced (pick o (entryFound ds d m p) (pick i (pick z (Entry (physical 0) (physical 0)) (entryFound ds d m p)) (Misplaced (d .alpha)))) ≡ false
+      → pick o (entryFound es e m r) (pick (inPlace es e m) (pick z (Entry (physical 0) (physical 0)) (entryFound es e m r)) (Misplaced (e .alpha)))
+      ≡ pick o (entryFound ds d m p) (pick i (pick z (Entry (physical 0) (physical 0)) (entryFound ds d m p)) (Misplaced (d .alpha)))
+  unfolding isMisplaced
+  found-kept m p r true i z q own by h = rw (own refl) (entry-kept m p h)
+  found-kept m p r false true true q own by h = rw (kept m q)
+  found-kept m p r false true false q own by h = rw (kept m q, by refl refl) (entry-kept m p h)
+  found-kept m p r false false z q own by h = no (sym h)
+
+  found-as : (m n p r : ℕ) (o u i z : Bool) → n ≡ m → u ≡ o → eqb m 0 ≡ z → inPlace ds d m ≡ i → (o ≡ true → r ≡ p) → (i ≡ true → z ≡ false → r ≡ p)
+      → isMisplaced (pick o (entryFound ds d m p) (pick i (pick z (Entry (physical 0) (physical 0)) (entryFound ds d m p)) (Misplaced (d .alpha)))) ≡ false
+      → pick u (entryFound es e n r) (pick (inPlace es e n) (pick (eqb n 0) (Entry (physical 0) (physical 0)) (entryFound es e n r)) (Misplaced (e .alpha)))
+      ≡ pick o (entryFound ds d m p) (pick i (pick z (Entry (physical 0) (physical 0)) (entryFound ds d m p)) (Misplaced (d .alpha)))
+  found-as m n p r o u i z a b g q own by h =
+      ap (λ (x : ℕ). pick u (entryFound es e x r) (pick (inPlace es e x) (pick (eqb x 0) (Entry (physical 0) (physical 0)) (entryFound es e x r)) (Misplaced (e .alpha)))) a
+      ∙ ap (λ (x : Bool). pick x (entryFound es e m r) (pick (inPlace es e m) (pick (eqb m 0) (Entry (physical 0) (physical 0)) (entryFound es e m r)) (Misplaced (e .alpha)))) b
+      ∙ ap (λ (x : Bool). pick o (entryFound es e m r) (pick (inPlace es e m) (pick x (Entry (physical 0) (physical 0)) (entryFound es e m r)) (Misplaced (e .alpha)))) g
+      ∙ found-kept m p r o i z q own by h
+
+  -- two cards of one length on which the blocks that are in place, and the own tables of layout 1, hold the same
+  module _ (s t : List ℕ) (long : length s ≡ length t) (end : 512 * d .beta .0 ≤ length s) (blocks : (p : ℕ) → inPlace ds d p ≡ true → (p ≡ 0 → ⊥) → blockAt t p ≡ blockAt s p) where
+    number-kept : (m j : ℕ) → j < 128 → m < d .beta .0 → blockAt t m ≡ blockAt s m → entryAt t m j ≡ entryAt s m j
+    unfolding entryAt
+    number-kept m j h b q = shared-number t s m (omega arith) (omega arith) q (4 * j) (omega arith)
+
+    block-by : (f : Found) → ((m p : Physical) → f ≡ Entry m p → inPlace ds d (p .0) ≡ true) → blockFound t f ≡ blockFound s f
+    unfolding blockFound
+    block-by (Misplaced h) inside = refl
+    block-by (Entry m p) inside = by (eqb (p .0) 0) refl
+      where
+        by : (z : Bool) → eqb (p .0) 0 ≡ z → pick z zeroBlock (blockAt t (p .0)) ≡ pick z zeroBlock (blockAt s (p .0))
+        by true e = refl
+        by false e = blocks (p .0) (inside m p refl) (eqb-false (p .0) 0 e)
+
+    module _ (l : ℕ) (layout : e .layout ≡ d .layout) (table : tableOf t e (l / 128) ≡ tableOf s d (l / 128))
+        (own : d .layout ≡ 1 → (tableOf s d (l / 128) < d .beta .0) × (blockAt t (tableOf s d (l / 128)) ≡ blockAt s (tableOf s d (l / 128)))) where
+      pub find-kept : isMisplaced (find s ds d l) ≡ false → find t es e l ≡ find s ds d l
+      unfolding find
+      find-kept h =
+          let m = tableOf s d (l / 128) in
+          let at : entryAt t (tableOf t e (l / 128)) (l % 128) ≡ entryAt t m (l % 128) = ap (λ (x : ℕ). entryAt t x (l % 128)) table in
+          found-as m (tableOf t e (l / 128)) (entryAt s m (l % 128)) (entryAt t (tableOf t e (l / 128)) (l % 128)) (eqb (d .layout) 1) (eqb (e .layout) 1) (inPlace ds d m) (eqb m 0) table
+          (ap (λ (x : ℕ). eqb x 1) layout) refl refl
+          (λ q. at ∙ number-kept m (l % 128) (omega arith) (own (eqb-true (d .layout) 1 q) .0) (own (eqb-true (d .layout) 1 q) .1))
+          (λ q z. at ∙ number-kept m (l % 128) (omega arith) (placed-below ds d m q (eqb-false m 0 z)) (blocks m q (eqb-false m 0 z))) h
+
+      pub cell-kept : isMisplaced (find s ds d l) ≡ false → blockFound t (find t es e l) ≡ blockFound s (find s ds d l)
+      cell-kept h = ap (blockFound t) (find-kept h) ∙ block-by (find s ds d l) (λ m p q. find-placed s ds d l m p q)
+
+-- fewer descriptors: what is in place stays in place
+or-both : (a b : Bool) → (a || b) ≡ false → (a ≡ false) × (b ≡ false)
+or-both true b e = no (sym e)
+or-both false b e = (refl, e)
+
+or-none : (a b : Bool) → a ≡ false → b ≡ false → (a || b) ≡ false
+or-none true b e f = e
+or-none false b e f = f
+
+module _ (v w : Descriptor) (ys : List Descriptor) (alpha : w .alpha ≡ v .alpha) (layout : w .layout ≡ v .layout) (volume : w .volume ≡ v .volume) (p : ℕ) where
+  fewer-descriptors : (xs : List Descriptor) → isDescriptor (xs ++ (v ∷ ys)) p ≡ false → isDescriptor (xs ++ (w ∷ [])) p ≡ false
+  unfolding isDescriptor
+  fewer-descriptors [] h = or-none (eqb p (w .alpha .0)) false (ap (λ (x : Physical). eqb p (x .0)) alpha ∙ or-both (eqb p (v .alpha .0)) (isDescriptor ys p) h .0) refl
+  fewer-descriptors (x ∷ xs) h =
+      let r = or-both (eqb p (x .alpha .0)) (isDescriptor (xs ++ (v ∷ ys)) p) h in
+      or-none (eqb p (x .alpha .0)) (isDescriptor (xs ++ (w ∷ [])) p) (r .0) (fewer-descriptors xs (r .1))
+
+  abbrev tables : ℕ → Physical → ℕ → Bool
+  tables k a n = eqb k 1 && ltb (a .0) p && leb p (a .0 + tableCount n)
+
+  fewer-tables : (xs : List Descriptor) → isTable (xs ++ (v ∷ ys)) p ≡ false → isTable (xs ++ (w ∷ [])) p ≡ false
+  unfolding isTable
+  fewer-tables [] h =
+      or-none (tables (w .layout) (w .alpha) (w .volume)) false
+      (ap (λ (k : ℕ). tables k (w .alpha) (w .volume)) layout ∙ ap (λ (a : Physical). tables (v .layout) a (w .volume)) alpha ∙ ap (λ (n : ℕ). tables (v .layout) (v .alpha) n) volume
+      ∙ or-both (tables (v .layout) (v .alpha) (v .volume)) (isTable ys p) h .0) refl
+  fewer-tables (x ∷ xs) h =
+      let r = or-both (tables (x .layout) (x .alpha) (x .volume)) (isTable (xs ++ (v ∷ ys)) p) h in
+      or-none (tables (x .layout) (x .alpha) (x .volume)) (isTable (xs ++ (w ∷ [])) p) (r .0) (fewer-tables xs (r .1))
+
+  place-by : (z b x y : Bool) → (x ≡ false → y ≡ false) → (z || (b && not x)) ≡ true → (z || (b && not y)) ≡ true
+  place-by true b x y f h = refl
+  place-by false true true y f h = no h
+  place-by false true false y f h = rw (f refl)
+  place-by false false x y f h = h
+
+  pub fewer-placed : (xs : List Descriptor) (d e : Descriptor) → e .beta ≡ d .beta → inPlace (xs ++ (v ∷ ys)) d p ≡ true → inPlace (xs ++ (w ∷ [])) e p ≡ true
+  unfolding inPlace
+  fewer-placed xs d e q h =
+      ap (λ (b : Physical). eqb p 0 || (ltb p (b .0) && not (isDescriptor (xs ++ (w ∷ [])) p || isTable (xs ++ (w ∷ [])) p))) q
+      ∙ place-by (eqb p 0) (ltb p (d .beta .0)) (isDescriptor (xs ++ (v ∷ ys)) p || isTable (xs ++ (v ∷ ys)) p) (isDescriptor (xs ++ (w ∷ [])) p || isTable (xs ++ (w ∷ [])) p)
+      (λ k. let r = or-both (isDescriptor (xs ++ (v ∷ ys)) p) (isTable (xs ++ (v ∷ ys)) p) k in or-none (isDescriptor (xs ++ (w ∷ [])) p) (isTable (xs ++ (w ∷ [])) p) (fewer-descriptors xs (r .0)) (fewer-tables xs (r .1))) h
+
+-- what is in place is no descriptor
+is-descriptor : (xs : List Descriptor) (v : Descriptor) (ys : List Descriptor) → isDescriptor (xs ++ (v ∷ ys)) (v .alpha .0) ≡ true
+unfolding isDescriptor
+is-descriptor [] v ys = rw (eq-eqb (v .alpha .0) (v .alpha .0) refl)
+is-descriptor (x ∷ xs) v ys = or-true (eqb (v .alpha .0) (x .alpha .0)) (isDescriptor (xs ++ (v ∷ ys)) (v .alpha .0)) (is-descriptor xs v ys)
+  where
+    or-true : (a b : Bool) → b ≡ true → (a || b) ≡ true
+    or-true true b h = refl
+    or-true false b h = h
+
+no-descriptor-by : (b i t : Bool) → i ≡ true → (b && not (i || t)) ≡ false
+no-descriptor-by true true t e = refl
+no-descriptor-by true false t e = no e
+no-descriptor-by false i t e = refl
+
+pub placed-apart : (xs : List Descriptor) (v : Descriptor) (ys : List Descriptor) (d : Descriptor) (p : ℕ) → inPlace (xs ++ (v ∷ ys)) d p ≡ true → (p ≡ 0 → ⊥) → v .alpha .0 ≡ p → ⊥
+unfolding inPlace
+placed-apart xs v ys d p h n e =
+    let a : isDescriptor (xs ++ (v ∷ ys)) p ≡ true = subst (λ (x : ℕ). isDescriptor (xs ++ (v ∷ ys)) x ≡ true) e (is-descriptor xs v ys) in
+    no (sym (no-descriptor-by (ltb p (d .beta .0)) (isDescriptor (xs ++ (v ∷ ys)) p) (isTable (xs ++ (v ∷ ys)) p) a) ∙ (rw (ne-eqb p 0 n) at h))
+
+pub get-left : (xs ys : List Descriptor) (i : ℕ) → i < length xs → getD (xs ++ ys) i noDescriptor ≡ getD xs i noDescriptor
+get-left [] ys i h = absurd (omega arith)
+get-left (x ∷ xs) ys zero h = refl
+get-left (x ∷ xs) ys (suc i) h = get-left xs ys i (omega arith)
+
+get-mid : (xs : List Descriptor) (v : Descriptor) (ys : List Descriptor) → getD (xs ++ (v ∷ ys)) (length xs) noDescriptor ≡ v
+get-mid [] v ys = refl
+get-mid (x ∷ xs) v ys = get-mid xs v ys
+
+own-is : (c : List ℕ) (d : Descriptor) (i : ℕ) → d .layout ≡ 1 → tableOf c d i ≡ d .alpha .0 + 1 + i
+unfolding tableOf
+own-is c d i q = rw (eq-eqb (d .layout) 1 q)
+
+-- Phi of a descriptor block stored with its own tail
+pub phi-stored : (c t : List ℕ) (w v : Descriptor) → w .alpha ≡ v .alpha → 512 * v .alpha .0 + 512 ≤ length c → length c ≡ length t → blockAt t (v .alpha .0) ≡ descriptorBlock w (tailAt c (v .alpha .0)) → Fits w
+    → (i : ℕ) → i < 112 → phiAt t w i ≡ phiAt c v i
+unfolding phiAt
+phi-stored c t w v q inside long is f i h =
+    let a = v .alpha .0 in
+    let whole = tail-long c a inside in
+    let n : 512 * a + 64 + 4 * i + 0 ≡ 512 * a + 64 + 4 * i = omega arith in
+    let k : 512 * a + (64 + 4 * i) ≡ 512 * a + 64 + 4 * i = omega arith in
+    let m : 512 * a + 40 + (24 + 4 * i) ≡ 512 * a + 64 + 4 * i = omega arith in
+    let j : 40 + (24 + 4 * i) ≡ 64 + 4 * i = omega arith in
+    let bytes : part t (512 * a + 64 + 4 * i) 4 ≡ part c (512 * a + 64 + 4 * i) 4 =
+    ap (λ (x : ℕ). part t x 4) (sym k) ∙ stored-bytes t a (omega arith) w (tailAt c a) is f whole (64 + 4 * i) 4 (omega arith)
+    ∙ ap (λ (x : ℕ). part (descriptorBlock w (tailAt c a)) x 4) (sym j) ∙ block-tail w (tailAt c a) f whole (24 + 4 * i) 4
+    ∙ tail-part c a (24 + 4 * i) 4 inside (omega arith) ∙ ap (λ (x : ℕ). part c x 4) m in
+    ap (λ (x : Physical). u32At t (512 * x .0 + 64 + 4 * i)) q
+    ∙ ap (u32At t) (sym n) ∙ sym (u32-part t (512 * a + 64 + 4 * i) 4 0 (omega arith)) ∙ ap (λ (b : List ℕ). u32At b 0) bytes ∙ u32-part c (512 * a + 64 + 4 * i) 4 0 (omega arith) ∙ ap (u32At c) n
+
+blocks-long : (c : List ℕ) (b : ℕ) → b ≤ blockCount c → 512 * b ≤ length c
+unfolding blockCount
+blocks-long c b h = omega arith
+
+groups-few : (l v : ℕ) → l < v → tableCount v ≤ 112 → l / 128 < 112
+groups-few l v h f = omega (arith, group-below l v h)
+
+table-as : (s t : List ℕ) (d e : Descriptor) (i : ℕ) → e .layout ≡ d .layout → e .alpha ≡ d .alpha → phiAt t e i ≡ phiAt s d i → tableOf t e i ≡ tableOf s d i
+unfolding tableOf
+table-as s t d e i a b h =
+    ap (λ (x : ℕ). pick (eqb x 1) (e .alpha .0 + 1 + i) (phiAt t e i)) a ∙ ap (λ (x : Physical). pick (eqb (d .layout) 1) (x .0 + 1 + i) (phiAt t e i)) b
+    ∙ ap (λ (x : ℕ). pick (eqb (d .layout) 1) (d .alpha .0 + 1 + i) x) h
+
+phi-shared : (c t : List ℕ) (d : Descriptor) (i : ℕ) → 512 * d .alpha .0 + 512 ≤ length c → length c ≡ length t → blockAt t (d .alpha .0) ≡ blockAt c (d .alpha .0) → i < 112 → phiAt t d i ≡ phiAt c d i
+unfolding phiAt
+phi-shared c t d i inside long h l =
+    let e : 512 * d .alpha .0 + 64 + 4 * i ≡ 512 * d .alpha .0 + (64 + 4 * i) = omega arith in
+    rw e (shared-number t c (d .alpha .0) (omega arith) inside h (64 + 4 * i) (omega arith))
+
+module _ (c name : List ℕ) (p : Passes c) (acc : isAccepted (answerOf (Revert name) c) ≡ true) where
+  abbrev ds : List Descriptor
+  ds = descriptorsOf c
+
+  abbrev xs : List Descriptor
+  xs = before (snapshotsOf ds) name
+
+  abbrev v : Descriptor
+  v = withName (snapshotsOf ds) name
+
+  abbrev ys : List Descriptor
+  ys = behind (snapshotsOf ds) name ++ (activeOf ds ∷ [])
+
+  abbrev w : Descriptor
+  w = linkedOf (renamedOf v (activeOf ds .name)) (physical 0)
+
+  abbrev t : List ℕ
+  t = storeAll c (storesOf (Revert name) c)
+
+  split : ds ≡ xs ++ (v ∷ ys)
+  split = revert-split c name acc
+
+  after : descriptorsOf t ≡ xs ++ (w ∷ [])
+  after = descriptors-are t (xs ++ (w ∷ [])) (reverted-chain c name acc)
+
+  long : length c ≡ length t
+  long = same-long c name acc (p .area) (p .sound)
+
+  other : (q : ℕ) → (v .alpha .0 ≡ q → ⊥) → blockAt t q ≡ blockAt c q
+  unfolding storesOf reverting
+  other q n = stored-other (length c) c refl (whole c name acc) q (one-stored (v .alpha .0) _ q n)
+
+  some-before : length xs < length ds
+  some-before = omega (arith, ap length split, length-append xs (v ∷ ys))
+
+  at-v : getD ds (length xs) noDescriptor ≡ v
+  at-v = ap (λ (zs : List Descriptor). getD zs (length xs) noDescriptor) split ∙ get-mid xs v ys
+
+  region : (k : ℕ) → k < length ds → Region (getD ds k noDescriptor) (betaOf c)
+  region k h = agree-region c c (agree-self c (p .sound)) k h
+
+  kept : (d e : Descriptor) → e .beta ≡ d .beta → (q : ℕ) → inPlace ds d q ≡ true → inPlace (descriptorsOf t) e q ≡ true
+  kept d e b q h =
+      subst (λ (zs : List Descriptor). inPlace zs e q ≡ true) (sym after)
+      (fewer-placed v w ys refl refl refl q xs d e b (subst (λ (zs : List Descriptor). inPlace zs d q ≡ true) split h))
+
+  blocks : (d : Descriptor) (q : ℕ) → inPlace ds d q ≡ true → (q ≡ 0 → ⊥) → blockAt t q ≡ blockAt c q
+  blocks d q h n = other q (placed-apart xs v ys d q (subst (λ (zs : List Descriptor). inPlace zs d q ≡ true) split h) n)
+
+  long-at : (k : ℕ) → k < length ds → 512 * getD ds k noDescriptor .beta .0 ≤ length c
+  long-at k h = blocks-long c (getD ds k noDescriptor .beta .0) (omega (arith, region k h .upto, beta-upto c p))
+
+  -- through the descriptor at k, and one with its numbers
+  cell-at : (k : ℕ) → k < length ds → (d e : Descriptor) → getD ds k noDescriptor ≡ d → e .beta ≡ d .beta → e .layout ≡ d .layout → e .alpha ≡ d .alpha → (l : ℕ) → l < d .volume
+      → ((i : ℕ) → i < 112 → phiAt t e i ≡ phiAt c d i) → ((i : ℕ) → d .alpha .0 + 1 + i < d .beta .0 → v .alpha .0 ≡ d .alpha .0 + 1 + i → ⊥)
+      → blockFound t (foundThrough t e l) ≡ blockFound c (foundThrough c d l)
+  cell-at k h d e is b y a l m phi apart =
+      let r = subst (λ (x : Descriptor). Region x (betaOf c)) is (region k h) in
+      cell-kept ds (descriptorsOf t) d e (kept d e b) c t long (subst (λ (x : Descriptor). 512 * x .beta .0 ≤ length c) is (long-at k h)) (blocks d) l y
+      (table-as c t d e (l / 128) y a (phi (l / 128) (groups-few l (d .volume) m (r .few))))
+      (λ q. let o = own-is c d (l / 128) q in let u : d .alpha .0 + 1 + l / 128 < d .beta .0 = omega (arith, r .own q, group-below l (d .volume) m) in
+      (omega arith, other (tableOf c d (l / 128)) (λ z. apart (l / 128) u (z ∙ o))))
+      (subst (λ (x : Descriptor). isMisplaced (foundThrough c x l) ≡ false) is (passing-found c p k h l (subst (λ (x : Descriptor). l < x .volume) (sym is) m)))
+
+  cell-v : (l : ℕ) → l < v .volume → blockFound t (foundThrough t w l) ≡ blockFound c (foundThrough c v l)
+  cell-v l m =
+      cell-at (length xs) some-before v w at-v refl refl refl l m
+      (phi-stored c t w v refl (link-inside c (p .area) (p .sound) xs v ys split) long (block c name acc (p .area) (p .sound)) (fits c name acc (p .area) (p .sound))) (λ i h q. omega arith)
+
+  get-is : (k : ℕ) → k < length xs → getD ds k noDescriptor ≡ getD xs k noDescriptor
+  get-is k h = ap (λ (zs : List Descriptor). getD zs k noDescriptor) split ∙ get-left xs (v ∷ ys) k h
+
+  under : (k : ℕ) → k < length xs → getD ds k noDescriptor .beta .0 ≤ v .alpha .0
+  under k h =
+      let r = linked-at (linked-of c p) k (omega (arith, some-before)) in
+      let s = linked-at (linked-of c p) (length xs) some-before in
+      omega (arith, r .beta, at-alpha c _ _ _ s, ap (λ (x : Descriptor). x .alpha .0) at-v, linked-rise (linked-of c p) (suc k) (length xs) (omega arith) (omega (arith, some-before)))
+
+  cell-x : (k : ℕ) → k < length xs → (l : ℕ) → l < getD xs k noDescriptor .volume → blockFound t (foundThrough t (getD xs k noDescriptor) l) ≡ blockFound c (foundThrough c (getD xs k noDescriptor) l)
+  cell-x k h l m =
+      let d = getD xs k noDescriptor in
+      let is = get-is k h in
+      let kk : k < length ds = omega (arith, some-before) in
+      let u = subst (λ (x : Descriptor). x .beta .0 ≤ v .alpha .0) is (under k h) in
+      let r = subst (λ (x : Descriptor). Region x (betaOf c)) is (region k kk) in
+      let n = subst (λ (x : Descriptor). 512 * x .beta .0 ≤ length c) is (long-at k kk) in
+      cell-at k kk d d is refl refl refl l m
+      (λ i b. phi-shared c t d i (omega (arith, r .some)) long (other (d .alpha .0) (λ q. omega (arith, r .some))) b) (λ i b q. omega arith)
+
+  snapshots-after : volumesOf t xs ≡ volumesBefore (volumesOf c (snapshotsOf ds)) name
+  snapshots-after = volumes-same c t xs cell-x ∙ sym (volumes-before c (snapshotsOf ds) name)
+
+  cells-after : cellsFrom t w (w .volume) 0 ≡ volumeNamed (volumesOf c (snapshotsOf ds)) name .cells
+  unfolding volumeOf
+  cells-after = cells-same c t v w (v .volume) 0 (λ j a b. cell-v j (omega arith)) ∙ sym (ap (λ (x : Volume). x .cells) (volume-named c (snapshotsOf ds) name (revert-rows c name acc .2)))
+
+  reverted-ledger : ledgerOf t ≡ ledgerStep (Revert name) (ledgerOf c)
+  unfolding ledgerStep ledgerOf volumeOf
+  reverted-ledger =
+      ledger-parts t xs w (ap snapshotsOf after ∙ snapshots-snoc xs w) (ap activeOf after ∙ active-snoc xs w)
+      ∙ ap (λ (x : List Volume). record { snapshots = x; active = record { name = activeOf ds .name; cells = cellsFrom t w (w .volume) 0 } }) snapshots-after
+      ∙ ap (λ (x : List (List ℕ)). record { snapshots = volumesBefore (volumesOf c (snapshotsOf ds)) name; active = record { name = activeOf ds .name; cells = x } }) cells-after
+
+pub ledger-revert : (c name : List ℕ) → Passes c → isAccepted (answerOf (Revert name) c) ≡ true → ledgerOf (step (Revert name) c .card) ≡ ledgerStep (Revert name) (ledgerOf c)
+ledger-revert c name p e = ap ledgerOf (accepted-card (Revert name) c e) ∙ reverted-ledger c name p e

@@ -1,0 +1,108 @@
+-- The ledger over whole lists of calls.
+use mathlib.Core.Path.{_≡_, refl, sym, ap, _∙_, subst}
+use mathlib.Core.Bool.{Bool, true, false}
+use mathlib.Core.List.{List, [], _∷_}
+use Prim.Native.Nat.{ℕ, zero, suc, _<_}
+use native.Mathlib.Omega.{arith}
+use lib.ListN.{length, take, drop, getD}
+use Rattle.blocks.specs.Pick.{pick}
+use Rattle.blocks.specs.Bytes.{storeAll}
+use Rattle.calls.specs.declared.answer.Target.{Target}
+use Rattle.calls.specs.declared.answer.Record.{Record}
+use Rattle.calls.specs.Call.{Call, Ream, Read, Write, Snap, Revert, Listing, Check, Block, Records}
+use Rattle.calls.specs.Check.{Passes}
+use Rattle.calls.specs.Ladder.{answerOf}
+use Rattle.calls.specs.Effect.{storesOf}
+use Rattle.calls.specs.Step.{step, after, isAccepted}
+use Rattle.claims.specs.History.{Standing, more, isFormat}
+use Rattle.claims.specs.Ledger.{Ledger, ledgerStep, ledgerOf, ledgerNames, cellRead}
+use Rattle.claims.specs.Claims.{ledgerAfter, recordNames, LedgerStep, LedgerClaim}
+use Rattle.claims.proofs.Rows.{no}
+use Rattle.claims.proofs.Runs.{standing-length, step-length}
+use Rattle.claims.proofs.LedgerAnswers.{ledger-reads, ledger-lists, ledger-number, ledger-place, ledger-no-room}
+use Rattle.claims.proofs.PassesAfter.{passes-revert}
+use Rattle.claims.proofs.PassesSnapped.{passes-snap}
+use Rattle.claims.proofs.LedgerNext.{ledger-revert}
+use Rattle.claims.proofs.LedgerSnap.{ledger-snap}
+use Rattle.claims.proofs.LedgerWrite.{passes-write, ledger-write}
+
+-- one call on a card that passes
+module _ (c : List ℕ) (passing : Passes c) where
+  same-by : (k : Call) → storesOf k c ≡ [] → isAccepted (answerOf k c) ≡ true → step k c .card ≡ c
+  unfolding step storeAll
+  same-by k q e = rw (e, q)
+
+  passes-accepted : (k : Call) → isFormat k c ≡ false → isAccepted (answerOf k c) ≡ true → Passes (step k c .card)
+  unfolding isFormat storesOf
+  passes-accepted (Ream layout volume name) f e = no (sym f ∙ e)
+  passes-accepted (Read target name l block) f e = subst Passes (sym (same-by (Read target name l block) refl e)) passing
+  passes-accepted (Write l block) f e = passes-write c l block passing e
+  passes-accepted (Snap name) f e = passes-snap c name passing e
+  passes-accepted (Revert name) f e = passes-revert c name passing e
+  passes-accepted (Listing records) f e = subst Passes (sym (same-by (Listing records) refl e)) passing
+  passes-accepted Check f e = subst Passes (sym (same-by Check refl e)) passing
+
+  next-accepted : (k : Call) → isFormat k c ≡ false → isAccepted (answerOf k c) ≡ true → ledgerOf (step k c .card) ≡ ledgerStep k (ledgerOf c)
+  unfolding isFormat storesOf ledgerStep
+  next-accepted (Ream layout volume name) f e = no (sym f ∙ e)
+  next-accepted (Read target name l block) f e = ap ledgerOf (same-by (Read target name l block) refl e)
+  next-accepted (Write l block) f e = ledger-write c l block passing e
+  next-accepted (Snap name) f e = ledger-snap c name passing e
+  next-accepted (Revert name) f e = ledger-revert c name passing e
+  next-accepted (Listing records) f e = ap ledgerOf (same-by (Listing records) refl e)
+  next-accepted Check f e = ap ledgerOf (same-by Check refl e)
+
+  refused-card : (k : Call) → isAccepted (answerOf k c) ≡ false → step k c .card ≡ c
+  unfolding step
+  refused-card k e = rw e
+
+  passes-by : (k : Call) (b : Bool) → isAccepted (answerOf k c) ≡ b → isFormat k c ≡ false → Passes (step k c .card)
+  passes-by k true e f = passes-accepted k f e
+  passes-by k false e f = subst Passes (sym (refused-card k e)) passing
+
+  next-by : (k : Call) (b : Bool) → isAccepted (answerOf k c) ≡ b → isFormat k c ≡ false → ledgerOf (step k c .card) ≡ pick b (ledgerStep k (ledgerOf c)) (ledgerOf c)
+  next-by k true e f = next-accepted k f e
+  next-by k false e f = ap ledgerOf (refused-card k e)
+
+  one-step : (k : Call) → isFormat k c ≡ false → LedgerStep k c (ledgerOf c)
+  one-step k f =
+      record {
+        matches = refl;
+        number = λ r. ledger-number k c passing r;
+        place = ledger-place k c passing;
+        no-room = λ r. ledger-no-room k c passing r;
+        reads = λ target name l block q e. reads-by k target name l block q e;
+        lists = λ records q e. lists-by k records q e;
+        passes = passes-by k (isAccepted (answerOf k c)) refl f;
+        next = next-by k (isAccepted (answerOf k c)) refl f;
+      }
+    where
+      reads-by : (k : Call) (target : Target) (name : List ℕ) (l : ℕ) (block : List ℕ) → k ≡ Read target name l block → isAccepted (answerOf k c) ≡ true → step k c .outcome .lent ≡ Block (cellRead (ledgerOf c) target name l)
+      reads-by k target name l block q e = rw q (ledger-reads c passing target name l block (rw q at e))
+
+      lists-by : (k : Call) (records : List Record) → k ≡ Listing records → isAccepted (answerOf k c) ≡ true
+          → (filled : List Record) × (step k c .outcome .lent ≡ Records filled) × (recordNames (length (ledgerNames (ledgerOf c))) filled ≡ ledgerNames (ledgerOf c)) × (drop (length (ledgerNames (ledgerOf c))) filled ≡ drop (length (ledgerNames (ledgerOf c))) records)
+      lists-by k records q e = rw q (ledger-lists c passing records (rw q at e))
+
+abbrev Whole : List ℕ → List Call → Ledger → Type 0
+Whole c ks g =
+    ((i : ℕ) → i < length ks → LedgerStep (getD ks i Check) (after (take i ks) c) (ledgerAfter (take i ks) c g))
+    × Passes (after ks c)
+    × (ledgerOf (after ks c) ≡ ledgerAfter ks c g)
+
+whole-run : (ks : List Call) (c : List ℕ) (g : Ledger) → ledgerOf c ≡ g → Passes c → Standing c ks → Whole c ks g
+unfolding after ledgerAfter
+whole-run [] c g q p s = (λ i l. absurd (omega arith), p, q)
+whole-run (k ∷ ks) c g q p (more f b rest) =
+    let one = one-step c p k f in
+    let r = whole-run ks (step k c .card) (pick (isAccepted (answerOf k c)) (ledgerStep k g) g) (rw (← q) (one .next)) (one .passes) (standing-length c (step k c .card) (sym (step-length k c)) ks rest) in
+    (steps one (r .0), r .1, r .2)
+  where
+    steps : LedgerStep k c (ledgerOf c) → ((i : ℕ) → i < length ks → LedgerStep (getD ks i Check) (after (take i ks) (step k c .card)) (ledgerAfter (take i ks) (step k c .card) (pick (isAccepted (answerOf k c)) (ledgerStep k g) g)))
+        → (i : ℕ) → i < length (k ∷ ks) → LedgerStep (getD (k ∷ ks) i Check) (after (take i (k ∷ ks)) c) (ledgerAfter (take i (k ∷ ks)) c g)
+    steps one later zero l = subst (λ (x : Ledger). LedgerStep k c x) q one
+    steps one later (suc i) l = later i (omega arith)
+
+pub ledger-claim : LedgerClaim
+unfolding LedgerClaim
+ledger-claim c ks bytes p s = whole-run ks c (ledgerOf c) refl p s

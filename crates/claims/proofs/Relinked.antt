@@ -1,0 +1,77 @@
+-- Chains after stores: descriptors before the one that changes stay linked, and a descriptor that was stored is sound.
+use mathlib.Core.Path.{_≡_, refl, sym, ap, _∙_, subst}
+use mathlib.Core.Bool.{Bool, true, false, not, _&&_, _||_}
+use mathlib.Core.List.{List, [], _∷_, _++_, append-nil, append-assoc}
+use Prim.Native.Nat.{ℕ, zero, suc, _+_, _*_, _-_, _^_, _≤_, _<_}
+use native.Mathlib.Omega.{arith}
+use lib.ListN.{length, take, drop, getD, length-append, length-take, length-drop}
+use lib.Seq.{append-snoc, take-all, drop-append-le, take-append-le, drop-append-add, drop-at, take-at}
+use lib.Dec.{eqb, ltb, leb}
+use borrow.Author.Tests.{eq-eqb, ne-eqb, le-leb, lt-ltb, eqb-true}
+use Rattle.blocks.specs.Pick.{pick, same}
+use Rattle.blocks.specs.Bytes.{u32At, le32, splice, part, blockCount, blockAt}
+use Rattle.blocks.specs.Name.{isName}
+use Rattle.blocks.specs.Descriptor.{physical, cost, costOf, mark, descriptorAt, headBytes, tailAt, descriptorBlock, reservedOk, phiOk}
+use Rattle.blocks.specs.Chain.{formOk, regionOk, named, sound}
+use Rattle.blocks.specs.declared.descriptor.Descriptor.{Descriptor}
+use Rattle.blocks.proofs.Tests.{and-left, and-right}
+use Rattle.blocks.proofs.ByteLaws.{u32-part, part-part, digits, length-part, splice-whole, splice-start}
+use Rattle.blocks.proofs.ChainLaws.{cost-least}
+use Rattle.blocks.proofs.ListLaws.{same-self}
+use Rattle.blocks.proofs.DescriptorLaws.{Fits, head-length, read-back}
+use Rattle.blocks.proofs.LinkedLaws.{Linked, last, more, sound-region, sound-form, sound-alpha, sound-long, sound-next, linked-some, linked-low, regionStart, region-start-zero, region-start-suc}
+use Rattle.claims.proofs.Local.{shared-descriptor, shared-sound}
+
+-- where the descriptors of a chain stand
+module _ (s : List ℕ) where
+  pub first-alpha : {es : List Descriptor} {p : ℕ} {ds : List Descriptor} → Linked s es p ds → (d : Descriptor) (ys : List Descriptor) → ds ≡ d ∷ ys → d .alpha .0 ≡ p
+  first-alpha (last {es = es} {p = p} {d = e} is ok z) d ys q = let k : e ≡ d = cc in rw (← k) (sound-alpha s es p e is ok)
+  first-alpha (more {es = es} {p = p} {d = e} is ok z rest) d ys q = let k : e ≡ d = cc in rw (← k) (sound-alpha s es p e is ok)
+
+  pub later-alpha : {es : List Descriptor} {p : ℕ} {ds : List Descriptor} → Linked s es p ds → (xs : List Descriptor) (d : Descriptor) (ys : List Descriptor) → ds ≡ xs ++ (d ∷ ys) → p ≤ d .alpha .0
+  later-alpha h [] d ys q = omega (arith, first-alpha h d ys q)
+  later-alpha (last is ok z) (x ∷ xs) d ys q = omega (arith, ap length q, length-append xs (d ∷ ys))
+  later-alpha (more {es = es} {p = p} {d = e} {ds = ds} is ok z rest) (x ∷ xs) d ys q =
+      let k : ds ≡ xs ++ (d ∷ ys) = cc in
+      omega (arith, later-alpha rest xs d ys k, sound-long s es p e is ok, sound-next s es p e is ok z)
+
+  -- the chain from one of its descriptors on
+  pub linked-from : {es : List Descriptor} {p : ℕ} {ds : List Descriptor} → Linked s es p ds → (xs : List Descriptor) (d : Descriptor) (ys : List Descriptor) → ds ≡ xs ++ (d ∷ ys)
+      → Linked s (es ++ xs) (d .alpha .0) (d ∷ ys)
+  linked-from {es = es} {p = p} h [] d ys q =
+      rw (append-nil es) (subst (λ (n : ℕ). Linked s es n (d ∷ ys)) (sym (first-alpha h d ys q)) (subst (λ (x : List Descriptor). Linked s es p x) q h))
+  linked-from (last is ok z) (x ∷ xs) d ys q = absurd (omega (arith, ap length q, length-append xs (d ∷ ys)))
+  linked-from (more {es = es} {p = p} {d = e} {ds = ds} is ok z rest) (x ∷ xs) d ys q =
+      let k : ds ≡ xs ++ (d ∷ ys) = cc in
+      let x-is : e ≡ x = cc in
+      rw (← x-is, ← (append-snoc es e xs)) (linked-from rest xs d ys k)
+
+  pub linked-head : {es : List Descriptor} {p : ℕ} {ds : List Descriptor} → Linked s es p ds → (d : Descriptor) (ys : List Descriptor) → ds ≡ d ∷ ys → (d ≡ descriptorAt s p) × (sound s es p ≡ true)
+  linked-head (last {d = e} is ok z) d ys q = let k : e ≡ d = cc in (sym k ∙ is, ok)
+  linked-head (more {d = e} is ok z rest) d ys q = let k : e ≡ d = cc in (sym k ∙ is, ok)
+
+  pub linked-next : {es : List Descriptor} {p : ℕ} {ds : List Descriptor} → Linked s es p ds → (d : Descriptor) → ds ≡ d ∷ [] → d .next .0 ≡ 0
+  linked-next (last {d = e} is ok z) d q = let k : e ≡ d = cc in rw (← k) z
+  linked-next (more {d = e} {ds = ds} is ok z rest) d q = let k : ds ≡ [] = cc in absurd (omega (arith, linked-some rest, ap length k))
+
+-- the descriptors before the one at d stay, where the blocks before it do
+module _ (s t : List ℕ) (long : length s ≡ length t) where
+  module _ (d : Descriptor) (ys zs : List Descriptor) (inside : 512 * d .alpha .0 ≤ length s) (kept : (q : ℕ) → q < d .alpha .0 → blockAt s q ≡ blockAt t q) where
+    kept-descriptor : (q : ℕ) → q < d .alpha .0 → descriptorAt s q ≡ descriptorAt t q
+    kept-descriptor q h = shared-descriptor s t q (omega arith) (omega arith) (kept q h)
+
+    kept-sound : (es : List Descriptor) (q : ℕ) → q < d .alpha .0 → sound s es q ≡ sound t es q
+    kept-sound es q h =
+        let first = kept-descriptor 0 (omega arith) in
+        shared-sound s t q (omega arith) (omega arith) (kept q h) long (ap (λ (x : Descriptor). x .layout) first) (ap (λ (x : Descriptor). x .volume) first) es
+
+    pub relinked : {es : List Descriptor} {p : ℕ} {ds : List Descriptor} → Linked s es p ds → (xs : List Descriptor) → ds ≡ xs ++ (d ∷ ys) → Linked t (es ++ xs) (d .alpha .0) zs → Linked t es p (xs ++ zs)
+    relinked {es = es} h [] q new = rw (← (append-nil es), ← (first-alpha s h d ys q)) new
+    relinked (last is ok z) (x ∷ xs) q new = absurd (omega (arith, ap length q, length-append xs (d ∷ ys)))
+    relinked (more {es = es} {p = p} {d = e} {ds = ds} is ok z rest) (x ∷ xs) q new =
+        let k : ds ≡ xs ++ (d ∷ ys) = cc in
+        let x-is : e ≡ x = cc in
+        let l : p < d .alpha .0 = omega (arith, later-alpha s rest xs d ys k, sound-long s es p e is ok, sound-next s es p e is ok z, cost-least (descriptorAt s 0 .layout) (descriptorAt s 0 .volume)) in
+        rw (← x-is)
+        (more (is ∙ kept-descriptor p l) (sym (kept-sound es p l) ∙ ok) z
+        (relinked rest xs k (rw (append-snoc es e xs) (rw x-is new))))

@@ -1,0 +1,334 @@
+-- The rollback claim.
+use mathlib.Core.Path.{_≡_, refl, sym, ap, _∙_, subst}
+use mathlib.Core.Logic.{_⊎_, inl, inr}
+use mathlib.Core.Bool.{Bool, true, false, not, _&&_, _||_}
+use mathlib.Core.List.{List, [], _∷_, _++_}
+use Prim.Native.Nat.{ℕ, zero, suc, _+_, _*_, _-_, _≤_, _<_}
+use native.Mathlib.Omega.{arith}
+use lib.ListN.{length, take, drop, getD, take-append-drop, length-append, length-drop}
+use lib.Seq.{take-append-seam, getD-append-seam, take-take, take-suc, drop-cons, length-take-le}
+use borrow.Author.Tests.{not-false}
+use Rattle.blocks.specs.Pick.{pick, same}
+use Rattle.blocks.specs.Bytes.{part, blockAt, Store, store, storeAll}
+use Rattle.blocks.specs.Name.{isName}
+use Rattle.blocks.specs.Descriptor.{physical, costOf, noDescriptor, tailAt, descriptorBlock, renamedOf, linkedOf, reopenedOf}
+use Rattle.blocks.specs.Chain.{Chain, Sound, chain, chainSound, descriptors, named}
+use Rattle.blocks.specs.declared.descriptor.Descriptor.{Descriptor}
+use Rattle.blocks.proofs.ListLaws.{same-equal, same-self}
+use Rattle.calls.specs.Call.{Call, Snap, Revert, Check}
+use Rattle.calls.specs.Parts.{areaBad, descriptorsOf, activeOf, snapshotsOf, withName, indexOf}
+use Rattle.calls.specs.Ladder.{rowsOf, revertRows, answerOf}
+use Rattle.calls.specs.Effect.{storesOf, reverting}
+use Rattle.calls.specs.Step.{step, after, isAccepted}
+use Rattle.claims.specs.History.{betaOf, Agree, AreBytes, Standing, Position, Nowhere, At, latestSnap, without}
+use Rattle.claims.specs.Claims.{Matched, Forgets, RevertedAt, RollbackClaim}
+use Rattle.calls.proofs.NamedLaws.{with-name-index}
+use Rattle.claims.proofs.Rows.{no, rows-passed}
+use Rattle.claims.proofs.Local.{shared-bytes}
+use Rattle.claims.proofs.Agreement.{chain-is}
+use Rattle.claims.proofs.Changed.{member-fresh, member-inside}
+use Rattle.claims.proofs.StoreLists.{Whole, stored-length, stored-both, blocks-taken}
+use Rattle.claims.proofs.Frame.{stores-inside}
+use Rattle.claims.proofs.ChainAfter.{before, behind, active-snoc, link-low, revert-rows, revert-split, reverted-chain}
+use Rattle.claims.proofs.SnappedChain.{snapped-chain}
+use Rattle.claims.proofs.Kept.{Stands, descriptors-are, stands-snapshots, stands-active}
+use Rattle.claims.proofs.Room.{accepted-card}
+use Rattle.claims.proofs.AgreeStep.{agree-step}
+use Rattle.claims.proofs.Latest.{Unsnapped, gone-run, stands-run, LastSnap, latest-nowhere, latest-at, snap-of}
+use Rattle.claims.proofs.Runs.{standing-length, standing-take, standing-drop, after-append, after-length, after-split, matched-from, without-drop, without-take}
+use Rattle.claims.proofs.Undone.{revert-passes, area-kept, undone, undone-accepted}
+
+-- the first of a name stands after those that have another
+or-parts : (a b : Bool) → (a || b) ≡ false → (a ≡ false) × (b ≡ false)
+or-parts true b e = no (sym e)
+or-parts false b e = (refl, e)
+
+index-at : (xs : List Descriptor) (v : Descriptor) (zs : List Descriptor) → named xs (v .name) ≡ false → indexOf (xs ++ (v ∷ zs)) (v .name) ≡ length xs
+unfolding indexOf named
+index-at [] v zs h = rw (same-self (v .name))
+index-at (x ∷ xs) v zs h = let r = or-parts (same (x .name) (v .name)) (named xs (v .name)) h in rw (r .0, index-at xs v zs (r .1))
+
+-- v stands on t: a revert to it leaves the descriptors before it, then v with the active name and a nil next
+module _ (s : List ℕ) (xs : List Descriptor) (v : Descriptor) (n t : List ℕ) (h : Stands s xs v n t) (e : isAccepted (answerOf (Revert (v .name)) t) ≡ true) where
+  abbrev w : Descriptor
+  w = linkedOf (renamedOf v n) (physical 0)
+
+  fresh : named xs (v .name) ≡ false
+  fresh = member-fresh t (xs ++ (v ∷ h .rest)) xs v (h .rest) (h .is) refl
+
+  index-is : indexOf (snapshotsOf (descriptorsOf t)) (v .name) ≡ length xs
+  index-is = ap (λ (ss : List Descriptor). indexOf ss (v .name)) (stands-snapshots s xs v n t h) ∙ index-at xs v (snapshotsOf (h .rest)) fresh
+
+  before-is : before (snapshotsOf (descriptorsOf t)) (v .name) ≡ xs
+  before-is =
+      ap (λ (j : ℕ). take j (snapshotsOf (descriptorsOf t))) index-is
+      ∙ ap (λ (ss : List Descriptor). take (length xs) ss) (stands-snapshots s xs v n t h)
+      ∙ take-append-seam xs (v ∷ snapshotsOf (h .rest))
+
+  with-is : withName (snapshotsOf (descriptorsOf t)) (v .name) ≡ v
+  with-is =
+      with-name-index (snapshotsOf (descriptorsOf t)) (v .name)
+      ∙ ap (λ (j : ℕ). getD (snapshotsOf (descriptorsOf t)) j noDescriptor) index-is
+      ∙ ap (λ (ss : List Descriptor). getD ss (length xs) noDescriptor) (stands-snapshots s xs v n t h)
+      ∙ getD-append-seam xs v (snapshotsOf (h .rest)) noDescriptor
+
+  name-is : activeOf (descriptorsOf t) .name ≡ n
+  name-is = ap (λ (d : Descriptor). d .name) (stands-active s xs v n t h) ∙ h .active
+
+  made-is : linkedOf (renamedOf (withName (snapshotsOf (descriptorsOf t)) (v .name)) (activeOf (descriptorsOf t) .name)) (physical 0) ≡ w
+  made-is = ap (λ (m : List ℕ). linkedOf (renamedOf (withName (snapshotsOf (descriptorsOf t)) (v .name)) m) (physical 0)) name-is ∙ ap (λ (d : Descriptor). linkedOf (renamedOf d n) (physical 0)) with-is
+
+  pub back-chain : chain (storeAll t (storesOf (Revert (v .name)) t)) ≡ Sound (xs ++ (w ∷ []))
+  back-chain =
+      reverted-chain t (v .name) e
+      ∙ ap (λ (ys : List Descriptor). Sound (ys ++ (linkedOf (renamedOf (withName (snapshotsOf (descriptorsOf t)) (v .name)) (activeOf (descriptorsOf t) .name)) (physical 0) ∷ []))) before-is
+      ∙ ap (λ (d : Descriptor). Sound (xs ++ (d ∷ []))) made-is
+
+  pub back-stores : storesOf (Revert (v .name)) t ≡ store (v .alpha .0) (descriptorBlock w (tailAt t (v .alpha .0))) ∷ []
+  unfolding storesOf reverting
+  back-stores =
+      ap (λ (d : Descriptor). store (d .alpha .0) (descriptorBlock (linkedOf (renamedOf d (activeOf (descriptorsOf t) .name)) (physical 0)) (tailAt t (d .alpha .0))) ∷ []) with-is
+      ∙ ap (λ (m : List ℕ). store (v .alpha .0) (descriptorBlock (linkedOf (renamedOf v m) (physical 0)) (tailAt t (v .alpha .0))) ∷ []) name-is
+
+  pub back-inside : 512 * v .alpha .0 + 512 ≤ length t
+  back-inside = member-inside t (xs ++ (v ∷ h .rest)) xs v (h .rest) (h .is) refl
+
+  pub back-low : v .alpha .0 < v .beta .0
+  back-low =
+      let r = revert-rows t (v .name) e in
+      link-low t (r .0) (r .1) xs v (h .rest) (descriptors-are t (xs ++ (v ∷ h .rest)) (h .is))
+
+-- two cards on which v stands agree after a revert to it
+beta-of : (c : List ℕ) (ds : List Descriptor) → chain c ≡ Sound ds → betaOf c ≡ activeOf ds .beta .0
+unfolding betaOf
+beta-of c ds e = ap (λ (xs : List Descriptor). activeOf xs .beta .0) (descriptors-are c ds e)
+
+sound-of : (c : List ℕ) (ds : List Descriptor) → chain c ≡ Sound ds → chainSound (chain c) ≡ true
+unfolding chainSound
+sound-of c ds e = ap chainSound e
+
+module _ (s : List ℕ) (xs : List Descriptor) (v : Descriptor) (n t : List ℕ) (at-s : Stands s xs v n s) (at-t : Stands s xs v n t)
+    (in-s : isAccepted (answerOf (Revert (v .name)) s) ≡ true) (in-t : isAccepted (answerOf (Revert (v .name)) t) ≡ true) where
+  abbrev made : Descriptor
+  made = linkedOf (renamedOf v n) (physical 0)
+
+  same-tail : tailAt s (v .alpha .0) ≡ tailAt t (v .alpha .0)
+  same-tail = shared-bytes s t (v .alpha .0) (back-inside s xs v n s at-s in-s) (back-inside s xs v n t at-t in-t) (at-t .blocks (v .alpha .0) (back-low s xs v n t at-t in-t)) 40 472 (omega arith)
+
+  same-stores : storesOf (Revert (v .name)) t ≡ storesOf (Revert (v .name)) s
+  same-stores =
+      back-stores s xs v n t at-t in-t
+      ∙ ap (λ (tail : List ℕ). store (v .alpha .0) (descriptorBlock made tail) ∷ []) (sym same-tail)
+      ∙ sym (back-stores s xs v n s at-s in-s)
+
+  abbrev after-t : List ℕ
+  after-t = storeAll t (storesOf (Revert (v .name)) t)
+
+  abbrev after-s : List ℕ
+  after-s = storeAll s (storesOf (Revert (v .name)) s)
+
+  whole-t : Whole (length t) (storesOf (Revert (v .name)) t)
+  whole-t = stores-inside (Revert (v .name)) t in-t
+
+  beta-is : (c : List ℕ) → chain c ≡ Sound (xs ++ (made ∷ [])) → betaOf c ≡ v .beta .0
+  beta-is c q = beta-of c (xs ++ (made ∷ [])) q ∙ ap (λ (d : Descriptor). d .beta .0) (active-snoc xs made)
+
+  same-block : (p : ℕ) → p < v .beta .0 → blockAt after-t p ≡ blockAt after-s p
+  same-block p l = rw (← same-stores) (stored-both (length t) p t s refl (at-t .long) whole-t (sym (at-t .blocks p l)))
+
+  pub back-agree : Agree (storeAll t (storesOf (Revert (v .name)) t)) (storeAll s (storesOf (Revert (v .name)) s))
+  back-agree =
+      let ct = back-chain s xs v n t at-t in-t in
+      let cs = back-chain s xs v n s at-s in-s in
+      record {
+        long = stored-length (length t) t refl whole-t ∙ sym (at-t .long) ∙ sym (stored-length (length s) s refl (stores-inside (Revert (v .name)) s in-s));
+        sound = sound-of after-t (xs ++ (made ∷ [])) ct;
+        sound′ = sound-of after-s (xs ++ (made ∷ [])) cs;
+        beta = beta-is after-t ct ∙ sym (beta-is after-s cs);
+        below = rw (beta-is after-t ct) (blocks-taken after-t after-s (v .beta .0) same-block);
+      }
+
+pub agree-trans : (a b c : List ℕ) → Agree a b → Agree b c → Agree a c
+agree-trans a b c x y =
+    record {
+      long = x .long ∙ y .long;
+      sound = x .sound;
+      sound′ = y .sound′;
+      beta = x .beta ∙ y .beta;
+      below = x .below ∙ subst (λ (m : ℕ). take (512 * m) b ≡ take (512 * m) c) (sym (x .beta)) (y .below);
+    }
+
+-- a snapshot of a name stands on its own card
+with-name-is : (ss : List Descriptor) (n : List ℕ) → named ss n ≡ true → withName ss n .name ≡ n
+unfolding named withName
+with-name-is [] n h = no h
+with-name-is (d ∷ ss) n h = name-by d ss n (same (d .name) n) refl h (with-name-is ss n)
+  where
+    name-by : (d : Descriptor) (ss : List Descriptor) (n : List ℕ) (z : Bool) → same (d .name) n ≡ z → (z || named ss n) ≡ true → (named ss n ≡ true → withName ss n .name ≡ n) → pick z d (withName ss n) .name ≡ n
+    name-by d ss n true e h f = same-equal (d .name) n e
+    name-by d ss n false e h f = f h
+
+-- what an accepted revert tells of its card
+revert-called : (t name : List ℕ) → isAccepted (answerOf (Revert name) t) ≡ true → isName name ≡ true
+unfolding rowsOf revertRows
+revert-called t name e = not-false (isName name) (rows-passed (Revert name) t e 1 (omega arith))
+
+-- the card at the end of a list with a revert that is accepted there
+after-one : (ks : List Call) (k : ℕ) (x : Call) (c : List ℕ) → k < length ks → getD ks k Check ≡ x → after (take (suc k) ks) c ≡ step x (after (take k ks) c) .card
+unfolding after
+after-one ks k x c l q = ap (λ (js : List Call). after js c) (take-suc ks k Check l) ∙ after-append (take k ks) (getD ks k Check ∷ []) c ∙ ap (λ (y : Call). step y (after (take k ks) c) .card) q
+
+-- the visit stands on the starting card
+module _ (s : List ℕ) (ks : List Call) (sound-s : chainSound (chain s) ≡ true) (standing : Standing s ks) (k : ℕ) (v : List ℕ) (reverted : RevertedAt s ks k v) where
+  abbrev t : List ℕ
+  t = after (take k ks) s
+
+  there : isAccepted (answerOf (Revert v) t) ≡ true
+  there = reverted .accepted-there
+
+  t-long : length t ≡ length s
+  t-long = after-length (take k ks) s
+
+  t-named : named (snapshotsOf (descriptorsOf t)) v ≡ true
+  t-named = revert-rows t v there .2
+
+  t-after : after (take (suc k) ks) s ≡ storeAll t (storesOf (Revert v) t)
+  t-after = after-one ks k (Revert v) s (reverted .inside) (reverted .is) ∙ accepted-card (Revert v) t there
+
+  not-gone : {A : Type 0} → named (snapshotsOf (descriptorsOf t)) v ≡ false → A
+  not-gone g = no (sym g ∙ t-named)
+
+  module _ (unsnapped : Unsnapped v s (take k ks)) where
+    named-by : (z : Bool) → named (snapshotsOf (descriptorsOf s)) v ≡ z → z ≡ true
+    named-by true q = refl
+    named-by false q = not-gone (gone-run v (take k ks) s q (standing-take s ks k standing) unsnapped)
+
+    pub s-named : named (snapshotsOf (descriptorsOf s)) v ≡ true
+    s-named = let z = named (snapshotsOf (descriptorsOf s)) v in named-by z refl
+
+    pub s-accepted : isAccepted (answerOf (Revert v) s) ≡ true
+    s-accepted = revert-passes s v (area-kept s t (sym t-long) ∙ revert-rows t v there .0) (revert-called t v there) sound-s s-named
+
+    abbrev ss : List Descriptor
+    ss = snapshotsOf (descriptorsOf s)
+
+    abbrev d : Descriptor
+    d = withName ss v
+
+    d-name : d .name ≡ v
+    d-name = with-name-is ss v s-named
+
+    abbrev n : List ℕ
+    n = activeOf (descriptorsOf s) .name
+
+    start : Stands s (before ss v) d n s
+    start =
+        record {
+          long = refl;
+          rest = behind ss v ++ (activeOf (descriptorsOf s) ∷ []);
+          some = omega (arith, length-append (behind ss v) (activeOf (descriptorsOf s) ∷ []));
+          is = chain-is (chain s) sound-s ∙ ap Sound (revert-split s v s-accepted);
+          active = ap (λ (x : Descriptor). x .name) (active-snoc (behind ss v) (activeOf (descriptorsOf s)));
+          blocks = λ p l. refl;
+        }
+
+    back-by : Stands s (before ss v) d n t ⊎ (named (snapshotsOf (descriptorsOf t)) (d .name) ≡ false) → Agree (storeAll t (storesOf (Revert v) t)) (storeAll s (storesOf (Revert v) s))
+    back-by (inl h) =
+        subst (λ (m : List ℕ). Agree (storeAll t (storesOf (Revert m) t)) (storeAll s (storesOf (Revert m) s))) d-name
+        (back-agree s (before ss v) d n t start h (subst (λ (m : List ℕ). isAccepted (answerOf (Revert m) s) ≡ true) (sym d-name) s-accepted) (subst (λ (m : List ℕ). isAccepted (answerOf (Revert m) t) ≡ true) (sym d-name) there))
+    back-by (inr g) = not-gone (subst (λ (m : List ℕ). named (snapshotsOf (descriptorsOf t)) m ≡ false) d-name g)
+
+    start-agree : Agree (storeAll t (storesOf (Revert v) t)) (storeAll s (storesOf (Revert v) s))
+    start-agree = back-by (stands-run s (before ss v) d n (take k ks) s start (standing-take s ks k standing) (subst (λ (m : List ℕ). Unsnapped m s (take k ks)) (sym d-name) unsnapped))
+
+    first-after : after (take 1 (drop k ks)) s ≡ storeAll s (storesOf (Revert v) s)
+    unfolding after
+    first-after =
+        ap (λ (js : List Call). after (take 1 js) s) (drop-cons ks k Check (reverted .inside))
+        ∙ ap (λ (x : Call). step x s .card) (reverted .is)
+        ∙ accepted-card (Revert v) s s-accepted
+
+    pub forgets-start : Matched s ks (suc k) (drop k ks) 1
+    forgets-start =
+        matched-from agree-step s ks (suc k) (drop k ks) 1 standing (omega (arith, reverted .inside)) (simp length-drop (omega (arith, reverted .inside)))
+        (ap (λ (js : List Call). drop 1 js) (sym (drop-cons ks k Check (reverted .inside))))
+        (rw (t-after, first-after) start-agree)
+
+  -- the visit's latest accepted snap is at i
+  module _ (i : ℕ) (l : LastSnap v s (take k ks) i) where
+    taken : length (take k ks) ≡ k
+    taken = length-take-le k ks (omega (arith, reverted .inside))
+
+    pub earlier : i < k
+    earlier = omega (arith, l .inside, taken)
+
+    abbrev c : List ℕ
+    c = after (take i ks) s
+
+    c-is : after (take i (take k ks)) s ≡ c
+    c-is = ap (λ (js : List Call). after js s) (take-take i k ks (omega (arith, earlier)))
+
+    call-is : getD (take k ks) i Check ≡ Snap v
+    call-is = snap-of v (getD (take k ks) i Check) (l .is)
+
+    snapped : isAccepted (answerOf (Snap v) c) ≡ true
+    snapped =
+        subst (λ (x : List ℕ). isAccepted (answerOf (Snap v) x) ≡ true) c-is
+        (subst (λ (x : Call). isAccepted (answerOf x (after (take i (take k ks)) s)) ≡ true) call-is (l .accepted-there))
+
+    abbrev c′ : List ℕ
+    c′ = storeAll c (storesOf (Snap v) c)
+
+    c′-is : after (take (suc i) (take k ks)) s ≡ c′
+    c′-is = after-one (take k ks) i (Snap v) s (l .inside) call-is ∙ ap (λ (x : List ℕ). step (Snap v) x .card) c-is ∙ accepted-card (Snap v) c snapped
+
+    abbrev js : List Call
+    js = drop (suc i) (take k ks)
+
+    t-is : after js c′ ≡ t
+    t-is =
+        ap (after js) (sym c′-is)
+        ∙ sym (after-append (take (suc i) (take k ks)) js s)
+        ∙ ap (λ (xs : List Call). after xs s) (take-append-drop (suc i) (take k ks))
+
+    c′-long : length s ≡ length c′
+    c′-long = sym (ap length (sym c′-is) ∙ after-length (take (suc i) (take k ks)) s)
+
+    abbrev a : Descriptor
+    a = activeOf (descriptorsOf c)
+
+    abbrev old : Descriptor
+    old = linkedOf (renamedOf a v) (a .beta)
+
+    made-there : Stands c′ (snapshotsOf (descriptorsOf c)) old (a .name) c′
+    made-there =
+        record {
+          long = refl;
+          rest = reopenedOf a ∷ [];
+          some = omega arith;
+          is = snapped-chain c v snapped;
+          active = ap (λ (x : Descriptor). x .name) (active-snoc [] (reopenedOf a));
+          blocks = λ p h. refl;
+        }
+
+    kept-by : Stands c′ (snapshotsOf (descriptorsOf c)) old (a .name) t ⊎ (named (snapshotsOf (descriptorsOf t)) v ≡ false) → Agree (storeAll t (storesOf (Revert v) t)) (storeAll c′ (storesOf (Revert v) c′))
+    kept-by (inl h) = back-agree c′ (snapshotsOf (descriptorsOf c)) old (a .name) t made-there h (undone-accepted c v snapped) there
+    kept-by (inr g) = not-gone g
+
+    still : Agree (storeAll t (storesOf (Revert v) t)) (storeAll c′ (storesOf (Revert v) c′))
+    still =
+        kept-by
+        (subst (λ (x : List ℕ). Stands c′ (snapshotsOf (descriptorsOf c)) old (a .name) x ⊎ (named (snapshotsOf (descriptorsOf x)) v ≡ false)) t-is
+        (stands-run c′ (snapshotsOf (descriptorsOf c)) old (a .name) js c′ made-there
+        (standing-length s c′ c′-long js (standing-drop s (take k ks) (suc i) (standing-take s ks k standing)))
+        (subst (λ (x : List ℕ). Unsnapped v x js) c′-is (l .later))))
+
+    without-long : i ≤ length (without ks i k)
+    unfolding without
+    without-long = omega (arith, length-append (take i ks) (drop (suc k) ks), length-take-le i ks (omega (arith, earlier, reverted .inside)))
+
+    pub forgets-snap : AreBytes (after (take i ks) s) → Matched s ks (suc k) (without ks i k) i
+    forgets-snap bytes =
+        let m : i ≤ k = omega (arith, earlier) in
+        matched-from agree-step s ks (suc k) (without ks i k) i standing (omega (arith, reverted .inside)) without-long (sym (without-drop ks i k m (reverted .inside)))
+        (rw (t-after, without-take ks i k m (reverted .inside)) (agree-trans (storeAll t (storesOf (Revert v) t)) (storeAll c′ (storesOf (Revert v) c′)) c still (undone c v bytes snapped)))

@@ -1,0 +1,35 @@
+-- Alpha and beta after accepted calls.
+use mathlib.Core.Path.{_≡_, refl, sym, ap, _∙_}
+use mathlib.Core.Bool.{true}
+use mathlib.Core.List.{List, [], _∷_, _++_}
+use Prim.Native.Nat.{ℕ}
+use Rattle.blocks.specs.Bytes.{storeAll}
+use Rattle.blocks.specs.Chain.{Sound, chain}
+use Rattle.blocks.specs.declared.descriptor.Descriptor.{Descriptor}
+use Rattle.calls.specs.Call.{Call, Write, Snap, Revert}
+use Rattle.calls.specs.Parts.{descriptorsOf, activeOf, snapshotsOf}
+use Rattle.calls.specs.Ladder.{answerOf}
+use Rattle.calls.specs.Effect.{storesOf}
+use Rattle.calls.specs.Step.{step, isAccepted}
+use Rattle.claims.specs.Claims.{blocksNeeded, MovesBeta, RoomClaim}
+use Rattle.claims.proofs.ChainAfter.{before, active-snoc, reverted-chain}
+use Rattle.claims.proofs.SnappedChain.{snapped-chain}
+use Rattle.claims.proofs.WrittenChain.{written-chain}
+use Rattle.claims.proofs.Kept.{descriptors-are}
+
+-- the card after an accepted call
+pub accepted-card : (k : Call) (c : List ℕ) → isAccepted (answerOf k c) ≡ true → step k c .card ≡ storeAll c (storesOf k c)
+unfolding step
+accepted-card k c e = rw e
+
+after-is : (k : Call) (c : List ℕ) → isAccepted (answerOf k c) ≡ true → (ds : List Descriptor) → chain (storeAll c (storesOf k c)) ≡ Sound ds → descriptorsOf (step k c .card) ≡ ds
+after-is k c e ds q = ap descriptorsOf (accepted-card k c e) ∙ descriptors-are (storeAll c (storesOf k c)) ds q
+
+pub room-claim : RoomClaim
+unfolding RoomClaim blocksNeeded
+room-claim c =
+    record {
+      write = λ l block e. ap activeOf (after-is (Write l block) c e _ (written-chain c l block e)) ∙ active-snoc (snapshotsOf (descriptorsOf c)) _;
+      snap = λ name e. after-is (Snap name) c e _ (snapped-chain c name e);
+      revert = λ name e. ap activeOf (after-is (Revert name) c e _ (reverted-chain c name e)) ∙ active-snoc (before (snapshotsOf (descriptorsOf c)) name) _;
+    }

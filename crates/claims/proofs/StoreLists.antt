@@ -1,0 +1,117 @@
+-- Lists of whole-block stores: the length stays, what is stored is the same on any card, and other blocks stay.
+use mathlib.Core.Path.{_≡_, refl, sym, ap, _∙_, subst}
+use mathlib.Core.Logic.{_⊎_, inl, inr}
+use mathlib.Core.Bool.{Bool, true, false, not, _&&_, _||_}
+use mathlib.Core.List.{List, [], _∷_, _++_}
+use Prim.Native.Nat.{ℕ, zero, suc, _+_, _*_, _≤_, _<_}
+use native.Mathlib.Omega.{arith}
+use lib.ListN.{length, take, drop}
+use lib.Seq.{take-add}
+use lib.Dec.{eqb}
+use borrow.Author.Tests.{eq-eqb, eqb-true, eqb-false}
+use Rattle.blocks.specs.Bytes.{part, blockAt, Store, store, storeBlock, storeAll}
+use Rattle.blocks.proofs.ByteLaws.{store-length, store-same, store-other}
+use Rattle.calls.proofs.StepLaws.{stored-append}
+
+-- stores of whole blocks to a card of n bytes
+pub data Whole (n : ℕ) : List Store → Type 0 where
+  none : Whole n []
+  also : (p : ℕ) (b : List ℕ) {ss : List Store} → length b ≡ 512 → 512 * p + 512 ≤ n → Whole n ss → Whole n (store p b ∷ ss)
+
+-- whether block p is stored
+unfoldable pub isStored : List Store → ℕ → Bool
+isStored [] p = false
+isStored (s ∷ ss) p = eqb (s .at) p || isStored ss p
+
+pub whole-append : {n : ℕ} {xs ys : List Store} → Whole n xs → Whole n ys → Whole n (xs ++ ys)
+whole-append none ys = ys
+whole-append (also p b w i xs) ys = also p b w i (whole-append xs ys)
+
+or-by : (a b c : Bool) → (a || (b || c)) ≡ ((a || b) || c)
+or-by true b c = refl
+or-by false b c = refl
+
+pub stored-join : (xs ys : List Store) (p : ℕ) → isStored (xs ++ ys) p ≡ (isStored xs p || isStored ys p)
+unfolding isStored
+stored-join [] ys p = refl
+stored-join (x ∷ xs) ys p = rw (stored-join xs ys p) (or-by (eqb (x .at) p) (isStored xs p) (isStored ys p))
+
+module _ (n : ℕ) where
+  pub stored-length : (c : List ℕ) → length c ≡ n → {ss : List Store} → Whole n ss → length (storeAll c ss) ≡ n
+  unfolding storeAll
+  stored-length c e none = e
+  stored-length c e (also at bytes {ss = ss} b i w) = stored-length (storeBlock c at bytes) (store-length c at bytes b (omega arith) ∙ e) w
+
+  -- a block that is not stored
+  stored-not : (a b : Bool) → (a || b) ≡ false → (a ≡ false) × (b ≡ false)
+  stored-not true b e = let z : _≡_ {A = ℕ} 0 1 = cc in absurd (omega arith)
+  stored-not false b e = (refl, e)
+
+  pub stored-other : (c : List ℕ) → length c ≡ n → {ss : List Store} → Whole n ss → (p : ℕ) → isStored ss p ≡ false → blockAt (storeAll c ss) p ≡ blockAt c p
+  unfolding storeAll isStored
+  stored-other c e none p h = refl
+  stored-other c e (also at bytes {ss = ss} b i w) p h =
+      let r = stored-not (eqb at p) (isStored ss p) h in
+      let m = eqb-false at p (r .0) in
+      stored-other (storeBlock c at bytes) (store-length c at bytes b (omega arith) ∙ e) w p (r .1)
+      ∙ store-other c at bytes b (omega arith) p (λ q. m (sym q))
+
+  -- the last store to a block decides
+  pub stored-last : (c : List ℕ) → length c ≡ n → {xs : List Store} → Whole n xs → (p : ℕ) (b : List ℕ) → length b ≡ 512 → 512 * p + 512 ≤ n → {ys : List Store} → Whole n ys → isStored ys p ≡ false
+      → blockAt (storeAll c (xs ++ (store p b ∷ ys))) p ≡ b
+  unfolding storeAll
+  stored-last c e {xs = xs} w p b l i {ys = ys} v h =
+      let f = stored-length c e w in
+      ap (λ (x : List ℕ). blockAt x p) (stored-append c xs (store p b ∷ ys))
+      ∙ stored-other (storeBlock (storeAll c xs) p b) (store-length (storeAll c xs) p b l (omega arith) ∙ f) v p h
+      ∙ store-same (storeAll c xs) p b l (omega arith)
+
+  -- two cards
+  module _ (p : ℕ) where
+    head-by : (c d : List ℕ) → length c ≡ n → length d ≡ n → (at : ℕ) (bytes : List ℕ) → length bytes ≡ 512 → 512 * at + 512 ≤ n → (z : Bool) → eqb at p ≡ z → (z ≡ false → blockAt c p ≡ blockAt d p)
+        → blockAt (storeBlock c at bytes) p ≡ blockAt (storeBlock d at bytes) p
+    head-by c d e f at bytes b i true q h =
+        let r = eqb-true at p q in
+        rw (← r) (store-same c at bytes b (omega arith) ∙ sym (store-same d at bytes b (omega arith)))
+    head-by c d e f at bytes b i false q h =
+        let m = eqb-false at p q in
+        store-other c at bytes b (omega arith) p (λ r. m (sym r)) ∙ h refl ∙ sym (store-other d at bytes b (omega arith) p (λ r. m (sym r)))
+
+    pub stored-both : (c d : List ℕ) → length c ≡ n → length d ≡ n → {ss : List Store} → Whole n ss → blockAt c p ≡ blockAt d p → blockAt (storeAll c ss) p ≡ blockAt (storeAll d ss) p
+    unfolding storeAll
+    stored-both c d e f none h = h
+    stored-both c d e f (also at bytes {ss = ss} b i w) h =
+        stored-both (storeBlock c at bytes) (storeBlock d at bytes)
+        (store-length c at bytes b (omega arith) ∙ e) (store-length d at bytes b (omega arith) ∙ f) w
+        (head-by c d e f at bytes b i (eqb at p) refl (λ q. h))
+
+    either : (a b : Bool) → (a || b) ≡ true → (a ≡ true) ⊎ (b ≡ true)
+    either true b e = inl refl
+    either false b e = inr e
+
+    anyway-by : (c d : List ℕ) → length c ≡ n → length d ≡ n → {ss : List Store} → Whole n ss → (at : ℕ) (bytes : List ℕ) → length bytes ≡ 512 → 512 * at + 512 ≤ n → eqb at p ≡ true
+        → blockAt (storeAll (storeBlock c at bytes) ss) p ≡ blockAt (storeAll (storeBlock d at bytes) ss) p
+    anyway-by c d e f w at bytes b i q =
+        stored-both (storeBlock c at bytes) (storeBlock d at bytes)
+        (store-length c at bytes b (omega arith) ∙ e) (store-length d at bytes b (omega arith) ∙ f) w
+        (head-by c d e f at bytes b i true q (λ r. let z : _≡_ {A = ℕ} 0 1 = cc in absurd (omega arith)))
+
+    join : {A : Type 0} {x y : Bool} → (x ≡ true) ⊎ (y ≡ true) → (x ≡ true → A) → (y ≡ true → A) → A
+    join (inl e) f g = f e
+    join (inr e) f g = g e
+
+    pub stored-anyway : (c d : List ℕ) → length c ≡ n → length d ≡ n → {ss : List Store} → Whole n ss → isStored ss p ≡ true → blockAt (storeAll c ss) p ≡ blockAt (storeAll d ss) p
+    unfolding storeAll isStored
+    stored-anyway c d e f none h = let z : _≡_ {A = ℕ} 0 1 = cc in absurd (omega arith)
+    stored-anyway c d e f (also at bytes {ss = ss} b i w) h =
+        join (either (eqb at p) (isStored ss p) h) (λ q. anyway-by c d e f w at bytes b i q)
+        (λ q. stored-anyway (storeBlock c at bytes) (storeBlock d at bytes)
+        (store-length c at bytes b (omega arith) ∙ e) (store-length d at bytes b (omega arith) ∙ f) w q)
+
+-- equal blocks below b are equal bytes below it
+pub blocks-taken : (s t : List ℕ) (b : ℕ) → ((p : ℕ) → p < b → blockAt s p ≡ blockAt t p) → take (512 * b) s ≡ take (512 * b) t
+unfolding blockAt
+blocks-taken s t zero h = refl
+blocks-taken s t (suc b) h =
+    let e : 512 * suc b ≡ 512 * b + 512 = omega arith in
+    rw (e, take-add (512 * b) 512 s, take-add (512 * b) 512 t, blocks-taken s t b (λ p l. h p (omega arith)), h b (omega arith))

@@ -1,0 +1,425 @@
+-- The chain after an accepted write: the snapshots as they were, then the active descriptor with as many more blocks as the write took.
+use mathlib.Core.Path.{_≡_, refl, sym, ap, _∙_, subst}
+use mathlib.Core.Logic.{inl}
+use mathlib.Core.Bool.{Bool, true, false, not, _&&_, _||_}
+use mathlib.Core.List.{List, [], _∷_, _++_}
+use Prim.Native.Nat.{ℕ, _+_, _*_, _/_, _%_, _≤_, _<_}
+use native.Mathlib.Omega.{arith}
+use lib.ListN.{length, length-append}
+use lib.Dec.{eqb, ltb, leb}
+use borrow.Author.Tests.{eq-eqb, ne-eqb, le-ltb, eqb-true, eqb-false, ltb-false, leb-true, leb-false, not-true, not-false}
+use Rattle.blocks.specs.Pick.{pick}
+use Rattle.blocks.specs.Bytes.{le32, part, blockCount, blockAt, zeroBlock, Store, store, storeBlock, storeAll}
+use Rattle.blocks.specs.Name.{isName}
+use Rattle.blocks.specs.Descriptor.{physical, costOf, descriptorAt, tailAt, descriptorBlock, extendedOf, reservedOk, phiOk}
+use Rattle.blocks.specs.Chain.{formOk, regionOk, sound, Sound, chain}
+use Rattle.blocks.specs.declared.numbers.Physical.{Physical}
+use Rattle.blocks.specs.declared.descriptor.Descriptor.{Descriptor}
+use Rattle.blocks.proofs.Tests.{and-left, and-right}
+use Rattle.blocks.proofs.ByteLaws.{length-splice, length-le32, part-before, store-length, store-same}
+use Rattle.blocks.proofs.DescriptorLaws.{Fits}
+use Rattle.blocks.proofs.SoundLaws.{form-most, form-layout}
+use Rattle.blocks.proofs.ChainLaws.{region-long, region-end, cost-least}
+use Rattle.blocks.proofs.LinkedLaws.{Linked, last, more, chain-linked, chain-few, linked-some}
+use Rattle.entries.specs.InPlace.{isDescriptor, isTable, inPlace}
+use Rattle.entries.specs.Entry.{tableOf, entryAt, entryFound, find, tableIsNew, need, tableWith, tailWith, setInTable, setInNewTable, writing}
+use Rattle.entries.specs.declared.find.Found.{Found}
+use Rattle.entries.specs.declared.find.Found.the-variants.{Misplaced, Entry}
+use Rattle.entries.proofs.EntryLaws.{find-placed}
+use Rattle.calls.specs.Call.{Write}
+use Rattle.calls.specs.Parts.{descriptorsOf, activeOf, snapshotsOf, foundThrough, isMisplaced}
+use Rattle.calls.specs.Ladder.{writeRows, rowsOf, answerOf}
+use Rattle.calls.specs.Effect.{storesOf}
+use Rattle.calls.specs.Step.{isAccepted}
+use Rattle.calls.proofs.CardLaws.{card-most}
+use Rattle.claims.proofs.Rows.{no, rows-passed}
+use Rattle.claims.proofs.Local.{linked-chain, shared-descriptor, shared-sound}
+use Rattle.claims.proofs.Relinked.{linked-from, linked-head, relinked, linked-next}
+use Rattle.claims.proofs.Agreement.{chain-is}
+use Rattle.claims.proofs.Stored.{tail-long, tail-part, form-kept, form-phi, form-name}
+use Rattle.claims.proofs.Changed.{name-long, layout-small, member-form, member-region, member-fresh, member-inside, changed-last}
+use Rattle.claims.proofs.StoreLists.{Whole, also, isStored, stored-length, stored-other}
+use Rattle.claims.proofs.Frame.{stores-inside}
+use Rattle.claims.proofs.ChainAfter.{active-split, none-stored}
+
+-- the first of a list of whole-block stores, and the others
+whole-parts : {n : ℕ} {s : Store} {ss : List Store} → Whole n (s ∷ ss) → (length (s .bytes) ≡ 512) × (512 * s .at + 512 ≤ n) × Whole n ss
+whole-parts (also p b w i ss) = (w, i, ss)
+
+-- the last store to block p decides what it holds
+module _ (n : ℕ) (p : ℕ) (b : List ℕ) (ys : List Store) (after : isStored ys p ≡ false) where
+  pub stored-last : (c : List ℕ) → length c ≡ n → (xs : List Store) → Whole n (xs ++ (store p b ∷ ys)) → blockAt (storeAll c (xs ++ (store p b ∷ ys))) p ≡ b
+  unfolding storeAll
+  stored-last c e [] w =
+      let h = whole-parts w in
+      let i : 512 * p + 512 ≤ length c = omega (arith, h .1) in
+      stored-other n (storeBlock c p b) (store-length c p b (h .0) i ∙ e) (h .2) p after ∙ store-same c p b (h .0) i
+  stored-last c e (x ∷ xs) w =
+      let h = whole-parts w in
+      let i : 512 * x .at + 512 ≤ length c = omega (arith, h .1) in
+      stored-last (storeBlock c (x .at) (x .bytes)) (store-length c (x .at) (x .bytes) (h .0) i ∙ e) xs (h .2)
+
+-- a block that the first store does not name, nor the others
+pub not-stored : (p : ℕ) (b : List ℕ) (ss : List Store) (q : ℕ) → (p ≡ q → ⊥) → isStored ss q ≡ false → isStored (store p b ∷ ss) q ≡ false
+unfolding isStored
+not-stored p b ss q n h = rw (ne-eqb p q n) h
+
+-- no more blocks: the descriptor as it was
+pub extended-none : (d : Descriptor) → extendedOf d 0 ≡ d
+extended-none d =
+    let e : d .beta .0 + 0 ≡ d .beta .0 = omega arith in
+    ap (λ (b : ℕ). record { layout = d .layout; volume = d .volume; alpha = d .alpha; beta = physical b; next = d .next; name = d .name }) e
+
+-- stores at or above the active alpha, on a card with a sound chain
+module _ (c : List ℕ) (ds : List Descriptor) (sound-c : chain c ≡ Sound ds) where
+  abbrev d : Descriptor
+  d = activeOf ds
+
+  abbrev xs : List Descriptor
+  xs = snapshotsOf ds
+
+  pub ds-some : 0 < length ds
+  ds-some = linked-some (chain-linked c ds sound-c)
+
+  split : ds ≡ xs ++ (d ∷ [])
+  split = active-split ds ds-some
+
+  few : length xs < 256
+  few = omega (arith, chain-few c ds sound-c, ap length split, length-append xs (d ∷ []))
+
+  active-linked : Linked c xs (d .alpha .0) (d ∷ [])
+  active-linked = linked-from c (chain-linked c ds sound-c) xs d [] split
+
+  pub active-next : d .next .0 ≡ 0
+  active-next = linked-next c active-linked d refl
+
+  pub active-form : formOk c (d .alpha .0) d ≡ true
+  active-form = member-form c ds xs d [] sound-c split
+
+  active-region : regionOk (descriptorAt c 0) (blockCount c) (d .alpha .0) d ≡ true
+  active-region = member-region c ds xs d [] sound-c split
+
+  pub active-inside : 512 * d .alpha .0 + 512 ≤ length c
+  active-inside = member-inside c ds xs d [] sound-c split
+
+  pub active-long : d .alpha .0 + costOf d ≤ d .beta .0
+  active-long = region-long (descriptorAt c 0) (blockCount c) (d .alpha .0) d active-region
+
+  pub active-rise : d .alpha .0 < d .beta .0
+  active-rise = omega (arith, active-long, cost-least (d .layout) (d .volume))
+
+  pub active-end : d .beta .0 ≤ blockCount c
+  active-end = region-end (descriptorAt c 0) (blockCount c) (d .alpha .0) d active-region
+
+  pub active-volume : d .volume ≤ 14336
+  active-volume = form-most c (d .alpha .0) d active-form
+
+  pub active-name : isName (d .name) ≡ true
+  active-name = form-name c (d .alpha .0) d active-form
+
+  -- the zero bytes of its tail
+  pub active-reserved : reservedOk (part (tailAt c (d .alpha .0)) 0 24) ≡ true
+  active-reserved =
+      let a : ℕ = d .alpha .0 in
+      let e : 512 * a + 40 + 0 ≡ 512 * a + 40 = omega arith in
+      subst (λ (x : List ℕ). reservedOk x ≡ true)
+      (sym (tail-part c a 0 24 active-inside (omega arith) ∙ ap (λ (n : ℕ). part c n 24) e)) (form-kept c a d active-form)
+
+  pub active-phi : phiOk (d .layout) (part (tailAt c (d .alpha .0)) 24 448) ≡ true
+  active-phi =
+      let a : ℕ = d .alpha .0 in
+      let e : 512 * a + 40 + 24 ≡ 512 * a + 64 = omega arith in
+      subst (λ (x : List ℕ). phiOk (d .layout) x ≡ true)
+      (sym (tail-part c a 24 448 active-inside (omega arith) ∙ ap (λ (n : ℕ). part c n 448) e)) (form-phi c a d active-form)
+
+  module _ (ss : List Store) (whole : Whole (length c) ss) (low : (q : ℕ) → q < d .alpha .0 → isStored ss q ≡ false) where
+    abbrev t : List ℕ
+    t = storeAll c ss
+
+    long : length c ≡ length t
+    long = sym (stored-length (length c) c refl whole)
+
+    kept : (q : ℕ) → q < d .alpha .0 → blockAt c q ≡ blockAt t q
+    kept q h = sym (stored-other (length c) c refl whole q (low q h))
+
+    -- where the active descriptor's block is not stored either, the chain is as it was
+    module _ (here : isStored ss (d .alpha .0) ≡ false) where
+      kept-here : blockAt c (d .alpha .0) ≡ blockAt t (d .alpha .0)
+      kept-here = sym (stored-other (length c) c refl whole (d .alpha .0) here)
+
+      upto-by : (q : ℕ) → q ≤ d .alpha .0 → (z : Bool) → eqb q (d .alpha .0) ≡ z → blockAt c q ≡ blockAt t q
+      upto-by q h true e = subst (λ (n : ℕ). blockAt c n ≡ blockAt t n) (sym (eqb-true q (d .alpha .0) e)) kept-here
+      upto-by q h false e = kept q (omega (arith, eqb-false q (d .alpha .0) e))
+
+      same-at : (q : ℕ) → q ≤ d .alpha .0 → descriptorAt c q ≡ descriptorAt t q
+      same-at q h = shared-descriptor c t q (omega (arith, active-inside)) (omega (arith, active-inside, long)) (upto-by q h (eqb q (d .alpha .0)) refl)
+
+      same-sound : sound c xs (d .alpha .0) ≡ sound t xs (d .alpha .0)
+      same-sound =
+          let first = same-at 0 (omega arith) in
+          shared-sound c t (d .alpha .0) active-inside (omega (arith, active-inside, long)) kept-here long
+          (ap (λ (x : Descriptor). x .layout) first) (ap (λ (x : Descriptor). x .volume) first) xs
+
+      pub kept-chain : chain t ≡ Sound (xs ++ (d ∷ []))
+      kept-chain =
+          let head = linked-head c active-linked d [] refl in
+          linked-chain t (xs ++ (d ∷ []))
+          (relinked c t long d [] (d ∷ []) (omega (arith, active-inside)) kept (chain-linked c ds sound-c) xs split
+          (last (head .0 ∙ same-at (d .alpha .0) (omega arith)) (sym same-sound ∙ head .1) active-next))
+          (omega (arith, length-append xs (d ∷ []), few))
+
+    -- where its block holds it with k more blocks in its region
+    module _ (k : ℕ) (room : d .beta .0 + k ≤ blockCount c) (small : blockCount c ≤ 65536) (tail : List ℕ) (is : blockAt t (d .alpha .0) ≡ descriptorBlock (extendedOf d k) tail)
+        (tail-whole : length tail ≡ 472) (reserved : reservedOk (part tail 0 24) ≡ true) (phi : phiOk (d .layout) (part tail 24 448) ≡ true) where
+      extended-fits : Fits (extendedOf d k)
+      extended-fits =
+          record {
+            layout = omega (arith, layout-small (d .layout) (form-layout c (d .alpha .0) d active-form));
+            volume = omega (arith, active-volume);
+            alpha = omega (arith, active-rise);
+            beta = omega arith;
+            next = omega (arith, active-next);
+            name = name-long (d .name) active-name;
+          }
+
+      end : d .beta .0 + k ≤ blockCount t
+      unfolding blockCount
+      end = subst (λ (n : ℕ). d .beta .0 + k ≤ n / 512) long room
+
+      pub extended-chain : chain t ≡ Sound (xs ++ (extendedOf d k ∷ []))
+      extended-chain =
+          changed-last c ds xs d [] sound-c split t long kept (extendedOf d k) tail is extended-fits tail-whole refl refl refl active-name reserved phi
+          (omega (arith, active-long)) end (inl active-next) (member-fresh c ds xs d [] sound-c split) active-next few
+
+-- tests joined
+pub or-right : (a b : Bool) → b ≡ true → (a || b) ≡ true
+or-right true b e = refl
+or-right false b e = e
+
+or-none : (a b : Bool) → (a || b) ≡ false → (a ≡ false) × (b ≡ false)
+or-none true b e = no (sym e)
+or-none false b e = (refl, e)
+
+or-self : (a b : Bool) → a ≡ true → (a || b) ≡ true
+or-self true b e = refl
+or-self false b e = no e
+
+-- the active descriptor's block is a descriptor of the chain, and so no set entry in place names it
+active-descriptor : (ds : List Descriptor) → 0 < length ds → isDescriptor ds (activeOf ds .alpha .0) ≡ true
+unfolding isDescriptor activeOf
+active-descriptor [] h = absurd (omega arith)
+active-descriptor (d ∷ []) h = or-self (eqb (d .alpha .0) (d .alpha .0)) false (eq-eqb (d .alpha .0) (d .alpha .0) refl)
+active-descriptor (d ∷ e ∷ ds) h = or-right (eqb (activeOf (e ∷ ds) .alpha .0) (d .alpha .0)) (isDescriptor (e ∷ ds) (activeOf (e ∷ ds) .alpha .0)) (active-descriptor (e ∷ ds) (omega arith))
+
+placed-other : (ds : List Descriptor) (d : Descriptor) (p : ℕ) → inPlace ds d p ≡ true → (p ≡ 0 → ⊥) → isDescriptor ds p ≡ false
+unfolding inPlace
+placed-other ds d p h n =
+    let k : (ltb p (d .beta .0) && not (isDescriptor ds p || isTable ds p)) ≡ true = rw (ne-eqb p 0 n) at h in
+    or-none (isDescriptor ds p) (isTable ds p) (not-true (isDescriptor ds p || isTable ds p) (and-right (ltb p (d .beta .0)) (not (isDescriptor ds p || isTable ds p)) k)) .0
+
+pub placed-not-active : (ds : List Descriptor) → 0 < length ds → (p : ℕ) → inPlace ds (activeOf ds) p ≡ true → (p ≡ 0 → ⊥) → p ≡ activeOf ds .alpha .0 → ⊥
+placed-not-active ds h p placed n e =
+    let f : isDescriptor ds p ≡ true = subst (λ (q : ℕ). isDescriptor ds q ≡ true) (sym e) (active-descriptor ds h) in
+    no (sym (placed-other ds (activeOf ds) p placed n) ∙ f)
+
+-- the table block of an entry that was found: in layout 1 one of the descriptor's own, in layout 2 in place
+table-is : (m′ p : Physical) (m q : ℕ) (t : Bool) → pick t (Entry (physical m) (physical q)) (Misplaced (physical m)) ≡ Entry m′ p → m′ .0 ≡ m
+table-is m′ p m q true e = let k : physical m ≡ m′ = cc in sym (ap (λ (x : Physical). x .0) k)
+table-is m′ p m q false e = let z : _≡_ {A = ℕ} 0 1 = cc in absurd (omega arith)
+
+pub entry-table : (ds : List Descriptor) (d : Descriptor) (m q : ℕ) (m′ p : Physical) → entryFound ds d m q ≡ Entry m′ p → m′ .0 ≡ m
+unfolding entryFound
+entry-table ds d m q m′ p e = table-is m′ p m q (inPlace ds d q) e
+
+nil-table : (ds : List Descriptor) (d : Descriptor) (m′ p : Physical) → Entry (physical 0) (physical 0) ≡ Entry m′ p → inPlace ds d (m′ .0) ≡ true
+unfolding inPlace
+nil-table ds d m′ p e = let k : physical 0 ≡ m′ = cc in let n : 0 ≡ m′ .0 = ap (λ (x : Physical). x .0) k in subst (λ (q : ℕ). inPlace ds d q ≡ true) n refl
+
+table-by : (ds : List Descriptor) (d : Descriptor) (m q : ℕ) (m′ p : Physical) (o i z : Bool) → inPlace ds d m ≡ i
+    → pick o (entryFound ds d m q) (pick i (pick z (Entry (physical 0) (physical 0)) (entryFound ds d m q)) (Misplaced (d .alpha))) ≡ Entry m′ p
+    → (o ≡ true → m′ .0 ≡ m) × (o ≡ false → inPlace ds d (m′ .0) ≡ true)
+table-by ds d m q m′ p true i z h e = (λ u. entry-table ds d m q m′ p e, λ u. no (sym u))
+table-by ds d m q m′ p false true true h e = (λ u. no u, λ u. nil-table ds d m′ p e)
+table-by ds d m q m′ p false true false h e = (λ u. no u, λ u. subst (λ (x : ℕ). inPlace ds d x ≡ true) (sym (entry-table ds d m q m′ p e)) h)
+table-by ds d m q m′ p false false z h e = let y : _≡_ {A = ℕ} 0 1 = cc in absurd (omega arith)
+
+module _ (c : List ℕ) (ds : List Descriptor) (d : Descriptor) (l : ℕ) (m p : Physical) (is : find c ds d l ≡ Entry m p) where
+  table-found : (eqb (d .layout) 1 ≡ true → m .0 ≡ tableOf c d (l / 128)) × (eqb (d .layout) 1 ≡ false → inPlace ds d (m .0) ≡ true)
+  unfolding find
+  table-found =
+      table-by ds d (tableOf c d (l / 128)) (entryAt c (tableOf c d (l / 128)) (l % 128)) m p (eqb (d .layout) 1) (inPlace ds d (tableOf c d (l / 128))) (eqb (tableOf c d (l / 128)) 0) refl is
+
+  own-table : eqb (d .layout) 1 ≡ true → tableOf c d (l / 128) ≡ d .alpha .0 + 1 + l / 128
+  unfolding tableOf
+  own-table e = rw e
+
+  pub table-own : eqb (d .layout) 1 ≡ true → m .0 ≡ d .alpha .0 + 1 + l / 128
+  table-own e = table-found .0 e ∙ own-table e
+
+  pub table-placed : eqb (d .layout) 1 ≡ false → inPlace ds d (m .0) ≡ true
+  table-placed e = table-found .1 e
+
+-- a table block above alpha is not new; one that is not new is set and at or above alpha
+pub new-table : (alpha m : ℕ) → alpha < m → tableIsNew alpha m ≡ false
+unfolding tableIsNew
+new-table alpha m h = rw (ne-eqb m 0 (omega arith), le-ltb m alpha (omega arith))
+
+pub old-table : (alpha m : ℕ) → tableIsNew alpha m ≡ false → (m ≡ 0 → ⊥) × (alpha ≤ m)
+unfolding tableIsNew
+old-table alpha m h = let r = or-none (eqb m 0) (ltb m alpha) h in (eqb-false m 0 (r .0), ltb-false m alpha (r .1))
+
+-- what a write takes
+need-set : (s new : Bool) (n : ℕ) → n ≡ pick s 0 (pick new 2 1) → n ≡ 0 → s ≡ true
+need-set true new n e z = refl
+need-set false true n e z = absurd (omega arith)
+need-set false false n e z = absurd (omega arith)
+
+need-some : (s new : Bool) (n : ℕ) → n ≡ pick s 0 (pick new 2 1) → (n ≡ 0 → ⊥) → n ≡ pick new 2 1
+need-some true new n e z = absurd (z e)
+need-some false new n e z = e
+
+-- none: the entry is set and at or above alpha
+pub need-nothing : (alpha : ℕ) (m p : Physical) → need alpha (Entry m p) ≡ 0 → (p .0 ≡ 0 → ⊥) × (alpha ≤ p .0)
+unfolding need
+need-nothing alpha m p e =
+    let s = need-set (not (eqb (p .0) 0) && leb alpha (p .0)) (tableIsNew alpha (m .0)) (need alpha (Entry m p)) refl e in
+    (eqb-false (p .0) 0 (not-true (eqb (p .0) 0) (and-left (not (eqb (p .0) 0)) (leb alpha (p .0)) s)), leb-true alpha (p .0) (and-right (not (eqb (p .0) 0)) (leb alpha (p .0)) s))
+
+pub need-more : (alpha : ℕ) (m p : Physical) → (need alpha (Entry m p) ≡ 0 → ⊥) → need alpha (Entry m p) ≡ pick (tableIsNew alpha (m .0)) 2 1
+unfolding need
+need-more alpha m p z = need-some (not (eqb (p .0) 0) && leb alpha (p .0)) (tableIsNew alpha (m .0)) (need alpha (Entry m p)) refl z
+
+-- a tail with an entry of Phi set
+module _ (tail : List ℕ) (i m : ℕ) (few-entries : i < 112) (tail-whole : length tail ≡ 472) where
+  put-fits : 24 + 4 * i + length (le32 m) ≤ length tail
+  put-fits = omega (arith, length-le32 m)
+
+  pub put-length : length (tailWith tail i m) ≡ 472
+  unfolding tailWith
+  put-length = length-splice tail (24 + 4 * i) (le32 m) put-fits ∙ tail-whole
+
+  pub put-reserved : part (tailWith tail i m) 0 24 ≡ part tail 0 24
+  unfolding tailWith
+  put-reserved = part-before tail (24 + 4 * i) (le32 m) put-fits 0 24 (omega arith)
+
+-- in layout 2 soundness asks nothing of Phi
+phi-any : (layout : ℕ) (bytes : List ℕ) → eqb layout 1 ≡ false → phiOk layout bytes ≡ true
+unfolding phiOk
+phi-any layout bytes e = rw e
+
+-- a write through an entry that was found
+module _ (c : List ℕ) (ds : List Descriptor) (sound-c : chain c ≡ Sound ds) (small : blockCount c ≤ 65536) (l : ℕ) (block : List ℕ) (m p : Physical)
+    (is : find c ds (activeOf ds) l ≡ Entry m p) (below : l < activeOf ds .volume) (room : activeOf ds .beta .0 + need (activeOf ds .alpha .0) (Entry m p) ≤ blockCount c) where
+  abbrev active : Descriptor
+  active = activeOf ds
+
+  abbrev rise : active .alpha .0 < active .beta .0
+  rise = active-rise c ds sound-c
+
+  abbrev taken : ℕ
+  taken = need (active .alpha .0) (Entry m p)
+
+  abbrev storesBy : Bool → Bool → List Store
+  storesBy z n =
+      pick z (store (p .0) block ∷ [])
+      (pick n (store (active .beta .0 + 1) block ∷ setInNewTable c active (m .0) l) (store (active .beta .0) block ∷ setInTable c active (m .0) l))
+
+  abbrev After : List Store → ℕ → Type 0
+  After ss k = chain (storeAll c ss) ≡ Sound (snapshotsOf ds ++ (extendedOf active k ∷ []))
+
+  -- over a block of its own
+  entry-above : taken ≡ 0 → active .alpha .0 < p .0
+  entry-above e =
+      let r = need-nothing (active .alpha .0) m p e in
+      let n = placed-not-active ds (ds-some c ds sound-c) (p .0) (find-placed c ds active l m p is) (r .0) in
+      omega (arith, r .1, n)
+
+  over : taken ≡ 0 → Whole (length c) (store (p .0) block ∷ []) → After (store (p .0) block ∷ []) 0
+  over e w =
+      let a = entry-above e in
+      let h : (q : ℕ) → q ≤ active .alpha .0 → isStored (store (p .0) block ∷ []) q ≡ false = λ q u. not-stored (p .0) block [] q (λ v. omega (arith, a, v)) (none-stored q) in
+      kept-chain c ds sound-c (store (p .0) block ∷ []) w (λ q u. h q (omega arith)) (h (active .alpha .0) (omega arith))
+      ∙ ap (λ (x : Descriptor). Sound (snapshotsOf ds ++ (x ∷ []))) (sym (extended-none active))
+
+  -- through a table block of the active region
+  table-above-by : tableIsNew (active .alpha .0) (m .0) ≡ false → (b : Bool) → eqb (active .layout) 1 ≡ b → active .alpha .0 < m .0
+  table-above-by e true h = omega (arith, table-own c ds active l m p is h)
+  table-above-by e false h =
+      let r = old-table (active .alpha .0) (m .0) e in
+      let n = placed-not-active ds (ds-some c ds sound-c) (m .0) (table-placed c ds active l m p is h) (r .0) in
+      omega (arith, r .1, n)
+
+  through-table : tableIsNew (active .alpha .0) (m .0) ≡ false → active .beta .0 + 1 ≤ blockCount c → Whole (length c) (store (active .beta .0) block ∷ setInTable c active (m .0) l)
+      → After (store (active .beta .0) block ∷ setInTable c active (m .0) l) 1
+  unfolding setInTable
+  through-table e fits w =
+      let a : ℕ = active .alpha .0 in
+      let tail : List ℕ = tailAt c a in
+      let head : List ℕ = descriptorBlock (extendedOf active 1) tail in
+      let table : List ℕ = tableWith (blockAt c (m .0)) (l % 128) (active .beta .0) in
+      let above = table-above-by e (eqb (active .layout) 1) refl in
+      let rest : (q : ℕ) → q ≤ a → isStored (store (m .0) table ∷ []) q ≡ false = λ q u. not-stored (m .0) table [] q (λ v. omega (arith, above, v)) (none-stored q) in
+      extended-chain c ds sound-c (store (active .beta .0) block ∷ store a head ∷ store (m .0) table ∷ []) w
+      (λ q u. not-stored (active .beta .0) block (store a head ∷ store (m .0) table ∷ []) q (λ v. omega (arith, rise, v)) (not-stored a head (store (m .0) table ∷ []) q (λ v. omega (arith, v)) (rest q (omega arith))))
+      1 fits small tail
+      (stored-last (length c) a head (store (m .0) table ∷ []) (rest a (omega arith)) c refl (store (active .beta .0) block ∷ []) w)
+      (tail-long c a (active-inside c ds sound-c)) (active-reserved c ds sound-c) (active-phi c ds sound-c)
+
+  -- through a new table block, which arises only in layout 2
+  layout-by : tableIsNew (active .alpha .0) (m .0) ≡ true → (b : Bool) → eqb (active .layout) 1 ≡ b → b ≡ false
+  layout-by e true h = no (sym (new-table (active .alpha .0) (m .0) (omega (arith, table-own c ds active l m p is h))) ∙ e)
+  layout-by e false h = refl
+
+  through-new : tableIsNew (active .alpha .0) (m .0) ≡ true → active .beta .0 + 2 ≤ blockCount c → Whole (length c) (store (active .beta .0 + 1) block ∷ setInNewTable c active (m .0) l)
+      → After (store (active .beta .0 + 1) block ∷ setInNewTable c active (m .0) l) 2
+  unfolding setInNewTable
+  through-new e fits w =
+      let a : ℕ = active .alpha .0 in
+      let b : ℕ = active .beta .0 in
+      let old : List ℕ = tailAt c a in
+      let old-long : length old ≡ 472 = tail-long c a (active-inside c ds sound-c) in
+      let number : l / 128 < 112 = omega (arith, below, active-volume c ds sound-c) in
+      let tail : List ℕ = tailWith old (l / 128) b in
+      let head : List ℕ = descriptorBlock (extendedOf active 2) tail in
+      let table : List ℕ = tableWith (pick (eqb (m .0) 0) zeroBlock (blockAt c (m .0))) (l % 128) (b + 1) in
+      extended-chain c ds sound-c (store (b + 1) block ∷ store b table ∷ store a head ∷ []) w
+      (λ q u. not-stored (b + 1) block (store b table ∷ store a head ∷ []) q (λ v. omega (arith, rise, v))
+      (not-stored b table (store a head ∷ []) q (λ v. omega (arith, rise, v)) (not-stored a head [] q (λ v. omega (arith, v)) (none-stored q))))
+      2 fits small tail
+      (stored-last (length c) a head [] (none-stored a) c refl (store (b + 1) block ∷ store b table ∷ []) w)
+      (put-length old (l / 128) b number old-long)
+      (subst (λ (x : List ℕ). reservedOk x ≡ true) (sym (put-reserved old (l / 128) b number old-long)) (active-reserved c ds sound-c))
+      (phi-any (active .layout) (part tail 24 448) (layout-by e (eqb (active .layout) 1) refl))
+
+  entry-by : (z : Bool) → eqb taken 0 ≡ z → (n : Bool) → tableIsNew (active .alpha .0) (m .0) ≡ n → (z ≡ false → taken ≡ pick n 2 1) → Whole (length c) (storesBy z n) → After (storesBy z n) taken
+  entry-by true e n g k w = subst (λ (x : ℕ). After (store (p .0) block ∷ []) x) (sym (eqb-true taken 0 e)) (over (eqb-true taken 0 e) w)
+  entry-by false e true g k w =
+      let q : taken ≡ 2 = k refl in
+      subst (λ (x : ℕ). After (store (active .beta .0 + 1) block ∷ setInNewTable c active (m .0) l) x) (sym q) (through-new g (omega (arith, room, q)) w)
+  entry-by false e false g k w =
+      let q : taken ≡ 1 = k refl in
+      subst (λ (x : ℕ). After (store (active .beta .0) block ∷ setInTable c active (m .0) l) x) (sym q) (through-table g (omega (arith, room, q)) w)
+
+  entry-chain : Whole (length c) (writing c active (Entry m p) l block) → After (writing c active (Entry m p) l block) taken
+  unfolding writing
+  entry-chain w =
+      entry-by (eqb taken 0) refl (tableIsNew (active .alpha .0) (m .0)) refl (λ e. need-more (active .alpha .0) m p (eqb-false taken 0 e)) w
+
+-- a write through what was found
+found-chain : (c : List ℕ) (ds : List Descriptor) → chain c ≡ Sound ds → blockCount c ≤ 65536 → (l : ℕ) (block : List ℕ) (f : Found) → find c ds (activeOf ds) l ≡ f → isMisplaced f ≡ false
+    → l < activeOf ds .volume → activeOf ds .beta .0 + need (activeOf ds .alpha .0) f ≤ blockCount c → Whole (length c) (writing c (activeOf ds) f l block)
+    → chain (storeAll c (writing c (activeOf ds) f l block)) ≡ Sound (snapshotsOf ds ++ (extendedOf (activeOf ds) (need (activeOf ds .alpha .0) f) ∷ []))
+unfolding isMisplaced
+found-chain c ds sound-c small l block (Misplaced h) is g below room w = no (sym g)
+found-chain c ds sound-c small l block (Entry m p) is g below room w = entry-chain c ds sound-c small l block m p is below room w
+
+-- the chain after an accepted write
+pub written-chain : (c : List ℕ) (l : ℕ) (block : List ℕ) → isAccepted (answerOf (Write l block) c) ≡ true
+    → let d = activeOf (descriptorsOf c) in
+    chain (storeAll c (storesOf (Write l block) c)) ≡ Sound (snapshotsOf (descriptorsOf c) ++ (extendedOf d (need (d .alpha .0) (foundThrough c d l)) ∷ []))
+unfolding storesOf rowsOf writeRows
+written-chain c l block e =
+    let rows = rows-passed (Write l block) c e in
+    let ds : List Descriptor = descriptorsOf c in
+    found-chain c ds (chain-is (chain c) (not-false _ (rows 2 (omega arith)))) (card-most c (rows 0 (omega arith))) l block (foundThrough c (activeOf ds) l) refl
+    (rows 4 (omega arith)) (leb-false _ _ (rows 3 (omega arith))) (ltb-false _ _ (rows 5 (omega arith))) (stores-inside (Write l block) c e)

@@ -1,0 +1,286 @@
+-- The propositions that are owed of these definitions: refusals, room, check, the algorithms, the ledger over whole lists of calls, and the rollback claim.
+-- A card area and what is written to it are bytes; the claims that need it say so by AreBytes.
+use mathlib.Core.Path.{_≡_}
+use mathlib.Core.Logic.{_⊎_, _↔_}
+use mathlib.Core.Bool.{Bool, true, false, not, _&&_, _||_}
+use mathlib.Core.List.{List, [], _∷_, _++_, map}
+use Prim.Native.Nat.{ℕ, zero, suc, _+_, _*_, _<_, _≤_}
+use lib.ListN.{length, take, drop, getD, replicate}
+use Rattle.blocks.specs.Pick.{pick}
+use lib.Dec.{eqb}
+use Rattle.blocks.specs.Bytes.{blockSize, blockCount, blockAt, zeroBlock}
+use Rattle.blocks.specs.Descriptor.{physical, noDescriptor, tableCount, cost, costOf, firstOf, descriptorBlock, renamedOf, linkedOf, extendedOf, reopenedOf}
+use Rattle.blocks.specs.Chain.{chain, chainSound, named}
+use Rattle.entries.specs.Entry.{need}
+use Rattle.entries.specs.Naming.{Naming, namings, atFault}
+use Rattle.entries.specs.Rules.{Rules}
+use Rattle.calls.specs.declared.answer.Target.{Target}
+use Rattle.calls.specs.declared.answer.Record.{Record}
+use Rattle.calls.specs.Call.{Call, Ream, Read, Write, Snap, Revert, Listing, Check, Lent, None, Block, Records, Outcome, answer, accepted}
+use Rattle.calls.specs.Parts.{areaBad, descriptorsOf, activeOf, snapshotsOf, withName, targetOf, foundThrough}
+use Rattle.calls.specs.Check.{Passes}
+use Rattle.calls.specs.Ladder.{Row, row, rowsOf, answerOf}
+use Rattle.calls.specs.Effect.{lentOf}
+use Rattle.claims.specs.Algorithms.{Sigma, closeRegion, algorithm1, algorithm2, algorithm3, algorithm4, algorithm5, algorithm6}
+use Rattle.calls.specs.Step.{step, after, outcomes, isAccepted}
+use Rattle.claims.specs.History.{betaOf, Agree, isFormat, AreBytes, Standing, Position, Nowhere, At, latestSnap, without, formattable, formatted}
+use Rattle.claims.specs.Ledger.{Ledger, ledgerStep, ledgerNumber, cellRead, ledgerNames, ledgerOf}
+
+-- Refusals, formats and room.
+
+-- the blocks that a call takes on a card: a write's need, a snap's c
+unfoldable pub blocksNeeded : Call → List ℕ → ℕ
+blocksNeeded (Ream layout volume name) c = 0
+blocksNeeded (Read target name l block) c = 0
+blocksNeeded (Write l block) c = let d = activeOf (descriptorsOf c) in need (d .alpha .0) (foundThrough c d l)
+blocksNeeded (Snap name) c = costOf (activeOf (descriptorsOf c))
+blocksNeeded (Revert name) c = 0
+blocksNeeded (Listing records) c = 0
+blocksNeeded Check c = 0
+
+-- A refusal alters no byte of the card or of lent memory, and an accepted call answers 0 with place 0.
+unfoldable pub RefusalClaim : Type 0
+RefusalClaim =
+    (k : Call) (c : List ℕ)
+    → (isAccepted (answerOf k c) ≡ false → (step k c .card ≡ c) × (step k c .outcome ≡ record { answer = answerOf k c; lent = lentOf k }))
+    × (isAccepted (answerOf k c) ≡ true → step k c .outcome .answer ≡ accepted)
+
+-- A ream is accepted exactly where the area can be formatted so, whatever it holds, and leaves the format.
+unfoldable pub ReamClaim : Type 0
+ReamClaim =
+    (area : List ℕ) (layout volume : ℕ) (name : List ℕ)
+    → (isAccepted (answerOf (Ream layout volume name) area) ≡ formattable area layout volume name)
+    × (formattable area layout volume name ≡ true → step (Ream layout volume name) area .card ≡ formatted area layout volume name)
+
+-- Alpha and beta on a card with a sound chain: a write moves beta by its need, a snap opens a region of c blocks at beta, a revert goes back to
+-- the snapshot's region. The active name stays.
+pub record MovesBeta (c : List ℕ) : Type 0 where
+  pub write : (l : ℕ) (block : List ℕ) → isAccepted (answerOf (Write l block) c) ≡ true
+      → activeOf (descriptorsOf (step (Write l block) c .card)) ≡ extendedOf (activeOf (descriptorsOf c)) (blocksNeeded (Write l block) c)
+  pub snap : (name : List ℕ) → isAccepted (answerOf (Snap name) c) ≡ true
+      → descriptorsOf (step (Snap name) c .card)
+      ≡ snapshotsOf (descriptorsOf c) ++ (linkedOf (renamedOf (activeOf (descriptorsOf c)) name) (activeOf (descriptorsOf c) .beta) ∷ reopenedOf (activeOf (descriptorsOf c)) ∷ [])
+  pub revert : (name : List ℕ) → isAccepted (answerOf (Revert name) c) ≡ true
+      → activeOf (descriptorsOf (step (Revert name) c .card))
+      ≡ linkedOf (renamedOf (withName (snapshotsOf (descriptorsOf c)) name) (activeOf (descriptorsOf c) .name)) (physical 0)
+
+unfoldable pub RoomClaim : Type 0
+RoomClaim = (c : List ℕ) → MovesBeta c
+
+-- Every call but an accepted format, on a card with a sound chain, leaves a sound chain with the same layout, L and active name.
+unfoldable pub SoundClaim : Type 0
+SoundClaim =
+    (k : Call) (c : List ℕ) → chainSound (chain c) ≡ true → isFormat k c ≡ false
+    → let d = activeOf (descriptorsOf c) in
+    let e = activeOf (descriptorsOf (step k c .card)) in
+    (chainSound (chain (step k c .card)) ≡ true) × (e .layout ≡ d .layout) × (e .volume ≡ d .volume) × (e .name ≡ d .name)
+
+-- a call that stores nothing; a call that fills what is lent
+unfoldable pub isQuiet : Call → Bool
+isQuiet (Ream layout volume name) = false
+isQuiet (Read target name l block) = true
+isQuiet (Write l block) = false
+isQuiet (Snap name) = false
+isQuiet (Revert name) = false
+isQuiet (Listing records) = true
+isQuiet Check = true
+
+unfoldable pub fills : Call → Bool
+fills (Ream layout volume name) = false
+fills (Read target name l block) = true
+fills (Write l block) = false
+fills (Snap name) = false
+fills (Revert name) = false
+fills (Listing records) = true
+fills Check = false
+
+-- No call alters the card's length; a read, a listing and a check alter no byte of the card; only a read and a listing alter what is lent.
+unfoldable pub FrameClaim : Type 0
+FrameClaim =
+    (k : Call) (c : List ℕ)
+    → (length (step k c .card) ≡ length c)
+    × (isQuiet k ≡ true → step k c .card ≡ c)
+    × (fills k ≡ false → step k c .outcome .lent ≡ lentOf k)
+
+-- An accepted listing gives each descriptor's own name, alpha, beta and next, and leaves the records after them.
+unfoldable pub ListClaim : Type 0
+ListClaim =
+    (records : List Record) (c : List ℕ) → isAccepted (answerOf (Listing records) c) ≡ true
+    → let ds = descriptorsOf c in
+    (filled : List Record) × (step (Listing records) c .outcome .lent ≡ Records filled)
+    × (length filled ≡ length records)
+    × ((i : ℕ) (r : Record) → i < length ds
+    → let d = getD ds i noDescriptor in
+    getD filled i r ≡ record { name = d .name; alpha = d .alpha .0; beta = d .beta .0; next = d .next .0 })
+    × (drop (length ds) filled ≡ drop (length ds) records)
+
+-- 'No room' comes only if the blocks needed exceed those free, on any card.
+unfoldable pub NoRoomClaim : Type 0
+NoRoomClaim = (k : Call) (c : List ℕ) → answerOf k c .number ≡ 11 → blockCount c < betaOf c + blocksNeeded k c
+
+-- Each row is given exactly where its condition holds and no earlier one does; a call is accepted exactly where none holds.
+unfoldable pub TableClaim : Type 0
+TableClaim =
+    (k : Call) (c : List ℕ)
+    → ((i : ℕ) → i < length (rowsOf k c)
+    → let r = getD (rowsOf k c) i (row false 0 0) in
+    (answerOf k c ≡ answer (r .number) (r .place)) ↔ ((r .holds ≡ true) × ((j : ℕ) → j < i → getD (rowsOf k c) j (row false 0 0) .holds ≡ false)))
+    × ((answerOf k c ≡ accepted) ↔ ((i : ℕ) → i < length (rowsOf k c) → getD (rowsOf k c) i (row false 0 0) .holds ≡ false))
+
+-- Check and the algorithms.
+
+-- Check answers 0 exactly on the cards that pass.
+unfoldable pub CheckClaim : Type 0
+CheckClaim = (c : List ℕ) → (answerOf Check c ≡ accepted) ↔ Passes c
+
+-- the values that some namings add to those named before
+unfoldable pub valuesOf : List ℕ → List Naming → List ℕ
+valuesOf before [] = before
+valuesOf before (e ∷ es) = valuesOf (e .value ∷ before) es
+
+-- what stands for a naming where there is none
+abbrev pub noNaming : Naming
+noNaming = record { holder = 0; value = 0; counted = true; phi = true }
+
+-- the first fault: every earlier descriptor keeps the rules, every earlier naming of this one is in order, and this naming is not
+pub record FirstFault (c : List ℕ) (place : ℕ) : Type 0 where
+  pub index : ℕ
+  pub inside : index < length (descriptorsOf c)
+  pub earlier : (k : ℕ) → k < index → Rules c (descriptorsOf c) (getD (descriptorsOf c) k noDescriptor)
+  pub naming : ℕ
+  pub walked : naming < length (namings c (getD (descriptorsOf c) index noDescriptor))
+  pub before : let d = getD (descriptorsOf c) index noDescriptor in
+      (j : ℕ) → j < naming → atFault (descriptorsOf c) d (valuesOf [] (take j (namings c d))) (getD (namings c d) j noNaming) ≡ false
+  pub here : let d = getD (descriptorsOf c) index noDescriptor in
+      atFault (descriptorsOf c) d (valuesOf [] (take naming (namings c d))) (getD (namings c d) naming noNaming) ≡ true
+  pub holder : getD (namings c (getD (descriptorsOf c) index noDescriptor)) naming noNaming .holder ≡ place
+
+-- Check answers 10 with the block that holds the first entry at fault.
+unfoldable pub FaultClaim : Type 0
+FaultClaim = (c : List ℕ) (place : ℕ) → areaBad c ≡ false → chainSound (chain c) ≡ true → (answerOf Check c ≡ answer 10 place) ↔ FirstFault c place
+
+-- Accepted reads, writes and snaps are the paper's algorithms, block by block, in both layouts: "blocks read, tables, descriptors, alpha and beta
+-- are those of the paper's six algorithms as document 01 completes them". Sigma is the card's blocks, alpha the descriptor's own block.
+pub record FollowsAlgorithms (c : List ℕ) : Type 0 where
+  pub read : (target : Target) (name : List ℕ) (l : ℕ) (block : List ℕ) → isAccepted (answerOf (Read target name l block) c) ≡ true
+      → let d = targetOf (descriptorsOf c) target name in
+      step (Read target name l block) c .outcome .lent ≡ Block (pick (eqb (d .layout) 1) (algorithm1 (blockAt c) (d .alpha .0) l) (algorithm4 (blockAt c) (d .alpha .0) l))
+  pub write : (l : ℕ) (block : List ℕ) → isAccepted (answerOf (Write l block) c) ≡ true → (p : ℕ) → p < blockCount c
+      → let d = activeOf (descriptorsOf c) in
+      blockAt (step (Write l block) c .card) p ≡ pick (eqb (d .layout) 1) (algorithm2 (blockAt c) (d .alpha .0) l block) (algorithm5 (blockAt c) (d .alpha .0) l block) p
+  pub snap : (name : List ℕ) → isAccepted (answerOf (Snap name) c) ≡ true → (p : ℕ) → p < blockCount c
+      → let d = activeOf (descriptorsOf c) in
+      blockAt (step (Snap name) c .card) p ≡ pick (eqb (d .layout) 1) (algorithm3 (blockAt c) (d .alpha .0) (tableCount (d .volume)) name) (algorithm6 (blockAt c) (d .alpha .0) name) p
+  -- "Revert gives the snapshot's descriptor the active name and a nil next", and no other byte changes
+  pub revert : (name : List ℕ) → isAccepted (answerOf (Revert name) c) ≡ true → (p : ℕ) → p < blockCount c
+      → let v = withName (snapshotsOf (descriptorsOf c)) name in
+      blockAt (step (Revert name) c .card) p ≡ closeRegion (blockAt c) (v .alpha .0) 0 (activeOf (descriptorsOf c) .name) p
+
+unfoldable pub AlgorithmClaim : Type 0
+AlgorithmClaim = (c : List ℕ) → AreBytes c → FollowsAlgorithms c
+
+-- The ledger.
+
+-- the ledger carried along a run: its own step for each accepted call, nothing for a refused one
+unfoldable pub ledgerAfter : List Call → List ℕ → Ledger → Ledger
+ledgerAfter [] c g = g
+ledgerAfter (k ∷ ks) c g = ledgerAfter ks (step k c .card) (pick (isAccepted (answerOf k c)) (ledgerStep k g) g)
+
+unfoldable pub isReam : Call → Bool
+isReam (Ream layout volume name) = true
+isReam (Read target name l block) = false
+isReam (Write l block) = false
+isReam (Snap name) = false
+isReam (Revert name) = false
+isReam (Listing records) = false
+isReam Check = false
+
+-- the names of the first n records
+unfoldable pub recordNames : ℕ → List Record → List (List ℕ)
+recordNames n rs = map (λ (r : Record). r .name) (take n rs)
+
+-- Demand 2 of one call on a card c whose ledger is g: "on a card that passes its check, reads match a plain ledger of named volumes;
+-- 'no room' comes only if the blocks needed exceed those free".
+pub record LedgerStep (k : Call) (c : List ℕ) (g : Ledger) : Type 0 where
+  -- "reads match": what the card holds is the ledger, before the call
+  pub matches : ledgerOf c ≡ g
+  -- 4, 7, 8, 9, 12, 13 and 14 are the ledger's, in its order; besides them only 11 arises, so that 6 and 10 never do
+  pub number : isReam k ≡ false → (answerOf k c .number ≡ ledgerNumber k g) ⊎ ((ledgerNumber k g ≡ 0) × (answerOf k c .number ≡ 11))
+  pub place : answerOf k c .place ≡ 0
+  -- 11 exactly where the ledger has nothing against the call and the blocks needed exceed those free
+  pub no-room : isReam k ≡ false → (answerOf k c .number ≡ 11) ↔ ((ledgerNumber k g ≡ 0) × (blockCount c < betaOf c + blocksNeeded k c))
+  -- an accepted read gives the ledger's cell, whole
+  pub reads : (target : Target) (name : List ℕ) (l : ℕ) (block : List ℕ) → k ≡ Read target name l block → isAccepted (answerOf k c) ≡ true
+      → step k c .outcome .lent ≡ Block (cellRead g target name l)
+  -- an accepted listing gives the ledger's names in their order, and leaves the records after them
+  pub lists : (records : List Record) → k ≡ Listing records → isAccepted (answerOf k c) ≡ true
+      → (filled : List Record) × (step k c .outcome .lent ≡ Records filled) × (recordNames (length (ledgerNames g)) filled ≡ ledgerNames g) × (drop (length (ledgerNames g)) filled ≡ drop (length (ledgerNames g)) records)
+  -- "accepted calls leave one that passes, and the ledger holds"; a refused call changes nothing
+  pub passes : Passes (step k c .card)
+  pub next : ledgerOf (step k c .card) ≡ pick (isAccepted (answerOf k c)) (ledgerStep k g) g
+
+-- The ledger over whole lists: from any card that passes check, for every list of calls in which no format is accepted, and for each call of it,
+-- the card before that call matches the ledger carried so far by the ledger's own step, and LedgerStep holds of the call.
+unfoldable pub LedgerClaim : Type 0
+LedgerClaim =
+    (c : List ℕ) (ks : List Call) → AreBytes c → Passes c → Standing c ks
+    → ((i : ℕ) → i < length ks → LedgerStep (getD ks i Check) (after (take i ks) c) (ledgerAfter (take i ks) c (ledgerOf c)))
+    × Passes (after ks c)
+    × (ledgerOf (after ks c) ≡ ledgerAfter ks c (ledgerOf c))
+
+-- From a format the ledger starts with no snapshots and a volume of zeros, and the card passes, whatever the area held.
+unfoldable pub FormatClaim : Type 0
+FormatClaim =
+    (area : List ℕ) (layout volume : ℕ) (name : List ℕ) → formattable area layout volume name ≡ true
+    → Passes (formatted area layout volume name)
+    × (ledgerOf (formatted area layout volume name) ≡ record { snapshots = []; active = record { name = name; cells = replicate volume zeroBlock } })
+    × (descriptorsOf (formatted area layout volume name) ≡ firstOf layout volume name ∷ [])
+    × (blockAt (formatted area layout volume name) 0 ≡ descriptorBlock (firstOf layout volume name) (replicate 472 0))
+    × ((p : ℕ) → 0 < p → p < cost layout volume → blockAt (formatted area layout volume name) p ≡ zeroBlock)
+    × (drop (blockSize * cost layout volume) (formatted area layout volume name) ≡ drop (blockSize * cost layout volume) area)
+
+-- The rollback claim.
+
+-- Two runs from one card, of ks from position a on and of js from position b on: "right after, and after each later call, beta and every byte
+-- below it are equal in the two runs, and each later call gives the same answer". An outcome is number, place and lent memory at exit.
+pub record Matched (s : List ℕ) (ks : List Call) (a : ℕ) (js : List Call) (b : ℕ) : Type 0 where
+  pub agree : (m : ℕ) → a + m ≤ length ks → Agree (after (take (a + m) ks) s) (after (take (b + m) js) s)
+  pub answers : drop a (outcomes ks s) ≡ drop b (outcomes js s)
+
+-- What a rollback to the visit v at position k comes to, given the latest accepted snap of v before it.
+-- At i: "forget the calls from that visit's latest accepted snapshot up to and including the rollback and run the shorter list from the same start";
+-- the card right after the revert is compared with the card after the calls before the forgotten ones.
+-- Nowhere: v stands on the starting card; all calls before the rollback are forgotten, the rollback stays and is accepted there too.
+unfoldable pub Forgets : List ℕ → List ℕ → List Call → ℕ → Position → Type 0
+Forgets s v ks k (At i) = Matched s ks (suc k) (without ks i k) i
+Forgets s v ks k Nowhere =
+    (named (snapshotsOf (descriptorsOf s)) v ≡ true) × (isAccepted (answerOf (Revert v) s) ≡ true) × Matched s ks (suc k) (drop k ks) 1
+
+-- the call at position k is a revert to v, and it is accepted there
+pub record RevertedAt (s : List ℕ) (ks : List Call) (k : ℕ) (v : List ℕ) : Type 0 where
+  pub inside : k < length ks
+  pub is : getD ks k Check ≡ Revert v
+  pub accepted-there : isAccepted (answerOf (Revert v) (after (take k ks) s)) ≡ true
+
+-- For any card with a sound chain, any list of calls in which no format is accepted, and every accepted revert in it, by itself.
+unfoldable pub RollbackClaim : Type 0
+RollbackClaim =
+    (s : List ℕ) (ks : List Call) → AreBytes s → chainSound (chain s) ≡ true → Standing s ks
+    → (k : ℕ) (v : List ℕ) → RevertedAt s ks k v → Forgets s v ks k (latestSnap v s (take k ks))
+
+-- "That visit's snapshot" exists on a card that a format made, whatever the area held.
+unfoldable pub SnapshotClaim : Type 0
+SnapshotClaim =
+    (area : List ℕ) (layout volume : ℕ) (name : List ℕ) → AreBytes area → formattable area layout volume name ≡ true
+    → (ks : List Call) → Standing (formatted area layout volume name) ks
+    → (k : ℕ) (v : List ℕ) → RevertedAt (formatted area layout volume name) ks k v
+    → (i : ℕ) × (i < k) × (latestSnap v (formatted area layout volume name) (take k ks) ≡ At i)
+
+-- Demand 3, whole: the list starts from all N blocks as an accepted ream left them, in either layout.
+unfoldable pub Demand3 : Type 0
+Demand3 =
+    (area : List ℕ) (layout volume : ℕ) (name : List ℕ) → AreBytes area → formattable area layout volume name ≡ true
+    → (ks : List Call) → Standing (formatted area layout volume name) ks
+    → (k : ℕ) (v : List ℕ) → RevertedAt (formatted area layout volume name) ks k v
+    → (i : ℕ) × (i < k) × (latestSnap v (formatted area layout volume name) (take k ks) ≡ At i)
+    × Matched (formatted area layout volume name) ks (suc k) (without ks i k) i

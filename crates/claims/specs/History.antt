@@ -1,0 +1,95 @@
+-- Agreement of two cards, and which calls an accepted rollback forgets.
+use mathlib.Core.Path.{_≡_}
+use mathlib.Core.Bool.{Bool, true, false, not, _&&_, _||_}
+use mathlib.Core.List.{List, [], _∷_, _++_}
+use Prim.Native.Nat.{ℕ, zero, suc, _+_, _*_, _<_}
+use lib.ListN.{length, getD, take, drop}
+use lib.Dec.{eqb, ltb, leb}
+use Rattle.blocks.specs.Pick.{pick, same}
+use Rattle.blocks.specs.Bytes.{blockSize, blockCount, storeAll}
+use Rattle.blocks.specs.Name.{isName}
+use Rattle.blocks.specs.Descriptor.{cost, mostVolume, opening}
+use Rattle.blocks.specs.Chain.{chain, chainSound}
+use Rattle.calls.specs.Call.{Call, Ream, Read, Write, Snap, Revert, Listing, Check}
+use Rattle.calls.specs.Parts.{areaBad, descriptorsOf, activeOf}
+use Rattle.calls.specs.Ladder.{answerOf}
+use Rattle.calls.specs.Step.{step, isAccepted}
+
+-- beta, the active descriptor's
+unfoldable pub betaOf : List ℕ → ℕ
+betaOf c = activeOf (descriptorsOf c) .beta .0
+
+-- two cards agree: same length, sound chains, equal beta, equal bytes below it
+pub record Agree (s t : List ℕ) : Type 0 where
+  pub long : length s ≡ length t
+  pub sound : chainSound (chain s) ≡ true
+  pub sound′ : chainSound (chain t) ≡ true
+  pub beta : betaOf s ≡ betaOf t
+  pub below : take (blockSize * betaOf s) s ≡ take (blockSize * betaOf s) t
+
+-- whether a call is an accepted format of the card; on cards of one length that depends on nothing else of the card
+unfoldable pub isFormat : Call → List ℕ → Bool
+isFormat (Ream layout volume name) c = isAccepted (answerOf (Ream layout volume name) c)
+isFormat (Read target name l block) c = false
+isFormat (Write l block) c = false
+isFormat (Snap name) c = false
+isFormat (Revert name) c = false
+isFormat (Listing records) c = false
+isFormat Check c = false
+
+-- numbers below 256: what a card area holds, and what is lent
+abbrev pub AreBytes : List ℕ → Type 0
+AreBytes bytes = (i : ℕ) → getD bytes i 0 < 256
+
+-- what a write puts on the card
+unfoldable pub writtenBy : Call → List ℕ
+writtenBy (Ream layout volume name) = []
+writtenBy (Read target name l block) = []
+writtenBy (Write l block) = block
+writtenBy (Snap name) = []
+writtenBy (Revert name) = []
+writtenBy (Listing records) = []
+writtenBy Check = []
+
+-- the lists of calls that the claims speak of: reads, writes of bytes, snaps, reverts, lists, checks and refused reams, in any order
+pub data Standing (c : List ℕ) : List Call → Type 0 where
+  none : Standing c []
+  more : {k : Call} {ks : List Call} → isFormat k c ≡ false → AreBytes (writtenBy k) → Standing c ks → Standing c (k ∷ ks)
+
+-- whether a call is a snap under the name
+unfoldable pub isSnapOf : List ℕ → Call → Bool
+isSnapOf name (Ream layout volume n) = false
+isSnapOf name (Read target n l block) = false
+isSnapOf name (Write l block) = false
+isSnapOf name (Snap n) = same n name
+isSnapOf name (Revert n) = false
+isSnapOf name (Listing records) = false
+isSnapOf name Check = false
+
+-- a position in a list, or none
+pub data Position : Type 0 where
+  Nowhere : Position
+  At : ℕ → Position
+
+-- the position of the latest accepted snap under the name, in a run from a card; i calls have passed, and best is the latest so far
+unfoldable pub latestFrom : List ℕ → List ℕ → List Call → ℕ → Position → Position
+latestFrom name c [] i best = best
+latestFrom name c (k ∷ ks) i best =
+    let here = isSnapOf name k && isAccepted (answerOf k c) in
+    latestFrom name (step k c .card) ks (suc i) (pick here (At i) best)
+
+unfoldable pub latestSnap : List ℕ → List ℕ → List Call → Position
+latestSnap name c ks = latestFrom name c ks 0 Nowhere
+
+-- the list without the calls from position i up to and including position k: those that the rollback at k forgets, where the visit's latest accepted snap is at i
+unfoldable pub without : List Call → ℕ → ℕ → List Call
+without ks i k = take i ks ++ drop (suc k) ks
+
+-- what a card can be formatted to: the area is a card, and layout, L, name and c are those of one
+unfoldable pub formattable : List ℕ → ℕ → ℕ → List ℕ → Bool
+formattable area layout volume name =
+    not (areaBad area) && (eqb layout 1 || eqb layout 2) && ltb 0 volume && leb volume mostVolume && isName name && leb (cost layout volume) (blockCount area)
+
+-- all N blocks as an accepted ream leaves them, whatever the untouched blocks held
+unfoldable pub formatted : List ℕ → ℕ → ℕ → List ℕ → List ℕ
+formatted area layout volume name = storeAll area (opening layout volume name)

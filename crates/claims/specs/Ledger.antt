@@ -1,0 +1,104 @@
+-- The ledger: an ordered list of named volumes, one for each snapshot, and an active one. Its step knows no bytes of a card, no alpha, no beta and no tables.
+use mathlib.Core.Bool.{Bool, true, false, not, _&&_, _||_}
+use mathlib.Core.List.{List, [], _∷_, _++_}
+use Prim.Native.Nat.{ℕ, zero, suc}
+use lib.ListN.{length, getD, set}
+use lib.Dec.{eqb, ltb, leb}
+use Rattle.blocks.specs.Pick.{pick, same}
+use Rattle.blocks.specs.Bytes.{blockSize}
+use Rattle.blocks.specs.Name.{isName, noName}
+use Rattle.blocks.specs.declared.descriptor.Descriptor.{Descriptor}
+use Rattle.calls.specs.declared.answer.Target.{Target}
+use Rattle.calls.specs.declared.answer.Target.the-variants.{Active, Snapshot}
+use Rattle.calls.specs.Call.{Call, Ream, Read, Write, Snap, Revert, Listing, Check}
+use Rattle.calls.specs.Parts.{descriptorsOf, activeOf, snapshotsOf, isSnapshot, foundThrough, blockFound, mostSnapshots}
+use Rattle.calls.specs.Ladder.{Row, row, firstRow, nameRow, blockRow}
+
+-- a named volume: the content of each of its logical blocks
+pub record Volume : Type 0 where
+  pub name : List ℕ
+  pub cells : List (List ℕ)
+
+pub record Ledger : Type 0 where
+  pub snapshots : List Volume
+  pub active : Volume
+
+abbrev pub noVolume : Volume
+noVolume = record { name = noName; cells = [] }
+
+-- whether a volume has the name; the volume that has it; those before it
+unfoldable pub hasVolume : List Volume → List ℕ → Bool
+hasVolume [] name = false
+hasVolume (v ∷ vs) name = same (v .name) name || hasVolume vs name
+
+unfoldable pub volumeNamed : List Volume → List ℕ → Volume
+volumeNamed [] name = noVolume
+volumeNamed (v ∷ vs) name = pick (same (v .name) name) v (volumeNamed vs name)
+
+unfoldable pub volumesBefore : List Volume → List ℕ → List Volume
+volumesBefore [] name = []
+volumesBefore (v ∷ vs) name = pick (same (v .name) name) [] (v ∷ volumesBefore vs name)
+
+-- what an accepted call makes of the ledger
+unfoldable pub ledgerStep : Call → Ledger → Ledger
+ledgerStep (Ream layout volume name) g = g
+ledgerStep (Read target name l block) g = g
+ledgerStep (Write l block) g = record { snapshots = g .snapshots; active = record { name = g .active .name; cells = set (g .active .cells) l block } }
+ledgerStep (Snap name) g = record { snapshots = g .snapshots ++ (record { name = name; cells = g .active .cells } ∷ []); active = g .active }
+ledgerStep (Revert name) g = record { snapshots = volumesBefore (g .snapshots) name; active = record { name = g .active .name; cells = volumeNamed (g .snapshots) name .cells } }
+ledgerStep (Listing records) g = g
+ledgerStep Check g = g
+
+-- the rows of 01's table that a ledger can judge: 4, 9, 7, 12, 13, 8, 14
+unfoldable pub ledgerRows : Call → Ledger → List Row
+ledgerRows (Ream layout volume name) g = []
+ledgerRows (Read target name l block) g =
+    row (isSnapshot target && not (isName name)) 4 0
+    ∷ blockRow block
+    ∷ row (isSnapshot target && not (hasVolume (g .snapshots) name)) 7 0
+    ∷ row (leb (length (g .active .cells)) l) 8 0
+    ∷ []
+ledgerRows (Write l block) g = blockRow block ∷ row (leb (length (g .active .cells)) l) 8 0 ∷ []
+ledgerRows (Snap name) g =
+    nameRow name
+    ∷ row (hasVolume (g .snapshots) name || same (g .active .name) name) 12 0
+    ∷ row (leb mostSnapshots (length (g .snapshots))) 13 0
+    ∷ []
+ledgerRows (Revert name) g = nameRow name ∷ row (not (hasVolume (g .snapshots) name)) 7 0 ∷ []
+ledgerRows (Listing records) g = row (ltb (length records) (suc (length (g .snapshots)))) 14 0 ∷ []
+ledgerRows Check g = []
+
+-- the number that the ledger gives a call: 0, or one of these
+unfoldable pub ledgerNumber : Call → Ledger → ℕ
+ledgerNumber k g = firstRow (ledgerRows k g) .number
+
+-- the volume that a read goes to, and the content that it gives
+unfoldable pub volumeRead : Ledger → Target → List ℕ → Volume
+volumeRead g Active name = g .active
+volumeRead g Snapshot name = volumeNamed (g .snapshots) name
+
+unfoldable pub cellRead : Ledger → Target → List ℕ → ℕ → List ℕ
+cellRead g target name l = getD (volumeRead g target name .cells) l []
+
+-- the names in order, the active one last
+unfoldable pub namesFrom : List Volume → List ℕ → List (List ℕ)
+namesFrom [] active = active ∷ []
+namesFrom (v ∷ vs) active = v .name ∷ namesFrom vs active
+
+unfoldable pub ledgerNames : Ledger → List (List ℕ)
+ledgerNames g = namesFrom (g .snapshots) (g .active .name)
+
+-- the ledger of a card: for each descriptor its name and what a read through it gives of each logical block, n of them from l on
+unfoldable pub cellsFrom : List ℕ → Descriptor → ℕ → ℕ → List (List ℕ)
+cellsFrom c d zero l = []
+cellsFrom c d (suc n) l = blockFound c (foundThrough c d l) ∷ cellsFrom c d n (suc l)
+
+unfoldable pub volumeOf : List ℕ → Descriptor → Volume
+volumeOf c d = record { name = d .name; cells = cellsFrom c d (d .volume) 0 }
+
+unfoldable pub volumesOf : List ℕ → List Descriptor → List Volume
+volumesOf c [] = []
+volumesOf c (d ∷ ds) = volumeOf c d ∷ volumesOf c ds
+
+unfoldable pub ledgerOf : List ℕ → Ledger
+ledgerOf c = record { snapshots = volumesOf c (snapshotsOf (descriptorsOf c)); active = volumeOf c (activeOf (descriptorsOf c)) }

@@ -1,0 +1,7 @@
+-- What is claimed of the calls, in reading order.
+pub mod Algorithms
+pub mod History
+pub mod Ledger
+pub mod Claims
+pub mod Bench
+pub mod Example
