@@ -1,8 +1,8 @@
 -- Laws of parts, splices, 32-bit numbers, blocks and stores.
 use mathlib.Core.Path.{_≡_, refl, sym, ap, _∙_}
 use mathlib.Core.Logic.{_⊎_, inl, inr}
-use mathlib.Core.List.{List, [], _∷_, _++_, append-assoc, append-nil}
-use Prim.Native.Nat.{ℕ, suc, _+_, _*_, _-_, _≤_, _<_, _/_, _%_, _^_}
+use mathlib.Core.List.{List, _++_, append-assoc, append-nil}
+use Prim.Native.Nat.{ℕ, _+_, _*_, _-_, _≤_, _<_, _/_, _%_, _^_}
 use native.Mathlib.Numerals.{add-one}
 use native.Mathlib.Omega.{arith}
 use native.Mathlib.Nat.{add-assoc, zero-add, add-zero, div-div-eq-div-mul, div-add-mod'}
@@ -10,7 +10,7 @@ use mathlib.Core.Bool.{Bool, true, false}
 use lib.Dec.{ltb}
 use borrow.Author.Tests.{ltb-true, ltb-false}
 use lib.ListN.{length, take, drop, getD, set, length-append, length-take, length-drop, List·getD-append}
-use lib.Seq.{take-length, drop-length, paste, paste-zero, paste-suc, take-at, drop-at, getD-take, getD-drop, getD-append-add, ext-getD, drop-drop, drop-append-add}
+use lib.Seq.{take-length, drop-length, paste, paste-zero, paste-suc, take-at, getD-take, getD-drop, getD-append-add, ext-getD, drop-drop, drop-append-add}
 use Rattle.blocks.specs.Bytes.{u32At, le32, splice, part, blockAt, storeBlock}
 
 -- area after the first n elements of s were copied in from index at. Shut, so that `_` and `rw` find its arguments

@@ -1,11 +1,11 @@
 -- Laws of a descriptor's bytes: its fields put one after the other are its bytes, and a descriptor that was stored is the one that is read.
 use mathlib.Core.Path.{_≡_, refl, sym, ap, _∙_}
 use mathlib.Core.Bool.{Bool, true, false}
-use mathlib.Core.List.{List, [], _∷_, _++_}
+use mathlib.Core.List.{List, _++_}
 use Prim.Native.Nat.{ℕ, _+_, _*_, _≤_, _<_, _^_}
 use native.Mathlib.Omega.{arith}
-use lib.ListN.{length, take, drop, length-append, length-drop}
-use lib.Seq.{take-all, drop-drop}
+use lib.ListN.{length, drop, length-append, length-drop}
+use lib.Seq.{take-all}
 use Rattle.blocks.specs.Pick.{same}
 use Rattle.blocks.specs.Bytes.{u32At, u64At, le32, splice, part, blockAt, storeBlock}
 use Rattle.blocks.specs.Descriptor.{mark, descriptorAt, headBytes, tailAt, descriptorBlock}

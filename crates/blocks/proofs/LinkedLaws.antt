@@ -1,9 +1,8 @@
 -- What a sound chain is: descriptors, each sound after those before it and each where the one before it ends.
 use mathlib.Core.Path.{_≡_, refl, sym, ap, _∙_, subst}
-use mathlib.Core.Bool.{Bool, true, false, not, _&&_, _||_}
-use mathlib.Core.List.{List, [], _∷_, _++_, append-nil}
-use Prim.Native.Nat.{ℕ, zero, suc, _+_, _*_, _-_, _≤_, _<_}
-use native.Mathlib.Numerals.{add-one}
+use mathlib.Core.Bool.{Bool, true, false, not, _&&_}
+use mathlib.Core.List.{List, [], _∷_, _++_}
+use Prim.Native.Nat.{ℕ, zero, suc, _+_, _-_, _≤_, _<_}
 use native.Mathlib.Omega.{arith}
 use lib.ListN.{length, take, getD, replicate, List·getD-append, length-append, length-replicate}
 use lib.Seq.{append-snoc, take-append-le}
@@ -11,12 +10,12 @@ use lib.Dec.{eqb}
 use borrow.Author.Tests.{eqb-true, eqb-false}
 use Rattle.blocks.specs.Pick.{pick}
 use Rattle.blocks.specs.Bytes.{blockCount}
-use Rattle.blocks.specs.Descriptor.{physical, cost, costOf, noDescriptor, descriptorAt}
+use Rattle.blocks.specs.Descriptor.{physical, costOf, noDescriptor, descriptorAt}
 use Rattle.blocks.specs.Chain.{formOk, regionOk, named, sound, Chain, Unsound, Sound, descriptorsAt, chainFrom, chain, descriptors, ends, startsOf, regionsOf}
 use Rattle.blocks.specs.declared.descriptor.Descriptor.{Descriptor}
 use Rattle.blocks.specs.declared.chain.Regions.{Regions}
 use Rattle.blocks.proofs.Tests.{and-left, and-right}
-use Rattle.blocks.proofs.ChainLaws.{region-layout, region-volume, region-alpha, region-long, region-end, region-next, cost-least, length-ends}
+use Rattle.blocks.proofs.ChainLaws.{region-layout, region-volume, region-alpha, region-long, region-end, region-next, length-ends}
 
 -- the descriptors from block p on, after the earlier ones
 pub data Linked (c : List ℕ) : List Descriptor → ℕ → List Descriptor → Type 0 where

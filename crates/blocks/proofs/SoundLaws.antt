@@ -1,19 +1,17 @@
 -- Laws of soundness: the tests of the code, in their order, and what a sound descriptor's fields satisfy.
-use mathlib.Core.Path.{_≡_, refl, sym, ap, _∙_}
-use mathlib.Core.Logic.{_⊎_, inl, inr}
+use mathlib.Core.Path.{_≡_, refl, sym, _∙_}
 use mathlib.Core.Bool.{Bool, true, false, not, _&&_, _||_}
-use mathlib.Core.List.{List, [], _∷_, _++_}
+use mathlib.Core.List.{List}
 use Prim.Native.Nat.{ℕ, _+_, _*_, _-_, _≤_, _<_}
 use native.Mathlib.Omega.{arith}
-use native.Mathlib.Nat.{add-sub-cancel-left}
-use lib.ListN.{length, take, drop}
+use lib.ListN.{take, drop}
 use lib.Dec.{eqb, ltb, leb}
-use borrow.Author.Tests.{eq-eqb, ne-eqb, lt-ltb, le-ltb, le-leb, lt-leb, eqb-true, eqb-false, ltb-true, leb-true, not-true, not-false}
-use Rattle.blocks.specs.Pick.{pick, same, allZero}
-use Rattle.blocks.specs.Bytes.{part, blockCount}
+use borrow.Author.Tests.{eq-eqb, ne-eqb, lt-ltb, le-leb, lt-leb, eqb-false, ltb-true, leb-true, not-true, not-false}
+use Rattle.blocks.specs.Pick.{same, allZero}
+use Rattle.blocks.specs.Bytes.{part}
 use Rattle.blocks.specs.Name.{isName}
-use Rattle.blocks.specs.Descriptor.{mark, cost, costOf, descriptorAt, reservedOk, phiOk}
-use Rattle.blocks.specs.Chain.{formOk, regionOk, named, sound}
+use Rattle.blocks.specs.Descriptor.{mark, reservedOk, phiOk}
+use Rattle.blocks.specs.Chain.{formOk, sound}
 use Rattle.blocks.specs.declared.descriptor.Descriptor.{Descriptor}
 use Rattle.blocks.proofs.Tests.{and-left, and-right}
 

@@ -1,9 +1,9 @@
 -- A descriptor: its bytes both ways, n and c, its changes, and the blocks that a format leaves.
-use mathlib.Core.Bool.{Bool, true, false, _&&_, _||_}
+use mathlib.Core.Bool.{Bool, true}
 use mathlib.Core.List.{List, [], _∷_, _++_}
 use Prim.Native.Nat.{ℕ, zero, suc, _+_, _*_, _-_, _/_}
-use lib.ListN.{length, replicate}
-use lib.Dec.{eqb, ltb, leb}
+use lib.ListN.{replicate}
+use lib.Dec.{eqb}
 use Rattle.blocks.specs.Pick.{pick, allZero}
 use Rattle.blocks.specs.Bytes.{blockSize, part, u32At, le32, blockAt, Store, store}
 use Rattle.blocks.specs.Name.{noName}

@@ -1,25 +1,23 @@
 -- What a call knows of a card once the walk along its chain has found no fault, and of one with a fault.
 use mathlib.Core.Path.{_≡_, refl, sym, ap, _∙_}
-use mathlib.Core.Bool.{Bool, true, false, not, _&&_, _||_}
-use mathlib.Core.List.{List, [], _∷_, _++_}
-use Prim.Native.Nat.{ℕ, zero, suc, _+_, _*_, _-_, _/_, _%_, _≤_, _<_}
+use mathlib.Core.Bool.{Bool, true, false, not, _||_}
+use mathlib.Core.List.{List, [], _∷_}
+use Prim.Native.Nat.{ℕ, suc, _+_, _*_, _-_, _%_, _≤_, _<_}
 use native.Mathlib.Omega.{arith}
 use lib.ListN.{length, take, getD}
 use lib.Seq.{length-take-le, getD-take, take-length}
 use lib.Dec.{eqb, ltb}
 use borrow.Author.Tests.{eqb-true, ltb-false}
-use Rattle.blocks.specs.Pick.{pick}
 use Rattle.blocks.specs.Bytes.{blockCount}
-use Rattle.blocks.specs.Descriptor.{physical, costOf, noDescriptor, descriptorAt}
+use Rattle.blocks.specs.Descriptor.{physical, noDescriptor, descriptorAt}
 use Rattle.blocks.specs.Chain.{Chain, Unsound, Sound, chain, chainSound, chainPlace, descriptors, descriptorsAt, startsOf, regionsOf}
-use Rattle.blocks.specs.declared.numbers.Physical.{Physical}
 use Rattle.blocks.specs.declared.descriptor.Descriptor.{Descriptor}
 use Rattle.blocks.specs.declared.chain.Regions.{Regions}
 use Rattle.blocks.proofs.ChainLaws.{region-volume}
-use Rattle.blocks.proofs.LinkedLaws.{Linked, chain-linked, regions-sound, starts-take, linked-some, chain-few, starts-full, RegionAt, at-alpha}
+use Rattle.blocks.proofs.LinkedLaws.{Linked, chain-linked, regions-sound, starts-take, linked-some, chain-few, starts-full, at-alpha}
 use Rattle.entries.specs.Through.{Through}
 use Rattle.entries.proofs.RegionLaws.{through-at, through-region, through-rising}
-use Rattle.entries.proofs.EntryLaws.{through-alpha, through-beta, through-end}
+use Rattle.entries.proofs.EntryLaws.{through-alpha}
 use Rattle.calls.specs.Parts.{areaBad, activeOf, snapshotsOf}
 
 -- the last of a list, and the others
@@ -165,3 +163,9 @@ module _ (c : List ℕ) (r : Regions) (is : r ≡ regionsOf (chain c)) where
         ap (λ (xs : List Descriptor). getD xs k noDescriptor) (snapshots-at ds (linked-some linked))
         ∙ getD-take (length ds - 1) ds k noDescriptor (omega (arith, card-count))
         ∙ card-at k (omega arith)
+
+-- a sound chain is its descriptors
+pub chain-is : (ch : Chain) → chainSound ch ≡ true → ch ≡ Sound (descriptors ch)
+unfolding chainSound descriptors
+chain-is (Sound ds) e = refl
+chain-is (Unsound p) e = let z : _≡_ {A = ℕ} 0 1 = cc in absurd (omega arith)

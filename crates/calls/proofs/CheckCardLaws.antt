@@ -1,16 +1,15 @@
 -- Laws of the check of a card, as the code asks them.
-use mathlib.Core.Path.{_≡_, refl, sym, ap, _∙_}
-use mathlib.Core.Bool.{Bool, true, false, not, _&&_, _||_}
-use mathlib.Core.List.{List, [], _∷_, _++_}
-use Prim.Native.Nat.{ℕ, zero, suc, _+_, _*_, _-_, _≤_, _<_}
+use mathlib.Core.Path.{_≡_, refl, sym, _∙_}
+use mathlib.Core.Bool.{Bool, true, false, not}
+use mathlib.Core.List.{List}
+use Prim.Native.Nat.{ℕ, _+_, _*_, _≤_, _<_}
 use native.Mathlib.Numerals.{add-one}
 use native.Mathlib.Omega.{arith}
 use lib.ListN.{length, drop, getD, drop-of-length-le}
 use lib.Seq.{drop-cons}
 use borrow.Author.Tests.{not-true, not-false}
-use Rattle.blocks.specs.Pick.{pick}
 use Rattle.blocks.specs.Descriptor.{physical, noDescriptor, descriptorAt}
-use Rattle.blocks.specs.Chain.{chain, chainSound, chainPlace, descriptors, regionsOf}
+use Rattle.blocks.specs.Chain.{chain, descriptors, regionsOf}
 use Rattle.blocks.specs.declared.numbers.Physical.{Physical}
 use Rattle.blocks.specs.declared.descriptor.Descriptor.{Descriptor}
 use Rattle.blocks.specs.declared.chain.Regions.{Regions}
@@ -18,7 +17,7 @@ use Rattle.entries.specs.Through.{Through}
 use Rattle.entries.specs.Naming.{checkOne}
 use Rattle.entries.specs.declared.check.Verdict.{Verdict}
 use Rattle.entries.specs.declared.check.Verdict.the-variants.{Passed, Fault}
-use Rattle.calls.specs.Call.{Call, Check, answer, accepted}
+use Rattle.calls.specs.Call.{Check, answer, accepted}
 use Rattle.calls.specs.Parts.{areaBad}
 use Rattle.calls.specs.Check.{orElse, checkAll, checkCard, isFault, faultHolder}
 use Rattle.calls.specs.Ladder.{firstRow, checkRows, rowsOf, answerOf}

@@ -1,4 +1,5 @@
 -- Laws of the definitions of the calls, which the proofs of the calls and the theorems cite.
+pub mod RowLaws
 pub mod StepLaws
 pub mod NamedLaws
 pub mod CardLaws
@@ -8,3 +9,4 @@ pub mod SnapLaws
 pub mod CheckCardLaws
 pub mod ReadLaws
 pub mod WriteLaws
+pub mod ListLaws

@@ -1,18 +1,18 @@
 -- Laws of the read, as the code asks them.
 use mathlib.Core.Path.{_≡_, refl, sym, ap, _∙_}
-use mathlib.Core.Bool.{Bool, true, false, not, _&&_, _||_}
-use mathlib.Core.List.{List, [], _∷_, _++_}
-use Prim.Native.Nat.{ℕ, zero, suc, _+_, _*_, _-_, _≤_, _<_}
+use mathlib.Core.Bool.{Bool, true, false, not, _&&_}
+use mathlib.Core.List.{List, [], _∷_}
+use Prim.Native.Nat.{ℕ, suc, _+_, _-_, _≤_, _<_}
 use native.Mathlib.Omega.{arith}
 use lib.ListN.{length, take, getD}
 use lib.Seq.{length-take-le}
-use lib.Dec.{eqb, ltb, leb}
+use lib.Dec.{eqb}
 use borrow.Author.Tests.{eq-eqb, ne-eqb, lt-ltb, le-ltb, le-leb, lt-leb, eqb-true, eqb-false, not-true, not-false}
 use Rattle.blocks.specs.Pick.{pick, same}
 use Rattle.blocks.specs.Bytes.{blockAt, zeroBlock, splice, storeAll}
 use Rattle.blocks.specs.Name.{isName}
-use Rattle.blocks.specs.Descriptor.{physical, noDescriptor, descriptorAt}
-use Rattle.blocks.specs.Chain.{chain, chainSound, chainPlace, descriptors, named, descriptorsAt, regionsOf}
+use Rattle.blocks.specs.Descriptor.{descriptorAt}
+use Rattle.blocks.specs.Chain.{chain, descriptors, named, descriptorsAt, regionsOf}
 use Rattle.blocks.specs.declared.numbers.Physical.{Physical}
 use Rattle.blocks.specs.declared.descriptor.Descriptor.{Descriptor}
 use Rattle.blocks.specs.declared.chain.Regions.{Regions}
@@ -24,14 +24,14 @@ use Rattle.entries.specs.declared.find.Found.the-variants.{Misplaced, Entry}
 use Rattle.calls.specs.declared.answer.Answer.{Answer}
 use Rattle.calls.specs.declared.answer.Target.{Target}
 use Rattle.calls.specs.declared.answer.Target.the-variants.{Active, Snapshot}
-use Rattle.calls.specs.Call.{Call, Read, Lent, Block, answer, accepted}
-use Rattle.calls.specs.Parts.{areaBad, activeOf, snapshotsOf, withName, indexOf, isSnapshot, targetOf, targetIndex, isMisplaced, holderOf, blockFound}
+use Rattle.calls.specs.Call.{Call, Read, Block, answer, accepted}
+use Rattle.calls.specs.Parts.{areaBad, activeOf, snapshotsOf, indexOf, isSnapshot, targetOf, targetIndex, isMisplaced, holderOf, blockFound}
 use Rattle.calls.specs.Ladder.{firstRow, readRows, rowsOf, answerOf}
 use Rattle.calls.specs.Effect.{Delivered, delivered, lentOf, filledOf, storesOf}
 use Rattle.calls.specs.Step.{Done, step}
 use Rattle.calls.proofs.NamedLaws.{named-index, with-name-index}
 use Rattle.calls.proofs.StepLaws.{step-refused, step-accepted}
-use Rattle.calls.proofs.CardLaws.{card-fault, card-sound, card-some, card-count, card-at, card-snapshots, card-snapshot-count, card-snapshot, card-active, card-volume}
+use Rattle.calls.proofs.CardLaws.{card-fault, card-sound, card-some, card-snapshots, card-snapshot-count, card-snapshot, card-active, card-volume}
 
 -- the index of what is read
 pub snapshots-counted : (c starts : List ℕ) (n : ℕ) → n ≤ length starts → length (descriptorsAt c (take n starts)) ≡ n

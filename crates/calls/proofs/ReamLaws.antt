@@ -1,20 +1,19 @@
 -- Laws of the format, as the code asks them.
 use mathlib.Core.Path.{_≡_, refl, sym, ap, _∙_}
-use mathlib.Core.Bool.{Bool, true, false, not, _&&_, _||_}
+use mathlib.Core.Bool.{Bool, true, false, not, _||_}
 use mathlib.Core.List.{List, [], _∷_, _++_}
-use Prim.Native.Nat.{ℕ, zero, suc, _+_, _*_, _-_, _/_, _≤_, _<_}
+use Prim.Native.Nat.{ℕ, _-_, _/_, _≤_, _<_}
 use native.Mathlib.Omega.{arith}
 use lib.ListN.{length, replicate, drop}
-use lib.Dec.{eqb, ltb, leb}
-use borrow.Author.Tests.{eq-eqb, ne-eqb, lt-ltb, le-ltb, eqb-false, not-true, not-false}
-use Rattle.blocks.specs.Pick.{pick}
-use Rattle.blocks.specs.Bytes.{splice, Store, store, storeBlock, storeAll, blockCount}
+use lib.Dec.{eqb}
+use borrow.Author.Tests.{eq-eqb, ne-eqb, lt-ltb, le-ltb, eqb-false}
+use Rattle.blocks.specs.Bytes.{splice, store, storeBlock, storeAll, blockCount}
 use Rattle.blocks.specs.Name.{isName}
-use Rattle.blocks.specs.Descriptor.{physical, cost, firstOf, headBytes, descriptorBlock, clearing, opening}
+use Rattle.blocks.specs.Descriptor.{physical, cost, headBytes, descriptorBlock, clearing, opening}
 use Rattle.blocks.specs.declared.descriptor.Descriptor.{Descriptor}
 use Rattle.blocks.proofs.ByteLaws.{splice-start}
 use Rattle.blocks.proofs.NameLaws.{drop-replicate}
-use Rattle.calls.specs.Call.{Call, Ream, answer, accepted}
+use Rattle.calls.specs.Call.{Ream, answer, accepted}
 use Rattle.calls.specs.Parts.{areaBad}
 use Rattle.calls.specs.Ladder.{firstRow, reamRows, rowsOf, answerOf}
 use Rattle.calls.proofs.StepLaws.{stored-append, stored-one}

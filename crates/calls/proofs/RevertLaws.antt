@@ -1,26 +1,25 @@
 -- Laws of the revert, as the code asks them.
 use mathlib.Core.Path.{_≡_, refl, sym, ap, _∙_}
-use mathlib.Core.Bool.{Bool, true, false, not, _&&_, _||_}
-use mathlib.Core.List.{List, [], _∷_, _++_}
-use Prim.Native.Nat.{ℕ, zero, suc, _+_, _*_, _-_, _≤_, _<_}
+use mathlib.Core.Bool.{Bool, true, false, not}
+use mathlib.Core.List.{List}
+use Prim.Native.Nat.{ℕ, _-_, _<_}
 use native.Mathlib.Omega.{arith}
-use lib.ListN.{length, take, getD}
-use lib.Dec.{eqb, ltb}
+use lib.ListN.{take, getD}
+use lib.Dec.{ltb}
 use borrow.Author.Tests.{lt-ltb, le-ltb, not-true, not-false}
-use Rattle.blocks.specs.Pick.{pick}
 use Rattle.blocks.specs.Bytes.{storeBlock, storeAll}
 use Rattle.blocks.specs.Name.{isName}
-use Rattle.blocks.specs.Descriptor.{physical, noDescriptor, descriptorAt, tailAt, descriptorBlock, renamedOf, linkedOf}
-use Rattle.blocks.specs.Chain.{chain, chainSound, chainPlace, descriptors, named, descriptorsAt, regionsOf}
+use Rattle.blocks.specs.Descriptor.{physical, descriptorAt, tailAt, descriptorBlock, renamedOf, linkedOf}
+use Rattle.blocks.specs.Chain.{chain, descriptors, named, descriptorsAt, regionsOf}
 use Rattle.blocks.specs.declared.descriptor.Descriptor.{Descriptor}
 use Rattle.blocks.specs.declared.chain.Regions.{Regions}
-use Rattle.calls.specs.Call.{Call, Revert, answer, accepted}
+use Rattle.calls.specs.Call.{Revert, answer, accepted}
 use Rattle.calls.specs.Parts.{areaBad, activeOf, snapshotsOf, withName, indexOf}
 use Rattle.calls.specs.Ladder.{firstRow, revertRows, rowsOf, answerOf}
 use Rattle.calls.specs.Effect.{reverting, storesOf}
 use Rattle.calls.proofs.NamedLaws.{named-index, with-name-index}
 use Rattle.calls.proofs.StepLaws.{stored-one}
-use Rattle.calls.proofs.CardLaws.{card-fault, card-sound, card-some, card-inside, card-long, card-snapshots, card-snapshot-count, card-snapshot, card-alpha, card-at, card-active}
+use Rattle.calls.proofs.CardLaws.{card-fault, card-sound, card-snapshots, card-snapshot-count, card-snapshot, card-alpha, card-at, card-active}
 
 -- the rows of a revert, in the order of the code
 module _ (c : List ℕ) (name : List ℕ) (bad : Bool) (area : bad ≡ areaBad c) where

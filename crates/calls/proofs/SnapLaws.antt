@@ -1,23 +1,23 @@
 -- Laws of the snapshot, as the code asks them.
 use mathlib.Core.Path.{_≡_, refl, sym, ap, _∙_}
-use mathlib.Core.Bool.{Bool, true, false, not, _&&_, _||_}
+use mathlib.Core.Bool.{Bool, true, false, not}
 use mathlib.Core.List.{List, [], _∷_, _++_}
 use Prim.Native.Nat.{ℕ, zero, suc, _+_, _*_, _-_, _/_, _≤_, _<_}
 use native.Mathlib.Numerals.{add-one}
 use native.Mathlib.Omega.{arith}
 use lib.ListN.{length, take, getD}
-use lib.Dec.{eqb, ltb, leb}
+use lib.Dec.{ltb}
 use borrow.Author.Tests.{lt-ltb, le-ltb, le-leb, lt-leb, not-true, not-false}
 use Rattle.blocks.specs.Pick.{pick}
 use Rattle.blocks.specs.Bytes.{Store, store, blockCount, blockAt, storeBlock, storeAll}
 use Rattle.blocks.specs.Name.{isName}
-use Rattle.blocks.specs.Descriptor.{physical, costOf, noDescriptor, descriptorAt, tailAt, descriptorBlock, renamedOf, linkedOf, reopenedOf, copying}
-use Rattle.blocks.specs.Chain.{chain, chainSound, chainPlace, descriptors, named, descriptorsAt, regionsOf}
+use Rattle.blocks.specs.Descriptor.{costOf, descriptorAt, tailAt, descriptorBlock, renamedOf, linkedOf, reopenedOf, copying}
+use Rattle.blocks.specs.Chain.{chain, descriptors, named, descriptorsAt, regionsOf}
 use Rattle.blocks.specs.declared.descriptor.Descriptor.{Descriptor}
 use Rattle.blocks.specs.declared.chain.Regions.{Regions}
 use Rattle.blocks.proofs.ByteLaws.{store-other, store-length, length-blockAt}
-use Rattle.calls.specs.Call.{Call, Snap, answer, accepted}
-use Rattle.calls.specs.Parts.{areaBad, activeOf, snapshotsOf}
+use Rattle.calls.specs.Call.{Snap, answer, accepted}
+use Rattle.calls.specs.Parts.{areaBad}
 use Rattle.calls.specs.Ladder.{firstRow, snapRows, rowsOf, answerOf}
 use Rattle.calls.specs.Effect.{snapping, storesOf}
 use Rattle.calls.proofs.StepLaws.{stored-append, stored-one}

@@ -1,22 +1,21 @@
 -- Laws of step: what a refusal leaves, what an accepted call does; and laws of lists of stores.
-use mathlib.Core.Path.{_≡_, refl, sym, ap, _∙_}
-use mathlib.Core.Bool.{Bool, true, false, not, _&&_, _||_}
+use mathlib.Core.Path.{_≡_, refl, ap}
+use mathlib.Core.Bool.{true, false}
 use mathlib.Core.List.{List, [], _∷_, _++_}
-use Prim.Native.Nat.{ℕ, zero, suc, _+_, _*_, _-_, _/_, _%_, _≤_, _<_}
+use Prim.Native.Nat.{ℕ, zero, suc, _+_, _/_, _%_, _≤_, _<_}
 use native.Mathlib.Numerals.{add-one}
 use native.Mathlib.Omega.{arith}
-use lib.ListN.{length, replicate}
-use lib.Dec.{eqb, ltb, leb}
+use lib.ListN.{length}
+use lib.Dec.{eqb, ltb}
 use borrow.Author.Tests.{eq-eqb, ne-eqb, lt-ltb, le-ltb}
-use Rattle.blocks.specs.Pick.{pick}
 use Rattle.blocks.specs.Bytes.{Store, store, storeBlock, storeAll, zeroBlock, blockCount}
 use Rattle.blocks.specs.Descriptor.{clearing}
 use Rattle.calls.specs.declared.answer.Answer.{Answer}
-use Rattle.calls.specs.Call.{Call, Lent, Outcome, answer, accepted}
+use Rattle.calls.specs.Call.{Call, Lent, answer, accepted}
 use Rattle.calls.specs.Parts.{areaBad}
 use Rattle.calls.specs.Ladder.{answerOf}
 use Rattle.calls.specs.Effect.{storesOf, lentOf, filledOf}
-use Rattle.calls.specs.Step.{Done, step, isAccepted}
+use Rattle.calls.specs.Step.{Done, step}
 
 -- what a call does, given its answer
 module _ (k : Call) (c : List ℕ) where

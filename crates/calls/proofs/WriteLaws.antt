@@ -1,16 +1,16 @@
 -- Laws of the write, as the code asks them.
 use mathlib.Core.Path.{_≡_, refl, sym, ap, _∙_}
-use mathlib.Core.Bool.{Bool, true, false, not, _&&_, _||_}
-use mathlib.Core.List.{List, [], _∷_, _++_}
-use Prim.Native.Nat.{ℕ, zero, suc, _+_, _*_, _-_, _/_, _≤_, _<_}
+use mathlib.Core.Bool.{Bool, true, false, not, _&&_}
+use mathlib.Core.List.{List}
+use Prim.Native.Nat.{ℕ, _+_, _*_, _-_, _/_, _≤_, _<_}
 use native.Mathlib.Omega.{arith}
-use lib.ListN.{length, take, getD}
+use lib.ListN.{length, getD}
 use lib.Dec.{eqb, ltb, leb}
 use borrow.Author.Tests.{eq-eqb, ne-eqb, lt-ltb, le-ltb, le-leb, lt-leb, eqb-false, not-true, not-false}
 use Rattle.blocks.specs.Pick.{pick}
-use Rattle.blocks.specs.Bytes.{Store, store, blockCount, blockAt, zeroBlock, storeBlock, storeAll}
-use Rattle.blocks.specs.Descriptor.{physical, costOf, noDescriptor, descriptorAt, tailAt, descriptorBlock}
-use Rattle.blocks.specs.Chain.{chain, chainSound, chainPlace, descriptors, regionsOf}
+use Rattle.blocks.specs.Bytes.{store, blockCount, blockAt, storeBlock, storeAll}
+use Rattle.blocks.specs.Descriptor.{descriptorAt, tailAt}
+use Rattle.blocks.specs.Chain.{chain, descriptors, regionsOf}
 use Rattle.blocks.specs.declared.numbers.Physical.{Physical}
 use Rattle.blocks.specs.declared.descriptor.Descriptor.{Descriptor}
 use Rattle.blocks.specs.declared.chain.Regions.{Regions}
@@ -23,7 +23,7 @@ use Rattle.entries.specs.declared.find.Found.{Found}
 use Rattle.entries.specs.declared.find.Found.the-variants.{Misplaced, Entry}
 use Rattle.entries.proofs.EntryLaws.{through-beta, through-end, through-volume, found-table, found-entry}
 use Rattle.calls.specs.declared.answer.Answer.{Answer}
-use Rattle.calls.specs.Call.{Call, Write, Lent, Block, answer, accepted}
+use Rattle.calls.specs.Call.{Call, Write, Block, answer, accepted}
 use Rattle.calls.specs.Parts.{areaBad, activeOf, isMisplaced, holderOf}
 use Rattle.calls.specs.Ladder.{firstRow, writeRows, rowsOf, answerOf}
 use Rattle.calls.specs.Effect.{Written, written, WriteReady, lentOf, filledOf, storesOf}

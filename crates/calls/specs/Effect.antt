@@ -1,8 +1,7 @@
 -- The effect of each accepted call: the whole-block stores that it makes, in order, computed from the card at entry; and what it leaves in lent memory.
 use mathlib.Core.Path.{_≡_}
-use mathlib.Core.Bool.{Bool, true, false}
 use mathlib.Core.List.{List, [], _∷_, _++_}
-use Prim.Native.Nat.{ℕ, zero, suc, _+_, _*_, _-_, _≤_, _<_}
+use Prim.Native.Nat.{ℕ, _+_, _*_, _-_, _≤_, _<_}
 use lib.ListN.{length, drop}
 use Rattle.blocks.specs.Pick.{pick}
 use lib.Dec.{ltb}
@@ -12,7 +11,6 @@ use Rattle.blocks.specs.declared.descriptor.Descriptor.{Descriptor}
 use Rattle.entries.specs.Entry.{need, writing}
 use Rattle.entries.specs.declared.find.Found.{Found}
 use Rattle.calls.specs.declared.answer.Answer.{Answer}
-use Rattle.calls.specs.declared.answer.Target.{Target}
 use Rattle.calls.specs.declared.answer.Record.{Record}
 use Rattle.calls.specs.Call.{Call, Ream, Read, Write, Snap, Revert, Listing, Check, Lent, None, Block, Records, answer, accepted}
 use Rattle.calls.specs.Parts.{descriptorsOf, activeOf, snapshotsOf, withName, targetOf, foundThrough, isMisplaced, holderOf, blockFound}

@@ -1,5 +1,5 @@
 -- Where each refusal is made: for each call the rows of 01's table that it meets, from top to bottom; the first that holds is given.
-use mathlib.Core.Bool.{Bool, true, false, not, _&&_, _||_}
+use mathlib.Core.Bool.{Bool, not, _&&_, _||_}
 use mathlib.Core.List.{List, [], _∷_}
 use Prim.Native.Nat.{ℕ, _+_}
 use lib.ListN.{length}

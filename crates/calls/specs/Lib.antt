@@ -5,3 +5,4 @@ pub mod Check
 pub mod Ladder
 pub mod Effect
 pub mod Step
+pub mod Listing

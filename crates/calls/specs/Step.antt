@@ -1,12 +1,12 @@
 -- One call, and a run of a list of calls.
-use mathlib.Core.Bool.{Bool, true, false}
+use mathlib.Core.Bool.{Bool}
 use mathlib.Core.List.{List, [], _∷_}
 use Prim.Native.Nat.{ℕ}
 use lib.Dec.{eqb}
 use Rattle.blocks.specs.Pick.{pick}
 use Rattle.blocks.specs.Bytes.{storeAll}
 use Rattle.calls.specs.declared.answer.Answer.{Answer}
-use Rattle.calls.specs.Call.{Call, Lent, Outcome}
+use Rattle.calls.specs.Call.{Call, Outcome}
 use Rattle.calls.specs.Ladder.{answerOf}
 use Rattle.calls.specs.Effect.{storesOf, lentOf, filledOf}
 

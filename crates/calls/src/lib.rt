@@ -7,3 +7,4 @@ pub mod snap; // a snapshot
 pub mod check; // the check of a card
 pub mod read; // a read of one block
 pub mod write; // a write of one block
+pub mod list; // a listing of the chain

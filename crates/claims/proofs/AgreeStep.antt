@@ -1,24 +1,22 @@
 -- Two cards that agree still agree after every call that is no accepted format.
 use mathlib.Core.Path.{_≡_, refl, sym, ap, _∙_, subst}
 use mathlib.Core.Logic.{_⊎_, inl, inr}
-use mathlib.Core.Bool.{Bool, true, false, not, _&&_, _||_}
+use mathlib.Core.Bool.{Bool, true, false}
 use mathlib.Core.List.{List, [], _∷_, _++_}
-use Prim.Native.Nat.{ℕ, zero, suc, _+_, _*_, _≤_, _<_}
+use Prim.Native.Nat.{ℕ, _<_}
 use native.Mathlib.Omega.{arith}
-use lib.ListN.{length, take}
-use Rattle.blocks.specs.Bytes.{blockAt, Store, store, storeBlock, storeAll}
-use Rattle.blocks.specs.Descriptor.{physical, costOf, renamedOf, linkedOf, extendedOf, reopenedOf}
+use lib.ListN.{length}
+use Rattle.blocks.specs.Bytes.{blockAt, Store, storeAll}
+use Rattle.blocks.specs.Descriptor.{physical, renamedOf, linkedOf, extendedOf, reopenedOf}
 use Rattle.blocks.specs.Chain.{Chain, Sound, chain, chainSound, descriptors}
 use Rattle.blocks.specs.declared.descriptor.Descriptor.{Descriptor}
 use Rattle.entries.specs.Entry.{find, need}
-use Rattle.calls.specs.declared.answer.Answer.{Answer}
 use Rattle.calls.specs.Call.{Call, Ream, Read, Write, Snap, Revert, Listing, Check}
 use Rattle.calls.specs.Parts.{descriptorsOf, activeOf, snapshotsOf, withName}
 use Rattle.calls.specs.Ladder.{answerOf}
 use Rattle.calls.specs.Effect.{storesOf}
 use Rattle.calls.specs.Step.{step, isAccepted}
 use Rattle.claims.specs.History.{betaOf, Agree, isFormat}
-use Rattle.claims.proofs.Local.{Below}
 use Rattle.claims.proofs.Agreement.{agree-below, agree-chain, agree-answer}
 use Rattle.claims.proofs.StoreLists.{Whole, isStored, stored-length, stored-both, stored-anyway, blocks-taken}
 use Rattle.claims.proofs.Frame.{stores-inside}
@@ -26,7 +24,7 @@ use Rattle.claims.proofs.ChainAfter.{before, active-snoc, active-append
 use Rattle.claims.proofs.SnappedChain.{snapped-chain}
 use Rattle.claims.proofs.SameStores.{v-below, same-revert, same-snap, snap-covered, same-write, found-is, write-covered}
 use Rattle.claims.proofs.WrittenChain.{written-chain}
-use Rattle.claims.proofs.Rows.{no}
+use Rattle.calls.proofs.RowLaws.{no}
 
 -- the same stores on two cards that agree: they agree again, where every block below the new beta was below the old one or is stored
 module _ (s t : List ℕ) (agree : Agree s t) (ss : List Store) (whole : Whole (length s) ss) (ds : List Descriptor)

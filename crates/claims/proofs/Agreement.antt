@@ -1,49 +1,41 @@
 -- Two cards that agree, that is with equal bytes below one beta, have one chain, and every call has the same outcome on both.
-use mathlib.Core.Path.{_≡_, refl, sym, ap, _∙_, subst}
-use mathlib.Core.Bool.{Bool, true, false, not, _&&_, _||_}
-use mathlib.Core.List.{List, [], _∷_, _++_}
-use Prim.Native.Nat.{ℕ, zero, suc, _+_, _*_, _-_, _/_, _%_, _≤_, _<_}
+use mathlib.Core.Path.{_≡_, refl, sym, ap, _∙_}
+use mathlib.Core.Bool.{Bool, true, false, not, _&&_}
+use mathlib.Core.List.{List, [], _∷_}
+use Prim.Native.Nat.{ℕ, suc, _+_, _*_, _-_, _/_, _≤_, _<_}
 use native.Mathlib.Omega.{arith}
 use lib.ListN.{length, take, getD}
 use lib.Seq.{length-take-le, getD-take}
-use lib.Dec.{eqb, ltb, leb}
-use borrow.Author.Tests.{eq-eqb, ltb-true, leb-false, eqb-true, not-false}
+use lib.Dec.{ltb, leb}
+use borrow.Author.Tests.{eq-eqb, ltb-true, leb-false, not-false}
 use Rattle.blocks.specs.Pick.{pick}
 use Rattle.blocks.specs.Bytes.{part, blockCount, blockAt, storeAll}
-use Rattle.blocks.specs.Name.{isName}
 use Rattle.blocks.specs.Descriptor.{tableCount, cost, costOf, noDescriptor, descriptorAt}
-use Rattle.blocks.specs.Chain.{Chain, Unsound, Sound, chain, chainSound, descriptors, named}
+use Rattle.blocks.specs.Chain.{Sound, chain, descriptors, named}
 use Rattle.blocks.specs.declared.descriptor.Descriptor.{Descriptor}
 use Rattle.blocks.proofs.ByteLaws.{part-part}
 use Rattle.blocks.proofs.ChainLaws.{cost-least, region-volume}
 use Rattle.blocks.proofs.SoundLaws.{form-most}
 use Rattle.blocks.proofs.LinkedLaws.{Linked, chain-linked, chain-few, regionStart, region-start-zero, region-start-suc, linked-some, linked-end, linked-rise, linked-at, RegionAt, at-alpha, at-long}
 use Rattle.entries.specs.Entry.{find, need}
-use Rattle.entries.specs.Naming.{checkOne}
 use Rattle.entries.specs.declared.find.Found.{Found}
 use Rattle.calls.specs.declared.answer.Answer.{Answer}
 use Rattle.calls.specs.declared.answer.Target.{Target}
 use Rattle.calls.specs.declared.answer.Target.the-variants.{Active, Snapshot}
-use Rattle.calls.specs.declared.answer.Record.{Record}
-use Rattle.calls.specs.Call.{Call, Ream, Read, Write, Snap, Revert, Listing, Check, Lent, Block, Outcome, answer, accepted}
-use Rattle.calls.specs.Parts.{areaBad, descriptorsOf, activeOf, snapshotsOf, withName, indexOf, isSnapshot, targetOf, foundThrough, isMisplaced, holderOf, blockFound}
-use Rattle.calls.specs.Check.{orElse, checkAll, checkCard, isFault, faultHolder}
-use Rattle.calls.specs.Ladder.{Row, row, areaRow, blockRow, chainRow, volumeRow, firstRow, reamRows, readRows, writeRows, snapRows, revertRows, listRows, checkRows, rowsOf, answerOf}
+use Rattle.calls.specs.Call.{Call, Ream, Read, Write, Snap, Revert, Listing, Check, Lent, Block, answer, accepted}
+use Rattle.calls.specs.Parts.{areaBad, descriptorsOf, activeOf, snapshotsOf, indexOf, isSnapshot, targetOf, isMisplaced, holderOf, blockFound}
+use Rattle.calls.specs.Check.{checkAll, checkCard}
+use Rattle.calls.specs.Ladder.{Row, row, firstRow, reamRows, readRows, writeRows, snapRows, revertRows, listRows, checkRows, rowsOf, answerOf}
 use Rattle.calls.specs.Effect.{storesOf, lentOf, filledOf}
 use Rattle.calls.specs.Step.{Done, step, isAccepted}
 use Rattle.claims.specs.History.{betaOf, Agree}
 use Rattle.calls.proofs.NamedLaws.{named-index, with-name-index}
-use Rattle.calls.proofs.CardLaws.{active-at, snapshots-at}
-use Rattle.claims.proofs.Rows.{rows-passed}
+use Rattle.calls.proofs.CardLaws.{active-at, snapshots-at, chain-is}
+use Rattle.calls.proofs.RowLaws.{rows-passed}
 use Rattle.claims.proofs.Local.{Below, below-linked, linked-chain}
 use Rattle.claims.proofs.LocalEntries.{Region, local-find, local-block, local-check}
 
--- a sound chain is its descriptors; its last region ends at the active beta
-pub chain-is : (ch : Chain) → chainSound ch ≡ true → ch ≡ Sound (descriptors ch)
-unfolding chainSound descriptors
-chain-is (Sound ds) e = refl
-chain-is (Unsound p) e = let z : _≡_ {A = ℕ} 0 1 = cc in absurd (omega arith)
-
+-- the last region ends at the active beta
 pub end-from : (p : ℕ) (d : Descriptor) (ds : List Descriptor) → regionStart p (d ∷ ds) (length (d ∷ ds)) ≡ activeOf (d ∷ ds) .beta .0
 unfolding activeOf
 end-from p d [] = region-start-suc p d [] 0 ∙ region-start-zero (d .beta .0) []

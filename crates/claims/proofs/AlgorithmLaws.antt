@@ -39,7 +39,7 @@ use Rattle.claims.specs.History.{AreBytes}
 use Rattle.claims.specs.Claims.{AlgorithmClaim}
 use Rattle.calls.proofs.NamedLaws.{named-index, with-name-index}
 use Rattle.calls.proofs.CardLaws.{card-through, card-snapshot, card-snapshot-count}
-use Rattle.claims.proofs.Rows.{no, rows-passed}
+use Rattle.calls.proofs.RowLaws.{no, rows-passed}
 use Rattle.claims.proofs.Stored.{form-name}
 use Rattle.claims.proofs.Frame.{regions-ok, active-through, active-name, block-whole, name-length, tail-length, table-length, tail-with-length}
 

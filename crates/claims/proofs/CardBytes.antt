@@ -23,7 +23,7 @@ use Rattle.calls.specs.Ladder.{rowsOf, writeRows, snapRows, revertRows, answerO
 use Rattle.calls.specs.Effect.{snapping, reverting, storesOf}
 use Rattle.calls.specs.Step.{step, after, isAccepted}
 use Rattle.claims.specs.History.{isFormat, AreBytes, writtenBy, Standing, none, more, formattable, formatted}
-use Rattle.claims.proofs.Rows.{no, rows-passed}
+use Rattle.calls.proofs.RowLaws.{no, rows-passed}
 use Rattle.claims.proofs.ChainAfter.{active-name}
 use Rattle.claims.proofs.Runs.{standing-length, step-length}
 

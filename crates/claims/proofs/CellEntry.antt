@@ -17,7 +17,7 @@ use Rattle.entries.specs.Rules.{entryOf, Rules}
 use Rattle.entries.specs.declared.find.Found.the-variants.{Misplaced, Entry}
 use Rattle.calls.specs.Parts.{descriptorsOf, foundThrough, blockFound}
 use Rattle.calls.specs.Check.{Passes}
-use Rattle.claims.proofs.Rows.{no}
+use Rattle.calls.proofs.RowLaws.{no}
 use Rattle.claims.proofs.LedgerAnswers.{group-below, own-set, region-of}
 use Rattle.claims.proofs.PassesAfter.{layout-two, table-phi}
 

@@ -1,40 +1,35 @@
 -- Cards with a sound chain, and the chain after an accepted revert.
-use mathlib.Core.Path.{_≡_, refl, sym, ap, _∙_, subst}
-use mathlib.Core.Logic.{_⊎_, inl, inr}
-use mathlib.Core.Bool.{Bool, true, false, not, _&&_, _||_}
+use mathlib.Core.Path.{_≡_, refl, sym, ap, _∙_}
+use mathlib.Core.Logic.{inl}
+use mathlib.Core.Bool.{true, false}
 use mathlib.Core.List.{List, [], _∷_, _++_, append-assoc}
-use Prim.Native.Nat.{ℕ, zero, suc, _+_, _*_, _-_, _^_, _≤_, _<_}
+use Prim.Native.Nat.{ℕ, zero, suc, _+_, _*_, _≤_, _<_}
 use native.Mathlib.Omega.{arith}
-use lib.ListN.{length, take, drop, getD, length-append}
-use lib.Seq.{split-at, length-take-le, append-snoc}
-use lib.Dec.{eqb, ltb, leb}
-use borrow.Author.Tests.{ltb-true, ltb-false, leb-false, not-false, ne-eqb}
-use Rattle.blocks.specs.Pick.{same}
-use Rattle.blocks.specs.Bytes.{part, blockCount, blockAt, Store, store, storeAll}
+use lib.ListN.{length, take, drop, length-append}
+use lib.Seq.{split-at}
+use borrow.Author.Tests.{ltb-true, not-false, ne-eqb}
+use Rattle.blocks.specs.Bytes.{part, blockCount, blockAt, store, storeAll}
 use Rattle.blocks.specs.Name.{isName}
-use Rattle.blocks.specs.Descriptor.{physical, cost, costOf, noDescriptor, descriptorAt, tailAt, descriptorBlock, renamedOf, linkedOf, reopenedOf, copying, reservedOk, phiOk}
+use Rattle.blocks.specs.Descriptor.{physical, costOf, noDescriptor, descriptorAt, tailAt, descriptorBlock, renamedOf, linkedOf, copying, reservedOk, phiOk}
 use Rattle.blocks.specs.Chain.{formOk, regionOk, named, sound, Sound, chain, chainSound}
 use Rattle.blocks.specs.declared.descriptor.Descriptor.{Descriptor}
-use Rattle.blocks.proofs.ListLaws.{same-equal, same-self}
 use Rattle.blocks.proofs.DescriptorLaws.{Fits}
 use Rattle.blocks.proofs.SoundLaws.{form-most, form-layout}
 use Rattle.blocks.proofs.ChainLaws.{region-long, region-end, cost-least}
-use Rattle.blocks.proofs.LinkedLaws.{Linked, last, more, chain-linked, chain-few, linked-some, linked-rise, region-start-suc, region-start-zero}
-use Rattle.calls.specs.Call.{Call, Snap, Revert}
+use Rattle.blocks.proofs.LinkedLaws.{Linked, last, chain-linked, chain-few, linked-some, linked-rise, region-start-suc, region-start-zero}
+use Rattle.calls.specs.Call.{Revert}
 use Rattle.calls.specs.Parts.{areaBad, descriptorsOf, activeOf, snapshotsOf, withName, indexOf}
-use Rattle.calls.specs.Ladder.{rowsOf, revertRows, snapRows, answerOf}
-use Rattle.calls.specs.Effect.{storesOf, reverting, snapping}
+use Rattle.calls.specs.Ladder.{rowsOf, revertRows, answerOf}
+use Rattle.calls.specs.Effect.{storesOf, reverting}
 use Rattle.calls.specs.Step.{isAccepted}
 use Rattle.calls.proofs.NamedLaws.{named-index, with-name-index}
-use Rattle.calls.proofs.CardLaws.{card-most}
-use Rattle.claims.proofs.Rows.{no, rows-passed}
-use Rattle.claims.proofs.Local.{linked-chain}
-use Rattle.claims.proofs.Relinked.{linked-next, relinked}
-use Rattle.claims.proofs.Agreement.{chain-is, end-from}
-use Rattle.claims.proofs.Stored.{block-long, stored-descriptor, stored-form, region-ok, tail-long, tail-part, form-kept, form-phi, form-name}
-use Rattle.claims.proofs.Changed.{name-long, layout-small, named-append, named-left, member-from, member-form, member-region, member-fresh, member-inside, changed-is, changed-first, changed-ok, changed-last}
-use Rattle.claims.proofs.StoreLists.{Whole, none, also, whole-append, isStored, stored-join, stored-length, stored-other, stored-last}
-use Rattle.claims.proofs.Frame.{stores-inside, inside-copying}
+use Rattle.calls.proofs.CardLaws.{card-most, chain-is}
+use Rattle.calls.proofs.RowLaws.{rows-passed}
+use Rattle.claims.proofs.Agreement.{end-from}
+use Rattle.claims.proofs.Stored.{block-long, tail-long, tail-part, form-kept, form-phi, form-name}
+use Rattle.claims.proofs.Changed.{name-long, layout-small, named-left, member-from, member-form, member-region, member-fresh, member-inside, changed-last}
+use Rattle.claims.proofs.StoreLists.{Whole, none, isStored, stored-length, stored-other, stored-last}
+use Rattle.claims.proofs.Frame.{stores-inside}
 
 -- a chain is its snapshots, then the active descriptor
 active-from : (d : Descriptor) (ds : List Descriptor) → d ∷ ds ≡ snapshotsOf (d ∷ ds) ++ (activeOf (d ∷ ds) ∷ [])

@@ -1,29 +1,27 @@
 -- The chain after a descriptor block was stored: the descriptors before it, then what was stored.
-use mathlib.Core.Path.{_≡_, refl, sym, ap, _∙_, subst}
-use mathlib.Core.Logic.{_⊎_, inl, inr}
+use mathlib.Core.Path.{_≡_, refl, sym, _∙_}
+use mathlib.Core.Logic.{_⊎_}
 use mathlib.Core.Bool.{Bool, true, false, not, _&&_, _||_}
 use mathlib.Core.List.{List, [], _∷_, _++_}
-use Prim.Native.Nat.{ℕ, zero, suc, _+_, _*_, _-_, _^_, _≤_, _<_}
+use Prim.Native.Nat.{ℕ, _+_, _*_, _≤_, _<_}
 use native.Mathlib.Omega.{arith}
 use lib.ListN.{length, length-append}
-use lib.Dec.{eqb, ltb, leb}
+use lib.Dec.{eqb}
 use borrow.Author.Tests.{eqb-true, eqb-false, not-true}
-use Rattle.blocks.specs.Pick.{pick, same}
+use Rattle.blocks.specs.Pick.{same}
 use Rattle.blocks.specs.Bytes.{part, blockCount, blockAt}
 use Rattle.blocks.specs.Name.{isName}
-use Rattle.blocks.specs.Descriptor.{costOf, descriptorAt, tailAt, descriptorBlock, reservedOk, phiOk}
+use Rattle.blocks.specs.Descriptor.{costOf, descriptorAt, descriptorBlock, reservedOk, phiOk}
 use Rattle.blocks.specs.Chain.{formOk, regionOk, named, sound, Sound, chain}
 use Rattle.blocks.specs.declared.descriptor.Descriptor.{Descriptor}
-use Rattle.blocks.proofs.Tests.{and-left, and-right}
+use Rattle.blocks.proofs.Tests.{and-right}
 use Rattle.blocks.proofs.DescriptorLaws.{Fits}
 use Rattle.blocks.proofs.NameLaws.{name-wrong-length}
-use Rattle.blocks.proofs.SoundLaws.{form-most, form-layout}
 use Rattle.blocks.proofs.ChainLaws.{region-layout, region-volume, region-end, region-long, cost-least}
-use Rattle.blocks.proofs.LinkedLaws.{Linked, last, more, chain-linked, sound-form, sound-region, sound-alpha}
-use Rattle.calls.specs.Parts.{activeOf, snapshotsOf, withName}
+use Rattle.blocks.proofs.LinkedLaws.{Linked, last, chain-linked, sound-form, sound-region}
 use Rattle.claims.proofs.Local.{linked-chain, shared-descriptor}
 use Rattle.claims.proofs.Relinked.{linked-from, linked-head, relinked}
-use Rattle.claims.proofs.Stored.{stored-descriptor, stored-form, region-ok, tail-long, tail-part, form-kept, form-phi}
+use Rattle.claims.proofs.Stored.{stored-descriptor, stored-form, region-ok}
 
 -- a name has sixteen bytes; a layout is small
 pub name-long : (n : List ℕ) → isName n ≡ true → length n ≡ 16

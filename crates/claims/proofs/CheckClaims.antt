@@ -29,8 +29,9 @@ use Rattle.calls.specs.Parts.{areaBad, descriptorsOf}
 use Rattle.calls.specs.Check.{orElse, checkAll, checkCard, isFault, faultHolder, Passes}
 use Rattle.calls.specs.Ladder.{firstRow, checkRows, rowsOf, answerOf}
 use Rattle.claims.specs.Claims.{TableClaim, CheckClaim, valuesOf, noNaming, FirstFault, FaultClaim}
-use Rattle.claims.proofs.Agreement.{chain-is}
-use Rattle.claims.proofs.Rows.{no, table-claim}
+use Rattle.calls.proofs.CardLaws.{chain-is}
+use Rattle.calls.proofs.RowLaws.{no}
+use Rattle.claims.proofs.Rows.{table-claim}
 
 -- the parts of a fault, as tests: p in place, z nil, k counted, a named before, o against the rule on old tables
 fault-gives : (p z k a o : Bool) → (not p || (not z && (not k || a)) || o) ≡ false → (p ≡ true) × (z ≡ false → (k ≡ true) × (a ≡ false)) × (o ≡ false)

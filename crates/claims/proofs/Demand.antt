@@ -1,18 +1,16 @@
 -- The rollback claim from any card with a sound chain, and demand 3 from all N blocks as an accepted ream left them.
 use mathlib.Core.Path.{_≡_, refl, sym, ap, _∙_}
-use mathlib.Core.Bool.{Bool, true, false}
-use mathlib.Core.List.{List, [], _∷_}
-use Prim.Native.Nat.{ℕ, suc, _<_, _≤_}
+use mathlib.Core.Bool.{true, false}
+use mathlib.Core.List.{List}
+use Prim.Native.Nat.{ℕ, suc, _<_}
 use lib.ListN.{take}
-use Rattle.blocks.specs.Descriptor.{firstOf}
 use Rattle.blocks.specs.Chain.{chain, chainSound, named}
 use Rattle.blocks.specs.declared.descriptor.Descriptor.{Descriptor}
 use Rattle.calls.specs.Call.{Call}
 use Rattle.calls.specs.Parts.{descriptorsOf, snapshotsOf}
-use Rattle.calls.specs.Check.{Passes}
 use Rattle.claims.specs.History.{AreBytes, Standing, Position, Nowhere, At, latestSnap, without, formattable, formatted}
 use Rattle.claims.specs.Claims.{Matched, Forgets, RevertedAt, RollbackClaim, SnapshotClaim, Demand3}
-use Rattle.claims.proofs.Rows.{no}
+use Rattle.calls.proofs.RowLaws.{no}
 use Rattle.claims.proofs.Runs.{standing-take}
 use Rattle.claims.proofs.Latest.{latest-nowhere, latest-at}
 use Rattle.claims.proofs.Format.{formatted-passes, formatted-descriptors}

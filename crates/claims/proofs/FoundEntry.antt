@@ -14,7 +14,7 @@ use Rattle.entries.specs.InPlace.{inPlace}
 use Rattle.entries.specs.Entry.{tableOf, entryAt, entryFound, find}
 use Rattle.entries.specs.Rules.{entryOf}
 use Rattle.entries.specs.declared.find.Found.the-variants.{Misplaced, Entry}
-use Rattle.claims.proofs.Rows.{no}
+use Rattle.calls.proofs.RowLaws.{no}
 use Rattle.claims.proofs.LedgerAnswers.{own-set}
 
 -- the parts of an entry that was found

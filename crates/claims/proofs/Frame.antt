@@ -2,14 +2,14 @@
 -- What a listing fills: the descriptors' own records, and the records after them as they were.
 use mathlib.Core.Path.{_≡_, refl, sym, _∙_}
 use mathlib.Core.Bool.{Bool, true, false, not, _&&_}
-use mathlib.Core.List.{List, [], _∷_, _++_}
+use mathlib.Core.List.{List, [], _∷_}
 use Prim.Native.Nat.{ℕ, zero, suc, _+_, _*_, _-_, _/_, _%_, _≤_, _<_}
 use native.Mathlib.Omega.{arith}
 use lib.ListN.{length, drop, getD, replicate, length-drop, length-append, length-replicate}
 use lib.Dec.{eqb, leb}
 use borrow.Author.Tests.{eqb-true, eqb-false, ltb-true, ltb-false, leb-false, not-false}
 use Rattle.blocks.specs.Pick.{pick}
-use Rattle.blocks.specs.Bytes.{le32, Store, store, blockCount, blockAt, zeroBlock, storeBlock, storeAll}
+use Rattle.blocks.specs.Bytes.{le32, store, blockCount, blockAt, zeroBlock, storeAll}
 use Rattle.blocks.specs.Name.{isName}
 use Rattle.blocks.specs.Descriptor.{physical, cost, costOf, noDescriptor, descriptorAt, firstOf, headBytes, tailAt, descriptorBlock, renamedOf, linkedOf, extendedOf, reopenedOf, clearing, copying, opening}
 use Rattle.blocks.specs.Chain.{Chain, Sound, Unsound, chain, chainSound, named, regionsOf}
@@ -17,7 +17,7 @@ use Rattle.blocks.specs.declared.numbers.Physical.{Physical}
 use Rattle.blocks.specs.declared.descriptor.Descriptor.{Descriptor}
 use Rattle.blocks.specs.declared.chain.Regions.{Regions}
 use Rattle.blocks.proofs.Tests.{and-left}
-use Rattle.blocks.proofs.ByteLaws.{length-part, length-splice, length-le32, length-blockAt, store-length}
+use Rattle.blocks.proofs.ByteLaws.{length-part, length-splice, length-le32, length-blockAt}
 use Rattle.blocks.proofs.ChainLaws.{cost-least}
 use Rattle.blocks.proofs.DescriptorLaws.{head-length}
 use Rattle.entries.specs.Through.{Through}
@@ -28,14 +28,14 @@ use Rattle.entries.proofs.EntryLaws.{through-alpha, through-beta}
 use Rattle.calls.specs.declared.answer.Record.{Record}
 use Rattle.calls.specs.Call.{Call, Ream, Read, Write, Snap, Revert, Listing, Check, Records, accepted}
 use Rattle.calls.specs.Parts.{areaBad, descriptorsOf, activeOf, snapshotsOf, withName, indexOf, foundThrough}
-use Rattle.calls.specs.Ladder.{row, reamRows, writeRows, snapRows, revertRows, listRows, rowsOf, answerOf}
+use Rattle.calls.specs.Ladder.{reamRows, writeRows, snapRows, revertRows, listRows, rowsOf, answerOf}
 use Rattle.calls.specs.Effect.{WriteReady, snapping, reverting, storesOf, recordOf, listed, lentOf, filledOf}
 use Rattle.calls.specs.Step.{step, isAccepted}
-use Rattle.claims.specs.Claims.{RefusalClaim, TableClaim, ListClaim, isQuiet, fills, FrameClaim}
+use Rattle.claims.specs.Claims.{ListClaim, isQuiet, fills, FrameClaim}
 use Rattle.calls.proofs.NamedLaws.{named-index, with-name-index}
 use Rattle.calls.proofs.CardLaws.{card-some, card-active, card-through, card-inside, card-snapshot, card-snapshot-count}
 use Rattle.calls.proofs.WriteLaws.{put-inside, write-ready}
-use Rattle.claims.proofs.Rows.{no, rows-passed}
+use Rattle.calls.proofs.RowLaws.{no, rows-passed}
 use Rattle.claims.proofs.StoreLists.{Whole, none, also, whole-append, stored-length}
 
 -- the records of descriptors, then the rest

@@ -1,23 +1,23 @@
 -- A snapshot stays as it is under every call but a format and a revert to it or to an earlier one: its descriptor, those before it and all blocks
 -- below its beta; and so does the active name.
-use mathlib.Core.Path.{_≡_, refl, sym, ap, _∙_, subst}
+use mathlib.Core.Path.{_≡_, refl, sym, ap, _∙_}
 use mathlib.Core.Logic.{_⊎_, inl, inr}
 use mathlib.Core.Bool.{Bool, true, false, not, _&&_, _||_}
 use mathlib.Core.List.{List, [], _∷_, _++_, append-assoc}
-use Prim.Native.Nat.{ℕ, zero, suc, _+_, _*_, _-_, _≤_, _<_}
+use Prim.Native.Nat.{ℕ, suc, _+_, _-_, _≤_, _<_}
 use native.Mathlib.Omega.{arith}
 use lib.ListN.{length, take, drop, length-append, take-append-drop}
 use lib.Seq.{take-append-le, take-append-add, append-snoc}
 use lib.Dec.{eqb, ltb, leb}
 use borrow.Author.Tests.{ne-eqb, leb-true, leb-false, ltb-false, not-false}
 use Rattle.blocks.specs.Pick.{pick}
-use Rattle.blocks.specs.Bytes.{blockAt, Store, store, storeAll}
-use Rattle.blocks.specs.Descriptor.{physical, costOf, renamedOf, linkedOf, extendedOf, reopenedOf}
-use Rattle.blocks.specs.Chain.{Chain, Sound, chain, chainSound, descriptors, named}
+use Rattle.blocks.specs.Bytes.{blockAt, store, storeAll}
+use Rattle.blocks.specs.Descriptor.{physical, renamedOf, linkedOf, extendedOf, reopenedOf}
+use Rattle.blocks.specs.Chain.{Sound, chain, chainSound, descriptors, named}
 use Rattle.blocks.specs.declared.descriptor.Descriptor.{Descriptor}
 use Rattle.blocks.proofs.Tests.{and-right}
-use Rattle.blocks.proofs.LinkedLaws.{Linked, last, more, chain-linked, sound-next}
-use Rattle.entries.specs.Entry.{find, tableIsNew, need, setInTable, setInNewTable, writing}
+use Rattle.blocks.proofs.LinkedLaws.{Linked, last, more, sound-next}
+use Rattle.entries.specs.Entry.{tableIsNew, need, setInTable, setInNewTable, writing}
 use Rattle.entries.specs.declared.find.Found.{Found}
 use Rattle.entries.specs.declared.find.Found.the-variants.{Misplaced, Entry}
 use Rattle.calls.specs.Call.{Call, Ream, Read, Write, Snap, Revert, Listing, Check}
@@ -26,12 +26,12 @@ use Rattle.calls.specs.Ladder.{rowsOf, writeRows, answerOf}
 use Rattle.calls.specs.Effect.{storesOf, reverting}
 use Rattle.calls.specs.Step.{step, isAccepted}
 use Rattle.claims.specs.History.{isFormat}
-use Rattle.claims.proofs.Rows.{no, rows-passed}
+use Rattle.calls.proofs.RowLaws.{no, rows-passed}
 use Rattle.claims.proofs.Relinked.{later-alpha}
 use Rattle.claims.proofs.Changed.{named-left, member-from, member-fresh}
-use Rattle.claims.proofs.StoreLists.{Whole, isStored, stored-length, stored-other}
+use Rattle.claims.proofs.StoreLists.{isStored, stored-length, stored-other}
 use Rattle.claims.proofs.Frame.{stores-inside}
-use Rattle.claims.proofs.ChainAfter.{before, behind, active-split, active-snoc, snapshots-snoc, active-append, active-last, link-low, one-stored, revert-rows, revert-split, reverted-chain}
+use Rattle.claims.proofs.ChainAfter.{before, behind, active-split, active-snoc, snapshots-snoc, active-last, link-low, one-stored, revert-split, reverted-chain}
 use Rattle.claims.proofs.SnappedChain.{snap-rows, snap-above, snapped-chain}
 use Rattle.claims.proofs.WrittenChain.{written-chain}
 

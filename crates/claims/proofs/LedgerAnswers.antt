@@ -34,9 +34,9 @@ use Rattle.calls.specs.Step.{step, isAccepted}
 use Rattle.claims.specs.History.{betaOf}
 use Rattle.claims.specs.Ledger.{Volume, Ledger, hasVolume, volumeNamed, ledgerRows, ledgerNumber, volumeRead, cellRead, namesFrom, ledgerNames, cellsFrom, volumeOf, volumesOf, ledgerOf}
 use Rattle.claims.specs.Claims.{blocksNeeded, isReam, recordNames, CheckClaim, ListClaim}
-use Rattle.calls.proofs.CardLaws.{active-at}
-use Rattle.claims.proofs.Rows.{no, rows-passed}
-use Rattle.claims.proofs.Agreement.{chain-is, end-active, target-member, active-target}
+use Rattle.calls.proofs.CardLaws.{active-at, chain-is}
+use Rattle.calls.proofs.RowLaws.{no, rows-passed}
+use Rattle.claims.proofs.Agreement.{end-active, target-member, active-target}
 use Rattle.claims.proofs.Changed.{named-append}
 use Rattle.claims.proofs.Frame.{list-claim}
 use Rattle.claims.proofs.ChainAfter.{active-split}

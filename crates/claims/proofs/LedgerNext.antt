@@ -34,7 +34,7 @@ use Rattle.claims.proofs.Kept.{descriptors-are}
 use Rattle.claims.proofs.Room.{accepted-card}
 use Rattle.claims.proofs.SoundStep.{agree-self}
 use Rattle.claims.proofs.LedgerAnswers.{linked-of, beta-upto, group-below, passing-found, volume-named}
-use Rattle.claims.proofs.Rows.{no}
+use Rattle.calls.proofs.RowLaws.{no}
 use Rattle.claims.proofs.Local.{shared-number}
 use Rattle.blocks.proofs.ByteLaws.{u32-part}
 use Rattle.blocks.proofs.DescriptorLaws.{Fits}

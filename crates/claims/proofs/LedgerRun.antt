@@ -17,7 +17,7 @@ use Rattle.calls.specs.Step.{step, after, isAccepted}
 use Rattle.claims.specs.History.{Standing, more, isFormat}
 use Rattle.claims.specs.Ledger.{Ledger, ledgerStep, ledgerOf, ledgerNames, cellRead}
 use Rattle.claims.specs.Claims.{ledgerAfter, recordNames, LedgerStep, LedgerClaim}
-use Rattle.claims.proofs.Rows.{no}
+use Rattle.calls.proofs.RowLaws.{no}
 use Rattle.claims.proofs.Runs.{standing-length, step-length}
 use Rattle.claims.proofs.LedgerAnswers.{ledger-reads, ledger-lists, ledger-number, ledger-place, ledger-no-room}
 use Rattle.claims.proofs.PassesAfter.{passes-revert}

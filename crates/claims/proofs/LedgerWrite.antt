@@ -27,7 +27,7 @@ use Rattle.calls.specs.Ladder.{writeRows, rowsOf, answerOf}
 use Rattle.calls.specs.Effect.{storesOf}
 use Rattle.calls.specs.Step.{step, isAccepted}
 use Rattle.calls.proofs.CardLaws.{active-at}
-use Rattle.claims.proofs.Rows.{no, rows-passed}
+use Rattle.calls.proofs.RowLaws.{no, rows-passed}
 use Rattle.claims.proofs.ChainAfter.{active-split, active-snoc, snapshots-snoc}
 use Rattle.claims.proofs.WrittenChain.{written-chain}
 use Rattle.claims.proofs.Kept.{descriptors-are}

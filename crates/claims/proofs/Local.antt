@@ -1,24 +1,20 @@
 -- Locality: what a descriptor block says, and whether it is sound, depends on that block, on N and on block 0 alone; two cards with the same blocks
 -- below where a chain ends have the same chain.
-use mathlib.Core.Path.{_≡_, refl, sym, ap, _∙_, subst}
-use mathlib.Core.Bool.{Bool, true, false, not, _&&_, _||_}
-use mathlib.Core.List.{List, [], _∷_, _++_, append-nil}
-use Prim.Native.Nat.{ℕ, zero, suc, _+_, _*_, _-_, _/_, _≤_, _<_}
-use native.Mathlib.Numerals.{add-one}
+use mathlib.Core.Path.{_≡_, sym, ap, _∙_}
+use mathlib.Core.List.{List, [], _++_}
+use Prim.Native.Nat.{ℕ, zero, suc, _+_, _*_, _≤_, _<_}
 use native.Mathlib.Omega.{arith}
-use lib.ListN.{length, take, getD, length-append}
+use lib.ListN.{length}
 use lib.Seq.{append-snoc}
-use lib.Dec.{eqb}
-use borrow.Author.Tests.{eq-eqb, ne-eqb}
-use Rattle.blocks.specs.Pick.{pick, same}
+use borrow.Author.Tests.{ne-eqb}
+use Rattle.blocks.specs.Pick.{same}
 use Rattle.blocks.specs.Bytes.{u32At, part, blockCount, blockAt}
-use Rattle.blocks.specs.Name.{isName}
-use Rattle.blocks.specs.Descriptor.{physical, costOf, mark, descriptorAt, tailAt, reservedOk, phiOk}
-use Rattle.blocks.specs.Chain.{formOk, regionOk, named, sound, Chain, Sound, chainFrom, chain, ends}
+use Rattle.blocks.specs.Descriptor.{costOf, descriptorAt}
+use Rattle.blocks.specs.Chain.{formOk, regionOk, sound, Sound, chainFrom, chain, ends}
 use Rattle.blocks.specs.declared.descriptor.Descriptor.{Descriptor}
 use Rattle.blocks.proofs.ByteLaws.{u32-part, part-part}
-use Rattle.blocks.proofs.ChainLaws.{region-end, cost-least}
-use Rattle.blocks.proofs.LinkedLaws.{Linked, last, more, sound-region, sound-long, sound-next, regionStart, region-start-zero, region-start-suc, linked-low}
+use Rattle.blocks.proofs.ChainLaws.{cost-least}
+use Rattle.blocks.proofs.LinkedLaws.{Linked, last, more, sound-long, sound-next, regionStart, region-start-zero, region-start-suc, linked-low}
 
 -- a block that two cards share
 module _ (s t : List ℕ) (p : ℕ) (in-s : 512 * p + 512 ≤ length s) (in-t : 512 * p + 512 ≤ length t) (shared : blockAt s p ≡ blockAt t p) where

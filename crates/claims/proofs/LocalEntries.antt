@@ -1,12 +1,11 @@
 -- Locality of entries: what is found, read and checked through a descriptor depends on the blocks below its beta alone.
-use mathlib.Core.Path.{_≡_, refl, sym, ap, _∙_, subst}
+use mathlib.Core.Path.{_≡_, refl, sym, ap, _∙_}
 use mathlib.Core.Bool.{Bool, true, false, not, _&&_, _||_}
 use mathlib.Core.List.{List, [], _∷_, _++_}
-use Prim.Native.Nat.{ℕ, zero, suc, _+_, _*_, _-_, _/_, _%_, _≤_, _<_}
+use Prim.Native.Nat.{ℕ, zero, suc, _+_, _*_, _/_, _%_, _≤_, _<_}
 use native.Mathlib.Omega.{arith}
-use lib.ListN.{length}
 use lib.Dec.{eqb, ltb, leb}
-use borrow.Author.Tests.{eq-eqb, ne-eqb, eqb-true, eqb-false}
+use borrow.Author.Tests.{eq-eqb, eqb-true, eqb-false}
 use Rattle.blocks.specs.Pick.{pick}
 use Rattle.blocks.specs.Bytes.{u32At, blockAt, zeroBlock}
 use Rattle.blocks.specs.Descriptor.{physical, tableCount}
@@ -17,8 +16,6 @@ use Rattle.entries.specs.Entry.{entryAt, phiAt, tableOf, entryFound, find}
 use Rattle.entries.specs.Naming.{Naming, tableNamings, tablesNamings, phiNamings, namings, among, atFault, firstFault, checkOne}
 use Rattle.entries.specs.declared.find.Found.{Found}
 use Rattle.entries.specs.declared.find.Found.the-variants.{Misplaced, Entry}
-use Rattle.entries.specs.declared.check.Verdict.{Verdict}
-use Rattle.entries.specs.declared.check.Verdict.the-variants.{Passed, Fault}
 use Rattle.entries.proofs.EntryLaws.{placed-below, find-placed}
 use Rattle.entries.proofs.CheckLaws.{fault-later, fault-here}
 use Rattle.calls.specs.Parts.{blockFound}

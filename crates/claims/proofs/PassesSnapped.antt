@@ -2,14 +2,14 @@
 use mathlib.Core.Path.{_≡_, refl, sym, ap, _∙_, subst}
 use mathlib.Core.Bool.{Bool, true, false, not, _&&_, _||_}
 use mathlib.Core.List.{List, [], _∷_, _++_}
-use Prim.Native.Nat.{ℕ, zero, suc, _+_, _*_, _-_, _/_, _%_, _≤_, _<_}
+use Prim.Native.Nat.{ℕ, suc, _+_, _*_, _-_, _/_, _%_, _≤_, _<_}
 use native.Mathlib.Omega.{arith}
 use lib.ListN.{length, getD, length-append, List·getD-append}
 use lib.Seq.{getD-append-add}
 use lib.Dec.{eqb, ltb, leb}
 use borrow.Author.Tests.{eq-eqb, ne-eqb, le-ltb, lt-ltb, eqb-true, eqb-false, ltb-true, ltb-false}
 use Rattle.blocks.specs.Pick.{pick}
-use Rattle.blocks.specs.Bytes.{u32At, part, blockCount, blockAt, Store, store, storeAll}
+use Rattle.blocks.specs.Bytes.{u32At, blockAt, Store, store, storeAll}
 use Rattle.blocks.specs.Descriptor.{physical, tableCount, cost, costOf, noDescriptor, tailAt, descriptorBlock, renamedOf, linkedOf, reopenedOf, copying}
 use Rattle.blocks.specs.declared.numbers.Physical.{Physical}
 use Rattle.blocks.specs.declared.descriptor.Descriptor.{Descriptor}
@@ -17,18 +17,18 @@ use Rattle.blocks.proofs.ByteLaws.{u32-part}
 use Rattle.blocks.proofs.DescriptorLaws.{Fits}
 use Rattle.blocks.proofs.SoundLaws.{form-most, form-layout}
 use Rattle.blocks.proofs.ChainLaws.{cost-least}
-use Rattle.blocks.proofs.LinkedLaws.{Linked, RegionAt, regionStart, chain-linked, linked-at, linked-rise, at-alpha, at-long, at-end}
+use Rattle.blocks.proofs.LinkedLaws.{Linked, RegionAt, regionStart, chain-linked, linked-at, linked-rise, at-alpha, at-long}
 use Rattle.entries.specs.InPlace.{isDescriptor, isTable, inPlace}
 use Rattle.entries.specs.Entry.{entryAt, phiAt, tableOf}
-use Rattle.entries.specs.Rules.{entryOf, PhiRules, TableRules, Rules}
+use Rattle.entries.specs.Rules.{entryOf, Rules}
 use Rattle.entries.proofs.EntryLaws.{placed-below}
 use Rattle.calls.specs.Call.{Snap}
-use Rattle.calls.specs.Parts.{areaBad, descriptorsOf, activeOf, snapshotsOf}
+use Rattle.calls.specs.Parts.{descriptorsOf, activeOf, snapshotsOf}
 use Rattle.calls.specs.Check.{Passes}
 use Rattle.calls.specs.Ladder.{answerOf}
 use Rattle.calls.specs.Effect.{storesOf}
 use Rattle.calls.specs.Step.{step, isAccepted}
-use Rattle.claims.proofs.Rows.{no}
+use Rattle.calls.proofs.RowLaws.{no}
 use Rattle.claims.proofs.Local.{shared-number}
 use Rattle.claims.proofs.Stored.{block-tail, stored-bytes, tail-part}
 use Rattle.calls.proofs.StepLaws.{stored-append}

@@ -26,10 +26,10 @@ use Rattle.calls.specs.Check.{Passes}
 use Rattle.calls.specs.Ladder.{answerOf}
 use Rattle.calls.specs.Effect.{storesOf}
 use Rattle.calls.specs.Step.{step, isAccepted}
-use Rattle.claims.specs.History.{Agree, betaOf}
-use Rattle.calls.proofs.CardLaws.{active-at}
-use Rattle.claims.proofs.Rows.{no}
-use Rattle.claims.proofs.Agreement.{chain-is, agree-region}
+use Rattle.claims.specs.History.{betaOf}
+use Rattle.calls.proofs.CardLaws.{active-at, chain-is}
+use Rattle.calls.proofs.RowLaws.{no}
+use Rattle.claims.proofs.Agreement.{agree-region}
 use Rattle.claims.proofs.StoreLists.{isStored, stored-length, stored-other}
 use Rattle.claims.proofs.Frame.{stores-inside}
 use Rattle.claims.proofs.ChainAfter.{active-split}

@@ -1,25 +1,17 @@
 -- Chains after stores: descriptors before the one that changes stay linked, and a descriptor that was stored is sound.
-use mathlib.Core.Path.{_≡_, refl, sym, ap, _∙_, subst}
-use mathlib.Core.Bool.{Bool, true, false, not, _&&_, _||_}
-use mathlib.Core.List.{List, [], _∷_, _++_, append-nil, append-assoc}
-use Prim.Native.Nat.{ℕ, zero, suc, _+_, _*_, _-_, _^_, _≤_, _<_}
+use mathlib.Core.Path.{_≡_, sym, ap, _∙_, subst}
+use mathlib.Core.Bool.{true}
+use mathlib.Core.List.{List, [], _∷_, _++_, append-nil}
+use Prim.Native.Nat.{ℕ, _*_, _≤_, _<_}
 use native.Mathlib.Omega.{arith}
-use lib.ListN.{length, take, drop, getD, length-append, length-take, length-drop}
-use lib.Seq.{append-snoc, take-all, drop-append-le, take-append-le, drop-append-add, drop-at, take-at}
-use lib.Dec.{eqb, ltb, leb}
-use borrow.Author.Tests.{eq-eqb, ne-eqb, le-leb, lt-ltb, eqb-true}
-use Rattle.blocks.specs.Pick.{pick, same}
-use Rattle.blocks.specs.Bytes.{u32At, le32, splice, part, blockCount, blockAt}
-use Rattle.blocks.specs.Name.{isName}
-use Rattle.blocks.specs.Descriptor.{physical, cost, costOf, mark, descriptorAt, headBytes, tailAt, descriptorBlock, reservedOk, phiOk}
-use Rattle.blocks.specs.Chain.{formOk, regionOk, named, sound}
+use lib.ListN.{length, length-append}
+use lib.Seq.{append-snoc}
+use Rattle.blocks.specs.Bytes.{blockAt}
+use Rattle.blocks.specs.Descriptor.{descriptorAt}
+use Rattle.blocks.specs.Chain.{sound}
 use Rattle.blocks.specs.declared.descriptor.Descriptor.{Descriptor}
-use Rattle.blocks.proofs.Tests.{and-left, and-right}
-use Rattle.blocks.proofs.ByteLaws.{u32-part, part-part, digits, length-part, splice-whole, splice-start}
 use Rattle.blocks.proofs.ChainLaws.{cost-least}
-use Rattle.blocks.proofs.ListLaws.{same-self}
-use Rattle.blocks.proofs.DescriptorLaws.{Fits, head-length, read-back}
-use Rattle.blocks.proofs.LinkedLaws.{Linked, last, more, sound-region, sound-form, sound-alpha, sound-long, sound-next, linked-some, linked-low, regionStart, region-start-zero, region-start-suc}
+use Rattle.blocks.proofs.LinkedLaws.{Linked, last, more, sound-alpha, sound-long, sound-next, linked-some}
 use Rattle.claims.proofs.Local.{shared-descriptor, shared-sound}
 
 -- where the descriptors of a chain stand

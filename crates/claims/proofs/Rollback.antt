@@ -1,31 +1,31 @@
 -- The rollback claim.
 use mathlib.Core.Path.{_≡_, refl, sym, ap, _∙_, subst}
 use mathlib.Core.Logic.{_⊎_, inl, inr}
-use mathlib.Core.Bool.{Bool, true, false, not, _&&_, _||_}
+use mathlib.Core.Bool.{Bool, true, false, _||_}
 use mathlib.Core.List.{List, [], _∷_, _++_}
-use Prim.Native.Nat.{ℕ, zero, suc, _+_, _*_, _-_, _≤_, _<_}
+use Prim.Native.Nat.{ℕ, suc, _+_, _*_, _≤_, _<_}
 use native.Mathlib.Omega.{arith}
 use lib.ListN.{length, take, drop, getD, take-append-drop, length-append, length-drop}
 use lib.Seq.{take-append-seam, getD-append-seam, take-take, take-suc, drop-cons, length-take-le}
 use borrow.Author.Tests.{not-false}
 use Rattle.blocks.specs.Pick.{pick, same}
-use Rattle.blocks.specs.Bytes.{part, blockAt, Store, store, storeAll}
+use Rattle.blocks.specs.Bytes.{blockAt, store, storeAll}
 use Rattle.blocks.specs.Name.{isName}
-use Rattle.blocks.specs.Descriptor.{physical, costOf, noDescriptor, tailAt, descriptorBlock, renamedOf, linkedOf, reopenedOf}
-use Rattle.blocks.specs.Chain.{Chain, Sound, chain, chainSound, descriptors, named}
+use Rattle.blocks.specs.Descriptor.{physical, noDescriptor, tailAt, descriptorBlock, renamedOf, linkedOf, reopenedOf}
+use Rattle.blocks.specs.Chain.{Sound, chain, chainSound, descriptors, named}
 use Rattle.blocks.specs.declared.descriptor.Descriptor.{Descriptor}
 use Rattle.blocks.proofs.ListLaws.{same-equal, same-self}
 use Rattle.calls.specs.Call.{Call, Snap, Revert, Check}
-use Rattle.calls.specs.Parts.{areaBad, descriptorsOf, activeOf, snapshotsOf, withName, indexOf}
+use Rattle.calls.specs.Parts.{descriptorsOf, activeOf, snapshotsOf, withName, indexOf}
 use Rattle.calls.specs.Ladder.{rowsOf, revertRows, answerOf}
 use Rattle.calls.specs.Effect.{storesOf, reverting}
 use Rattle.calls.specs.Step.{step, after, isAccepted}
-use Rattle.claims.specs.History.{betaOf, Agree, AreBytes, Standing, Position, Nowhere, At, latestSnap, without}
-use Rattle.claims.specs.Claims.{Matched, Forgets, RevertedAt, RollbackClaim}
+use Rattle.claims.specs.History.{betaOf, Agree, AreBytes, Standing, without}
+use Rattle.claims.specs.Claims.{Matched, RevertedAt}
 use Rattle.calls.proofs.NamedLaws.{with-name-index}
-use Rattle.claims.proofs.Rows.{no, rows-passed}
+use Rattle.calls.proofs.RowLaws.{no, rows-passed}
 use Rattle.claims.proofs.Local.{shared-bytes}
-use Rattle.claims.proofs.Agreement.{chain-is}
+use Rattle.calls.proofs.CardLaws.{chain-is}
 use Rattle.claims.proofs.Changed.{member-fresh, member-inside}
 use Rattle.claims.proofs.StoreLists.{Whole, stored-length, stored-both, blocks-taken}
 use Rattle.claims.proofs.Frame.{stores-inside}
@@ -34,8 +34,8 @@ use Rattle.claims.proofs.SnappedChain.{snapped-chain}
 use Rattle.claims.proofs.Kept.{Stands, descriptors-are, stands-snapshots, stands-active}
 use Rattle.claims.proofs.Room.{accepted-card}
 use Rattle.claims.proofs.AgreeStep.{agree-step}
-use Rattle.claims.proofs.Latest.{Unsnapped, gone-run, stands-run, LastSnap, latest-nowhere, latest-at, snap-of}
-use Rattle.claims.proofs.Runs.{standing-length, standing-take, standing-drop, after-append, after-length, after-split, matched-from, without-drop, without-take}
+use Rattle.claims.proofs.Latest.{Unsnapped, gone-run, stands-run, LastSnap, snap-of}
+use Rattle.claims.proofs.Runs.{standing-length, standing-take, standing-drop, after-append, after-length, matched-from, without-drop, without-take}
 use Rattle.claims.proofs.Undone.{revert-passes, area-kept, undone, undone-accepted}
 
 -- the first of a name stands after those that have another

@@ -1,7 +1,7 @@
 -- Alpha and beta after accepted calls.
-use mathlib.Core.Path.{_≡_, refl, sym, ap, _∙_}
+use mathlib.Core.Path.{_≡_, ap, _∙_}
 use mathlib.Core.Bool.{true}
-use mathlib.Core.List.{List, [], _∷_, _++_}
+use mathlib.Core.List.{List}
 use Prim.Native.Nat.{ℕ}
 use Rattle.blocks.specs.Bytes.{storeAll}
 use Rattle.blocks.specs.Chain.{Sound, chain}
@@ -11,7 +11,7 @@ use Rattle.calls.specs.Parts.{descriptorsOf, activeOf, snapshotsOf}
 use Rattle.calls.specs.Ladder.{answerOf}
 use Rattle.calls.specs.Effect.{storesOf}
 use Rattle.calls.specs.Step.{step, isAccepted}
-use Rattle.claims.specs.Claims.{blocksNeeded, MovesBeta, RoomClaim}
+use Rattle.claims.specs.Claims.{blocksNeeded, RoomClaim}
 use Rattle.claims.proofs.ChainAfter.{before, active-snoc, reverted-chain}
 use Rattle.claims.proofs.SnappedChain.{snapped-chain}
 use Rattle.claims.proofs.WrittenChain.{written-chain}

@@ -1,5 +1,4 @@
 -- Every definition that a run of calls goes through, so that a statement about given cards is computed: `unfolding running` opens them all.
-use mathlib.Core.List.{List}
 use Prim.Native.Nat.{ℕ}
 use Rattle.blocks.specs.Pick.{same, allZero}
 use Rattle.blocks.specs.Bytes.{splice, u32At, le32, blockCount, blockAt, storeBlock, storeAll}

@@ -1,33 +1,33 @@
 -- On two cards that agree, an accepted call makes the same stores, and stores every block that it takes.
-use mathlib.Core.Path.{_≡_, refl, sym, ap, _∙_, subst}
+use mathlib.Core.Path.{_≡_, refl, sym}
 use mathlib.Core.Logic.{_⊎_, inl, inr}
 use mathlib.Core.Bool.{Bool, true, false, not, _&&_, _||_}
 use mathlib.Core.List.{List, [], _∷_, _++_}
-use Prim.Native.Nat.{ℕ, zero, suc, _+_, _*_, _-_, _/_, _%_, _≤_, _<_}
+use Prim.Native.Nat.{ℕ, zero, suc, _+_, _-_, _≤_, _<_}
 use native.Mathlib.Omega.{arith}
-use lib.ListN.{length, take}
+use lib.ListN.{take}
 use lib.Dec.{eqb, ltb, leb}
-use borrow.Author.Tests.{eq-eqb, eqb-true, eqb-false, ltb-true, ltb-false, leb-false, not-false}
+use borrow.Author.Tests.{eq-eqb, eqb-false, ltb-true, ltb-false, leb-false, not-false}
 use Rattle.blocks.specs.Pick.{pick}
-use Rattle.blocks.specs.Bytes.{part, blockCount, blockAt, zeroBlock, Store, store}
-use Rattle.blocks.specs.Descriptor.{physical, cost, costOf, tailAt, descriptorBlock, renamedOf, linkedOf, extendedOf, reopenedOf, copying}
-use Rattle.blocks.specs.Chain.{chain, chainSound, named}
+use Rattle.blocks.specs.Bytes.{blockAt, Store, store}
+use Rattle.blocks.specs.Descriptor.{costOf, tailAt, descriptorBlock, renamedOf, linkedOf, reopenedOf, copying}
+use Rattle.blocks.specs.Chain.{chain, chainSound}
 use Rattle.blocks.specs.declared.numbers.Physical.{Physical}
 use Rattle.blocks.specs.declared.descriptor.Descriptor.{Descriptor}
 use Rattle.blocks.proofs.ChainLaws.{cost-least}
-use Rattle.entries.specs.Entry.{find, tableIsNew, need, tableWith, tailWith, setInTable, setInNewTable, writing}
+use Rattle.entries.specs.Entry.{find, tableIsNew, need, setInTable, setInNewTable, writing}
 use Rattle.entries.specs.declared.find.Found.{Found}
 use Rattle.entries.specs.declared.find.Found.the-variants.{Misplaced, Entry}
 use Rattle.entries.proofs.EntryLaws.{found-table}
 use Rattle.calls.specs.declared.answer.Target.the-variants.{Active}
-use Rattle.calls.specs.Call.{Call, Write, Snap, Revert}
+use Rattle.calls.specs.Call.{Write, Snap, Revert}
 use Rattle.calls.specs.Parts.{areaBad, descriptorsOf, activeOf, snapshotsOf, withName, foundThrough, isMisplaced}
 use Rattle.calls.specs.Ladder.{rowsOf, writeRows, answerOf}
 use Rattle.calls.specs.Effect.{storesOf, snapping, reverting}
 use Rattle.calls.specs.Step.{isAccepted}
 use Rattle.claims.specs.History.{betaOf, Agree}
-use Rattle.claims.proofs.Rows.{no, rows-passed}
-use Rattle.claims.proofs.Local.{Below, shared-bytes}
+use Rattle.calls.proofs.RowLaws.{rows-passed}
+use Rattle.claims.proofs.Local.{shared-bytes}
 use Rattle.claims.proofs.Agreement.{agree-below, agree-chain, found-same, active-target}
 use Rattle.claims.proofs.StoreLists.{isStored, stored-join}
 use Rattle.claims.proofs.Frame.{active-through}

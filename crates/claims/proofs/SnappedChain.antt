@@ -1,38 +1,33 @@
 -- The chain after an accepted snap.
-use mathlib.Core.Path.{_≡_, refl, sym, ap, _∙_, subst}
-use mathlib.Core.Logic.{_⊎_, inl, inr}
-use mathlib.Core.Bool.{Bool, true, false, not, _&&_, _||_}
-use mathlib.Core.List.{List, [], _∷_, _++_, append-assoc}
-use Prim.Native.Nat.{ℕ, zero, suc, _+_, _*_, _-_, _^_, _≤_, _<_}
+use mathlib.Core.Path.{_≡_, refl, sym, ap, _∙_}
+use mathlib.Core.Logic.{inl, inr}
+use mathlib.Core.Bool.{Bool, true, false, _||_}
+use mathlib.Core.List.{List, [], _∷_, _++_}
+use Prim.Native.Nat.{ℕ, _+_, _*_, _-_, _≤_, _<_}
 use native.Mathlib.Omega.{arith}
-use lib.ListN.{length, take, drop, getD, length-append}
-use lib.Seq.{split-at, length-take-le, append-snoc}
-use lib.Dec.{eqb, ltb, leb}
-use borrow.Author.Tests.{ltb-true, ltb-false, leb-false, not-false, ne-eqb}
+use lib.ListN.{length, length-append}
+use lib.Seq.{append-snoc}
+use borrow.Author.Tests.{ltb-false, leb-false, not-false, ne-eqb}
 use Rattle.blocks.specs.Pick.{same}
-use Rattle.blocks.specs.Bytes.{part, blockCount, blockAt, Store, store, storeAll}
+use Rattle.blocks.specs.Bytes.{blockCount, blockAt, Store, store, storeAll}
 use Rattle.blocks.specs.Name.{isName}
-use Rattle.blocks.specs.Descriptor.{physical, cost, costOf, noDescriptor, descriptorAt, tailAt, descriptorBlock, renamedOf, linkedOf, reopenedOf, copying, reservedOk, phiOk}
-use Rattle.blocks.specs.Chain.{formOk, regionOk, named, sound, Sound, chain, chainSound}
+use Rattle.blocks.specs.Descriptor.{costOf, descriptorAt, tailAt, descriptorBlock, renamedOf, linkedOf, reopenedOf, copying}
+use Rattle.blocks.specs.Chain.{named, sound, Sound, chain, chainSound}
 use Rattle.blocks.specs.declared.descriptor.Descriptor.{Descriptor}
 use Rattle.blocks.proofs.ListLaws.{same-equal, same-self}
 use Rattle.blocks.proofs.DescriptorLaws.{Fits}
-use Rattle.blocks.proofs.SoundLaws.{form-most, form-layout}
-use Rattle.blocks.proofs.ChainLaws.{region-long, region-end, cost-least}
-use Rattle.blocks.proofs.LinkedLaws.{Linked, last, more, chain-linked, chain-few, linked-some}
-use Rattle.calls.specs.Call.{Call, Snap, Revert}
-use Rattle.calls.specs.Parts.{areaBad, descriptorsOf, activeOf, snapshotsOf, withName, indexOf}
-use Rattle.calls.specs.Ladder.{rowsOf, revertRows, snapRows, answerOf}
-use Rattle.calls.specs.Effect.{storesOf, reverting, snapping}
+use Rattle.blocks.proofs.ChainLaws.{cost-least}
+use Rattle.blocks.proofs.LinkedLaws.{last, more, chain-linked}
+use Rattle.calls.specs.Call.{Snap}
+use Rattle.calls.specs.Parts.{areaBad, descriptorsOf, activeOf, snapshotsOf}
+use Rattle.calls.specs.Ladder.{rowsOf, snapRows, answerOf}
+use Rattle.calls.specs.Effect.{storesOf, snapping}
 use Rattle.calls.specs.Step.{isAccepted}
-use Rattle.calls.proofs.NamedLaws.{named-index, with-name-index}
-use Rattle.calls.proofs.CardLaws.{card-most}
-use Rattle.claims.proofs.Rows.{no, rows-passed}
+use Rattle.calls.proofs.RowLaws.{no, rows-passed}
 use Rattle.claims.proofs.Local.{linked-chain}
 use Rattle.claims.proofs.Relinked.{linked-next, relinked}
-use Rattle.claims.proofs.Agreement.{chain-is}
-use Rattle.claims.proofs.Stored.{block-long, stored-descriptor, stored-form, region-ok, tail-long, tail-part, form-kept, form-phi, form-name}
-use Rattle.claims.proofs.Changed.{name-long, layout-small, named-append, named-left, member-from, member-form, member-region, member-fresh, member-inside, changed-is, changed-first, changed-ok, changed-last}
+use Rattle.claims.proofs.Stored.{block-long, stored-descriptor, stored-form, region-ok, tail-long}
+use Rattle.claims.proofs.Changed.{named-append, named-left, member-from, changed-first, changed-ok}
 use Rattle.claims.proofs.StoreLists.{Whole, none, also, whole-append, isStored, stored-join, stored-length, stored-other, stored-last}
 use Rattle.claims.proofs.Frame.{stores-inside, inside-copying}
 use Rattle.claims.proofs.ChainAfter.{fits-of, sound-is, active-last, active-name, active-fresh, link-form, link-inside, link-long, link-most, link-low, link-layout, link-volume, link-reserved, link-phi, count-kept, none-stored, one-stored, copies-stored}

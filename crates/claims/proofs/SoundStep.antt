@@ -15,7 +15,7 @@ use Rattle.calls.specs.Effect.{storesOf}
 use Rattle.calls.specs.Step.{step, isAccepted}
 use Rattle.claims.specs.History.{Agree, isFormat}
 use Rattle.claims.specs.Claims.{MovesBeta, RoomClaim, SoundClaim}
-use Rattle.claims.proofs.Rows.{no}
+use Rattle.calls.proofs.RowLaws.{no}
 use Rattle.claims.proofs.ChainAfter.{before, behind, active-append, active-last, link-region, revert-rows, revert-split}
 use Rattle.claims.proofs.AgreeStep.{active-two, agree-step}
 use Rattle.claims.proofs.Room.{room-claim}

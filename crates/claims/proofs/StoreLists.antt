@@ -1,15 +1,15 @@
 -- Lists of whole-block stores: the length stays, what is stored is the same on any card, and other blocks stay.
-use mathlib.Core.Path.{_≡_, refl, sym, ap, _∙_, subst}
+use mathlib.Core.Path.{_≡_, refl, sym, ap, _∙_}
 use mathlib.Core.Logic.{_⊎_, inl, inr}
-use mathlib.Core.Bool.{Bool, true, false, not, _&&_, _||_}
+use mathlib.Core.Bool.{Bool, true, false, not, _||_}
 use mathlib.Core.List.{List, [], _∷_, _++_}
 use Prim.Native.Nat.{ℕ, zero, suc, _+_, _*_, _≤_, _<_}
 use native.Mathlib.Omega.{arith}
-use lib.ListN.{length, take, drop}
+use lib.ListN.{length, take}
 use lib.Seq.{take-add}
 use lib.Dec.{eqb}
-use borrow.Author.Tests.{eq-eqb, eqb-true, eqb-false}
-use Rattle.blocks.specs.Bytes.{part, blockAt, Store, store, storeBlock, storeAll}
+use borrow.Author.Tests.{eqb-true, eqb-false}
+use Rattle.blocks.specs.Bytes.{blockAt, Store, store, storeBlock, storeAll}
 use Rattle.blocks.proofs.ByteLaws.{store-length, store-same, store-other}
 use Rattle.calls.proofs.StepLaws.{stored-append}
 

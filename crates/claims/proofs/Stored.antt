@@ -1,19 +1,19 @@
 -- A descriptor block that was stored: what is read from it, and when it is sound.
 use mathlib.Core.Path.{_≡_, refl, sym, ap, _∙_, subst}
 use mathlib.Core.Logic.{_⊎_, inl, inr}
-use mathlib.Core.Bool.{Bool, true, false, not, _&&_, _||_}
-use mathlib.Core.List.{List, [], _∷_, _++_}
-use Prim.Native.Nat.{ℕ, zero, suc, _+_, _*_, _-_, _^_, _≤_, _<_}
+use mathlib.Core.Bool.{Bool, true, false, _&&_, _||_}
+use mathlib.Core.List.{List, _++_}
+use Prim.Native.Nat.{ℕ, zero, _+_, _*_, _≤_, _<_}
 use native.Mathlib.Omega.{arith}
 use lib.ListN.{length, take, drop, length-append}
-use lib.Seq.{take-append-le, drop-append-add, drop-at}
+use lib.Seq.{drop-append-add, drop-at}
 use lib.Dec.{eqb, ltb, leb}
-use borrow.Author.Tests.{eq-eqb, ne-eqb, le-leb, lt-ltb}
-use Rattle.blocks.specs.Pick.{pick, same}
-use Rattle.blocks.specs.Bytes.{u32At, splice, part, blockCount, blockAt}
+use borrow.Author.Tests.{eq-eqb, le-leb, lt-ltb}
+use Rattle.blocks.specs.Pick.{same}
+use Rattle.blocks.specs.Bytes.{splice, part, blockAt}
 use Rattle.blocks.specs.Name.{isName}
-use Rattle.blocks.specs.Descriptor.{physical, costOf, mark, descriptorAt, headBytes, tailAt, descriptorBlock, reservedOk, phiOk}
-use Rattle.blocks.specs.Chain.{formOk, regionOk, named, sound}
+use Rattle.blocks.specs.Descriptor.{costOf, mark, descriptorAt, headBytes, tailAt, descriptorBlock, reservedOk, phiOk}
+use Rattle.blocks.specs.Chain.{formOk, regionOk, sound}
 use Rattle.blocks.specs.declared.descriptor.Descriptor.{Descriptor}
 use Rattle.blocks.proofs.Tests.{and-left, and-right}
 use Rattle.blocks.proofs.ByteLaws.{u32-part, part-part, length-part, splice-start}

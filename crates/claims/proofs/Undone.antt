@@ -24,7 +24,7 @@ use Rattle.calls.specs.Ladder.{firstRow, rowsOf, revertRows, answerOf}
 use Rattle.calls.specs.Effect.{storesOf, reverting, snapping}
 use Rattle.calls.specs.Step.{isAccepted}
 use Rattle.claims.specs.History.{betaOf, Agree, AreBytes}
-use Rattle.claims.proofs.Rows.{no}
+use Rattle.calls.proofs.RowLaws.{no}
 use Rattle.claims.proofs.Changed.{named-append, named-left, member-is}
 use Rattle.claims.proofs.StoreLists.{Whole, none, isStored, stored-join, stored-length, stored-other, stored-last, blocks-taken}
 use Rattle.claims.proofs.Frame.{stores-inside}

@@ -29,9 +29,8 @@ use Rattle.calls.specs.Check.{Passes}
 use Rattle.calls.specs.Ladder.{writeRows, rowsOf, answerOf}
 use Rattle.calls.specs.Effect.{storesOf}
 use Rattle.calls.specs.Step.{isAccepted}
-use Rattle.calls.proofs.CardLaws.{active-at, card-most}
-use Rattle.claims.proofs.Rows.{no, rows-passed}
-use Rattle.claims.proofs.Agreement.{chain-is}
+use Rattle.calls.proofs.CardLaws.{active-at, card-most, chain-is}
+use Rattle.calls.proofs.RowLaws.{no, rows-passed}
 use Rattle.claims.proofs.Stored.{stored-bytes, block-tail, tail-long}
 use Rattle.claims.proofs.Changed.{name-long}
 use Rattle.claims.proofs.StoreLists.{Whole, isStored, stored-length, stored-other}

@@ -32,9 +32,8 @@ use Rattle.calls.specs.Check.{Passes}
 use Rattle.calls.specs.Ladder.{writeRows, rowsOf, answerOf}
 use Rattle.calls.specs.Effect.{storesOf}
 use Rattle.calls.specs.Step.{isAccepted}
-use Rattle.calls.proofs.CardLaws.{active-at, card-most}
-use Rattle.claims.proofs.Rows.{no, rows-passed}
-use Rattle.claims.proofs.Agreement.{chain-is}
+use Rattle.calls.proofs.CardLaws.{active-at, card-most, chain-is}
+use Rattle.calls.proofs.RowLaws.{no, rows-passed}
 use Rattle.claims.proofs.Changed.{layout-small, member-form}
 use Rattle.claims.proofs.StoreLists.{Whole, stored-length, stored-other}
 use Rattle.claims.proofs.Frame.{stores-inside}

@@ -31,11 +31,10 @@ use Rattle.calls.specs.Parts.{descriptorsOf, activeOf, snapshotsOf, foundThroug
 use Rattle.calls.specs.Ladder.{writeRows, rowsOf, answerOf}
 use Rattle.calls.specs.Effect.{storesOf}
 use Rattle.calls.specs.Step.{isAccepted}
-use Rattle.calls.proofs.CardLaws.{card-most}
-use Rattle.claims.proofs.Rows.{no, rows-passed}
+use Rattle.calls.proofs.CardLaws.{card-most, chain-is}
+use Rattle.calls.proofs.RowLaws.{no, rows-passed}
 use Rattle.claims.proofs.Local.{linked-chain, shared-descriptor, shared-sound}
 use Rattle.claims.proofs.Relinked.{linked-from, linked-head, relinked, linked-next}
-use Rattle.claims.proofs.Agreement.{chain-is}
 use Rattle.claims.proofs.Stored.{tail-long, tail-part, form-kept, form-phi, form-name}
 use Rattle.claims.proofs.Changed.{name-long, layout-small, member-form, member-region, member-fresh, member-inside, changed-last}
 use Rattle.claims.proofs.StoreLists.{Whole, also, isStored, stored-length, stored-other}

@@ -1,5 +1,5 @@
 -- Laws that tie the check in code, with its flags, to the namings of a descriptor.
-use mathlib.Core.Path.{_≡_, refl, sym, ap, _∙_, subst}
+use mathlib.Core.Path.{_≡_, refl, sym, ap, _∙_}
 use mathlib.Core.Logic.{_⊎_, inl, inr}
 use mathlib.Core.Bool.{Bool, true, false, not, _&&_, _||_}
 use mathlib.Core.List.{List, [], _∷_, _++_}
@@ -19,7 +19,6 @@ use Rattle.entries.specs.Entry.{entryAt, phiAt, tableOf}
 use Rattle.entries.specs.Naming.{Naming, among, atFault, tableNamings, tablesNamings, phiNamings, firstFault}
 use Rattle.entries.specs.Marks.{takes, taking, Marks, Walked, namedTable, TableReady, TablesReady, PhiReady}
 use Rattle.entries.proofs.MarkLaws.{takes-below, length-taking}
-use Rattle.entries.specs.declared.check.Verdict.{Verdict}
 use Rattle.entries.specs.declared.check.Verdict.the-variants.{Passed, Fault}
 
 no : {A : Type 0} → false ≡ true → A

@@ -1,27 +1,27 @@
 -- Laws of finding, as the code asks them.
 use mathlib.Core.Path.{_≡_, refl, sym, ap, _∙_}
 use mathlib.Core.Bool.{Bool, true, false, not, _&&_, _||_}
-use mathlib.Core.List.{List, [], _∷_}
+use mathlib.Core.List.{List}
 use Prim.Native.Nat.{ℕ, _+_, _*_, _/_, _%_, _≤_, _<_, _^_}
 use native.Mathlib.Omega.{arith}
-use lib.ListN.{length, getD}
-use lib.Dec.{eqb, ltb, leb}
-use borrow.Author.Tests.{eq-eqb, ne-eqb, le-ltb, not-true, not-false, ltb-true, ltb-false, eqb-true, eqb-false}
+use lib.ListN.{length}
+use lib.Dec.{eqb, ltb}
+use borrow.Author.Tests.{eq-eqb, ne-eqb, not-true, not-false, ltb-true, eqb-true, eqb-false}
 use Rattle.blocks.specs.Pick.{pick}
 use Rattle.blocks.specs.Bytes.{blockCount}
-use Rattle.blocks.specs.Descriptor.{physical, tableCount, cost, costOf, descriptorAt}
+use Rattle.blocks.specs.Descriptor.{physical, tableCount, cost, costOf}
 use Rattle.blocks.specs.Chain.{chain, descriptors}
 use Rattle.blocks.specs.declared.numbers.Physical.{Physical}
 use Rattle.blocks.specs.declared.descriptor.Descriptor.{Descriptor}
 use Rattle.blocks.proofs.SoundLaws.{form-most}
 use Rattle.blocks.proofs.ChainLaws.{cost-least}
 use Rattle.blocks.proofs.LinkedLaws.{at-alpha, at-long, at-end}
-use Rattle.entries.specs.InPlace.{isDescriptor, isTable, regionOf, inPlaceAt, inPlace}
-use Rattle.entries.specs.Entry.{phiAt, tableOf, entryAt, entryFound, find}
-use Rattle.entries.specs.Through.{RisingRegions, Through}
+use Rattle.entries.specs.InPlace.{isDescriptor, isTable, inPlaceAt, inPlace}
+use Rattle.entries.specs.Entry.{tableOf, entryAt, entryFound, find}
+use Rattle.entries.specs.Through.{Through}
 use Rattle.entries.specs.declared.find.Found.{Found}
 use Rattle.entries.specs.declared.find.Found.the-variants.{Misplaced, Entry}
-use Rattle.entries.proofs.RegionLaws.{through-region, through-rising, in-place-region}
+use Rattle.entries.proofs.RegionLaws.{through-region, in-place-region}
 
 cost-of-1 : (d : Descriptor) → d .layout ≡ 1 → costOf d ≡ 1 + (d .volume + 127) / 128
 unfolding cost tableCount

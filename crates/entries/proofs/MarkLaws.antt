@@ -1,24 +1,15 @@
 -- Laws of the flags that the check in code keeps.
-use mathlib.Core.Path.{_≡_, refl, sym, ap, _∙_, subst}
-use mathlib.Core.Logic.{_⊎_, inl, inr}
-use mathlib.Core.Bool.{Bool, true, false, not, _&&_, _||_}
-use mathlib.Core.List.{List, [], _∷_, _++_}
-use Prim.Native.Nat.{ℕ, zero, suc, _+_, _*_, _-_, _≤_, _<_}
+use mathlib.Core.Path.{_≡_, refl}
+use mathlib.Core.Bool.{Bool, true, false, not, _&&_}
+use mathlib.Core.List.{List}
+use Prim.Native.Nat.{ℕ, _+_, _≤_, _<_}
 use native.Mathlib.Numerals.{add-one}
 use native.Mathlib.Omega.{arith}
 use lib.ListN.{length, getD, set, length-set}
-use lib.Seq.{getD-set-same, getD-set-other}
-use lib.Dec.{eqb, ltb, leb}
-use borrow.Author.Tests.{eq-eqb, ne-eqb, lt-ltb, le-ltb, le-leb, lt-leb, eqb-true, eqb-false, ltb-true, ltb-false, not-true, not-false}
+use lib.Dec.{eqb, ltb}
+use borrow.Author.Tests.{ne-eqb, lt-ltb, le-ltb, ltb-true, not-true, not-false}
 use Rattle.blocks.specs.Pick.{pick}
-use Rattle.blocks.specs.Descriptor.{physical}
-use Rattle.blocks.specs.declared.descriptor.Descriptor.{Descriptor}
-use Rattle.entries.specs.InPlace.{isDescriptor, isTable, inPlace}
-use Rattle.entries.specs.Entry.{entryAt}
-use Rattle.entries.specs.Naming.{Naming, among, atFault, tableNamings, firstFault}
-use Rattle.entries.specs.Marks.{takes, taking, flagged, openingsFlagged, Marks, Walked, TableReady}
-use Rattle.entries.specs.declared.check.Verdict.{Verdict}
-use Rattle.entries.specs.declared.check.Verdict.the-variants.{Passed, Fault}
+use Rattle.entries.specs.Marks.{takes, taking, flagged, openingsFlagged}
 
 -- takes and taking, by the tests of the code
 module _ (seen : List Bool) (limit : ℕ) (counted : Bool) (v : ℕ) where

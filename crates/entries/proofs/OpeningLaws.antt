@@ -1,24 +1,22 @@
 -- The flags of all openings say which blocks are descriptors or layout 1 table blocks, and the check of one descriptor starts from them.
-use mathlib.Core.Path.{_≡_, refl, sym, ap, _∙_, subst}
+use mathlib.Core.Path.{_≡_, refl, sym, ap, _∙_}
 use mathlib.Core.Bool.{Bool, true, false, not, _&&_, _||_}
 use mathlib.Core.List.{List, [], _∷_, _++_}
-use Prim.Native.Nat.{ℕ, zero, suc, _+_, _*_, _-_, _/_, _≤_, _<_}
-use native.Mathlib.Numerals.{add-one}
+use Prim.Native.Nat.{ℕ, zero, suc, _+_, _≤_, _<_}
 use native.Mathlib.Omega.{arith}
-use lib.ListN.{length, take, getD, set, replicate, length-set, length-replicate, getD-replicate}
+use lib.ListN.{length, take, getD, set, replicate, length-set}
 use lib.Seq.{getD-set-same, getD-set-other, take-suc, take-length}
 use lib.Dec.{eqb, ltb, leb}
-use borrow.Author.Tests.{eq-eqb, ne-eqb, lt-ltb, le-ltb, le-leb, lt-leb, eqb-true, eqb-false, ltb-true, ltb-false, leb-true, leb-false, not-true, not-false}
-use Rattle.blocks.specs.Pick.{pick}
+use borrow.Author.Tests.{eq-eqb, ne-eqb, lt-ltb, le-ltb, le-leb, lt-leb, eqb-true, eqb-false, ltb-true, ltb-false, leb-true, leb-false}
 use Rattle.blocks.specs.Bytes.{blockCount}
-use Rattle.blocks.specs.Descriptor.{tableCount, cost, costOf, noDescriptor, descriptorAt}
+use Rattle.blocks.specs.Descriptor.{tableCount, cost, costOf, noDescriptor}
 use Rattle.blocks.specs.Chain.{chain, descriptors}
 use Rattle.blocks.specs.declared.descriptor.Descriptor.{Descriptor}
 use Rattle.blocks.proofs.SoundLaws.{form-layout}
 use Rattle.blocks.proofs.ChainLaws.{cost-least}
 use Rattle.blocks.proofs.LinkedLaws.{at-alpha, at-cost, at-long, at-end}
 use Rattle.entries.specs.InPlace.{isDescriptor, isTable}
-use Rattle.entries.specs.Through.{RisingRegions, Through}
+use Rattle.entries.specs.Through.{Through}
 use Rattle.entries.specs.Naming.{among, tablesNamings, phiNamings, namings, firstFault, checkOne}
 use Rattle.entries.specs.Marks.{flagged, openingsFlagged, Marks, TablesReady, PhiReady}
 use Rattle.entries.specs.declared.check.Verdict.{Verdict}

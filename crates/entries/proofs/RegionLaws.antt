@@ -2,19 +2,16 @@
 use mathlib.Core.Path.{_≡_, refl, sym, ap, _∙_, subst}
 use mathlib.Core.Bool.{Bool, true, false, not, _&&_, _||_}
 use mathlib.Core.List.{List, [], _∷_, _++_}
-use Prim.Native.Nat.{ℕ, zero, suc, _+_, _*_, _-_, _/_, _≤_, _<_}
-use native.Mathlib.Numerals.{add-one}
+use Prim.Native.Nat.{ℕ, suc, _+_, _-_, _≤_, _<_}
 use native.Mathlib.Omega.{arith}
-use lib.ListN.{length, getD, replicate, length-append, length-replicate}
+use lib.ListN.{length, getD, replicate}
 use lib.Dec.{eqb, ltb, leb}
-use borrow.Author.Tests.{eq-eqb, ne-eqb, lt-ltb, le-ltb, le-leb, lt-leb, eqb-true, eqb-false, ltb-true, ltb-false, leb-true, leb-false}
+use borrow.Author.Tests.{ne-eqb, lt-ltb, le-ltb, le-leb, lt-leb, eqb-true, eqb-false, ltb-true, ltb-false, leb-true, leb-false}
 use Rattle.blocks.specs.Pick.{pick}
-use Rattle.blocks.specs.Bytes.{blockCount}
 use Rattle.blocks.specs.Descriptor.{tableCount, cost, costOf, noDescriptor, descriptorAt}
-use Rattle.blocks.specs.Chain.{sound, Chain, Sound, chain, descriptors, ends, startsOf, regionOk, formOk}
+use Rattle.blocks.specs.Chain.{Sound, chain, descriptors, ends, startsOf}
 use Rattle.blocks.specs.declared.descriptor.Descriptor.{Descriptor}
-use Rattle.blocks.proofs.ChainLaws.{length-ends, region-layout, region-volume, region-alpha, region-long, region-end, cost-least}
-use Rattle.blocks.proofs.LinkedLaws.{Linked, last, more, chain-linked, sound-alpha, sound-cost, sound-long, sound-next, regionStart, region-start-zero, region-start-suc, region-start-listed, linked-end, linked-low, linked-rise, RegionAt, linked-at, at-alpha, at-cost, at-long, at-end, starts-long, regions-sound}
+use Rattle.blocks.proofs.LinkedLaws.{Linked, last, more, chain-linked, sound-alpha, sound-cost, sound-long, sound-next, regionStart, region-start-zero, region-start-suc, region-start-listed, linked-rise, RegionAt, linked-at, at-cost, starts-long, regions-sound}
 use Rattle.entries.specs.InPlace.{isDescriptor, isTable, inPlace, regionOf, inPlaceAt}
 use Rattle.entries.specs.Through.{RisingRegions, Through}
 

@@ -2,17 +2,16 @@
 use mathlib.Core.Path.{_≡_}
 use mathlib.Core.Logic.{_⊎_}
 use mathlib.Core.Bool.{Bool, true, false, not, _&&_, _||_}
-use mathlib.Core.List.{List, [], _∷_, _++_}
+use mathlib.Core.List.{List, [], _++_}
 use Prim.Native.Nat.{ℕ, zero, suc, _+_, _*_, _≤_, _<_}
 use lib.ListN.{length, getD, set}
-use lib.Dec.{eqb, ltb, leb}
+use lib.Dec.{eqb, ltb}
 use Rattle.blocks.specs.Pick.{pick}
 use Rattle.blocks.specs.Descriptor.{physical, tableSize, phiSize, tableCount}
 use Rattle.blocks.specs.declared.descriptor.Descriptor.{Descriptor}
 use Rattle.entries.specs.InPlace.{isDescriptor, isTable}
 use Rattle.entries.specs.Naming.{Naming, among, tableNamings, firstFault}
-use Rattle.entries.specs.declared.check.Verdict.{Verdict}
-use Rattle.entries.specs.declared.check.Verdict.the-variants.{Passed, Fault}
+use Rattle.entries.specs.declared.check.Verdict.the-variants.{Fault}
 
 -- a flag for each block number
 abbrev pub flagCount : ℕ

@@ -132,13 +132,13 @@ fn check_phi(card: &[u8], d: Descriptor, n: u32, seen: &mut [bool]) -> Verdict
     let alpha = d.alpha;
     let mut i: u32 = 0;
     while i < 112 {
-        let m = find::table_of(card, d, i);
+        let table = find::table_of(card, d, i);
         let counted = i < n;
-        if !take_entry(seen, d.beta.0, counted, m.0) {
+        if !take_entry(seen, d.beta.0, counted, table.0) {
             return Verdict::Fault(alpha);
         }
-        if !check_named(card, d, i, m, seen) {
-            return Verdict::Fault(m);
+        if !check_named(card, d, i, table, seen) {
+            return Verdict::Fault(table);
         }
         i += 1;
     }

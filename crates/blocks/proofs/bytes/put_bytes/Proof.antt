@@ -1,6 +1,6 @@
 -- `put_bytes` meets its contract: after i turns the first i bytes are copied.
-use mathlib.Core.Path.{_≡_, refl, sym, ap, _∙_}
-use Prim.Native.Nat.{ℕ, _≤_, _-_, _+_, _<_}
+use mathlib.Core.Path.{_≡_, refl, _∙_}
+use Prim.Native.Nat.{_≤_, _-_}
 use native.Mathlib.Omega.{arith}
 use lib.ListN.{length, length-set}
 use Rattle.blocks.proofs.ByteLaws.{copied, copied-none, copied-more, copied-all}

@@ -1,9 +1,8 @@
 -- `is_named` meets its contract: what is left to compare decides.
-use mathlib.Core.Path.{_≡_, refl, sym, _∙_}
-use Prim.Native.Nat.{ℕ, _≤_, _-_, _<_}
+use mathlib.Core.Path.{_≡_, sym, _∙_}
+use Prim.Native.Nat.{_≤_, _-_}
 use native.Mathlib.Omega.{arith}
-use lib.ListN.{length, take}
-use borrow.Author.Needs.{needs}
+use lib.ListN.{take}
 use Rattle.blocks.specs.Chain.{named, descriptorsAt}
 use Rattle.blocks.proofs.ChainLaws.{namedFrom, named-start, named-stop, named-more, named-end}
 use Rattle.blocks.proofs.chain.is_named.Statement.{statement}

@@ -1,8 +1,7 @@
 -- `walk_chain` meets its contract: after k turns k sound descriptors have passed, and the next one is at hand.
-use mathlib.Core.Path.{_≡_, refl, sym, _∙_}
-use Prim.Native.Nat.{ℕ, _≤_, _-_, _<_, _/_}
+use mathlib.Core.Path.{_≡_, refl}
+use Prim.Native.Nat.{_-_}
 use native.Mathlib.Omega.{arith}
-use lib.ListN.{length}
 use borrow.Author.Needs.{needs}
 use Rattle.blocks.specs.Descriptor.{descriptorAt}
 use Rattle.blocks.proofs.ChainLaws.{Walked, walked-here, walked-passed, walk-none, walked-none, walk-out, walk-unformed, walk-unplaced, walk-repeated, walk-end, walked-next, walked-more}

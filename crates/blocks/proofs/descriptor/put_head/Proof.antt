@@ -1,5 +1,4 @@
 -- `put_head` meets its contract: the fields, put one after the other, are the first 40 bytes.
-use native.Mathlib.Omega.{arith}
 use Rattle.blocks.proofs.DescriptorLaws.{head-put, head-length}
 use borrow.Author.Needs.{needs}
 use Rattle.blocks.proofs.descriptor.put_head.Statement.{statement}

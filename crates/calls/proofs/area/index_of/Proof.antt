@@ -1,9 +1,8 @@
 -- `index_of` meets its contract: j descriptors have passed, none of which has the name.
-use mathlib.Core.Path.{_≡_, refl, sym, _∙_}
-use Prim.Native.Nat.{ℕ, _≤_, _-_, _<_}
+use mathlib.Core.Path.{_≡_, sym, _∙_}
+use Prim.Native.Nat.{_≤_, _-_}
 use native.Mathlib.Omega.{arith}
-use lib.ListN.{length, take}
-use borrow.Author.Needs.{needs}
+use lib.ListN.{take}
 use Rattle.blocks.specs.Chain.{descriptorsAt}
 use Rattle.calls.specs.Parts.{indexOf}
 use Rattle.calls.proofs.NamedLaws.{indexFrom, index-start, index-stop, index-more, index-end}

@@ -1,5 +1,5 @@
 -- `check` meets its contract, row by row.
-use mathlib.Core.Path.{_≡_, refl, sym, _∙_}
+use mathlib.Core.Path.{refl, sym, _∙_}
 use borrow.Author.Tests.{not-false}
 use Rattle.calls.specs.Effect.{lentOf, filledOf, storesOf}
 use Rattle.blocks.specs.Bytes.{storeAll}

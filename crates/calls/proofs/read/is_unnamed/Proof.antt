@@ -1,5 +1,4 @@
 -- `is_unnamed` meets its contract, case by case.
-use Rattle.calls.specs.Parts.{isSnapshot}
 use borrow.Author.Needs.{needs}
 use Rattle.calls.proofs.read.is_unnamed.Statement.{statement}
 use Rattle.calls.proofs.read.is_unnamed.Tie as tie

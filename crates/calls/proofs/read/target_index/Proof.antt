@@ -1,5 +1,5 @@
 -- `target_index` meets its contract, case by case.
-use mathlib.Core.Path.{_≡_, _∙_}
+use mathlib.Core.Path.{_≡_}
 use Rattle.calls.specs.declared.answer.Target.the-variants.{Active, Snapshot}
 use native.Mathlib.Omega.{arith}
 use borrow.Author.Needs.{needs}

@@ -1,5 +1,4 @@
 -- `fresh_block` meets its contract: a head on a block of zeros.
-use lib.ListN.{replicate}
 use Rattle.calls.proofs.ReamLaws.{head-on-zeros}
 use borrow.Author.Needs.{needs}
 use Rattle.calls.proofs.ream.fresh_block.Statement.{statement}

@@ -1,6 +1,5 @@
 -- `ream` meets its contract, row by row.
 use mathlib.Core.Path.{refl}
-use native.Mathlib.Omega.{arith}
 use Rattle.calls.specs.Effect.{lentOf, filledOf, storesOf}
 use Rattle.calls.proofs.StepLaws.{step-refused, step-accepted}
 use Rattle.calls.proofs.ReamLaws.{ream-1, ream-2-low, ream-2-high, ream-3-none, ream-3-large, ream-4, ream-5, ream-0}

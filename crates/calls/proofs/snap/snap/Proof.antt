@@ -1,13 +1,11 @@
 -- `snap` meets its contract, row by row.
-use mathlib.Core.Path.{_≡_, refl, sym, _∙_}
-use Prim.Native.Nat.{_<_, _≤_, _-_}
+use mathlib.Core.Path.{refl, sym, _∙_}
 use native.Mathlib.Omega.{arith}
-use lib.ListN.{length}
 use borrow.Author.Needs.{needs}
-use borrow.Author.Tests.{not-true, not-false}
+use borrow.Author.Tests.{not-false}
 use Rattle.calls.specs.Effect.{lentOf, filledOf}
 use Rattle.blocks.proofs.ChainLaws.{cost-least}
-use Rattle.entries.proofs.EntryLaws.{through-beta, through-end}
+use Rattle.entries.proofs.EntryLaws.{through-beta}
 use Rattle.calls.proofs.StepLaws.{step-refused, step-accepted}
 use Rattle.calls.proofs.CardLaws.{card-some, card-inside, card-long, card-through, card-small}
 use Rattle.calls.proofs.SnapLaws.{snap-1, snap-4, snap-6, snap-12, snap-13, snap-11, snap-0, snap-stores}

@@ -1,6 +1,5 @@
 -- `check_one` meets its contract: the openings are flagged, and then the walk of the layout finds the first fault.
 use mathlib.Core.Bool.{false}
-use native.Mathlib.Omega.{arith}
 use lib.ListN.{replicate, length-replicate}
 use Rattle.entries.proofs.OpeningLaws.{openings-ask, openings-marked, replicate-clear, one-tables-ready, one-phi-ready, one-by-tables, one-by-phi}
 use borrow.Author.Needs.{needs}

@@ -1,6 +1,6 @@
 -- `mark_blocks` meets its contract: after i turns i flags are set.
 use mathlib.Core.Path.{_≡_, refl}
-use Prim.Native.Nat.{ℕ, _≤_, _-_}
+use Prim.Native.Nat.{_≤_, _-_}
 use native.Mathlib.Omega.{arith}
 use lib.ListN.{length, length-set}
 use Rattle.entries.specs.Marks.{flagged}

@@ -1,9 +1,8 @@
 -- `mark_openings` meets its contract: after k turns the openings of k regions are flagged.
 use mathlib.Core.Path.{_≡_, refl, _∙_}
-use Prim.Native.Nat.{ℕ, _≤_, _-_}
+use Prim.Native.Nat.{_≤_, _-_}
 use native.Mathlib.Omega.{arith}
 use lib.ListN.{length}
-use borrow.Author.Needs.{needs}
 use Rattle.entries.specs.Marks.{openingsFlagged}
 use Rattle.entries.proofs.MarkLaws.{openings-more, openings-all}
 use Rattle.entries.proofs.check.mark_openings.Statement.{statement}

@@ -1,8 +1,7 @@
 -- `region_of` meets its contract: the region lies between low and high, of which one moves to the middle.
-use mathlib.Core.Path.{_≡_, refl, sym, _∙_}
-use Prim.Native.Nat.{ℕ, _≤_, _-_, _<_}
+use Prim.Native.Nat.{_≤_, _-_, _<_}
 use native.Mathlib.Omega.{arith}
-use lib.ListN.{length, getD}
+use lib.ListN.{getD}
 use Rattle.entries.proofs.PlaceLaws.{region-found}
 use Rattle.entries.proofs.place.region_of.Statement.{statement}
 use Rattle.entries.proofs.place.region_of.Tie as tie
