@@ -1,4 +1,4 @@
--- The propositions that are owed of these definitions: refusals, room, check, the algorithms, the ledger over whole lists of calls, and the rollback claim.
+-- What is claimed of the calls, each claim a theorem in proofs/: refusals, room, check, the algorithms, the ledger over whole lists of calls, and the rollback claim.
 -- A card area and what is written to it are bytes; the claims that need it say so by AreBytes.
 use mathlib.Core.Path.{_≡_}
 use mathlib.Core.Logic.{_⊎_, _↔_}
