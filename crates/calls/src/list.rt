@@ -88,3 +88,36 @@ pub fn list(card: &[u8], records: &mut [Record]) -> Answer
     fill(card, records, p.count);
     p.answer
 }
+
+// The same filling, in an array of 64 records by value: the one function that lends an array of records.
+fn fill_64(card: &[u8], records: [Record; 64], n: usize) -> [Record; 64]
+    requires { ⌜ (n ≤ 64) × ((j : ℕ) → j < n → 512 * blockAlong (now card) j + 512 ≤ length (now card)) ⌝ }
+    ensures { λ r. ⌜ r ≡ filled (now (card .entry)) records n ⌝ }
+{
+    let mut r = records;
+    fill(card, &mut r, n);
+    r
+}
+
+// What a listing into 64 records of one's own gives: `count` of them are filled.
+pub struct Listed {
+    pub answer: Answer,
+    pub count: usize,
+    pub records: [Record; 64],
+}
+
+// The same listing, into an array of 64 records by value.
+pub fn list_64(card: &[u8], records: [Record; 64]) -> Listed
+    ensures { λ r. ⌜ record { outcome = record { answer = r .answer; lent = Records (r .records) }; card = now (card .entry) } ≡ step (Listing records) (now (card .entry)) ⌝ }
+    ensures { λ r. ⌜ (r .count ≡ planOf (now (card .entry)) records .count) × (r .count ≤ 64) ⌝ }
+{
+    let p = make_plan(card, 64);
+    let answer = p.answer;
+    let count = p.count;
+    let filled = fill_64(card, records, count);
+    Listed {
+        answer,
+        count,
+        records: filled,
+    }
+}

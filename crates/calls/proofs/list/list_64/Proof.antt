@@ -1,0 +1,31 @@
+-- `list_64` meets its contract: the plan for 64 records, and the filling of so many as it says.
+use mathlib.Core.Path.{_≡_, ap}
+use native.Mathlib.Omega.{arith}
+use lib.ListN.{length}
+use borrow.Author.Needs.{needs}
+use Rattle.calls.specs.declared.list.Plan.{Plan}
+use Rattle.calls.proofs.ListLaws.{plan-ready, plan-done}
+use Rattle.calls.proofs.list.list_64.Statement.{statement}
+use Rattle.calls.proofs.list.list_64.Tie as tie
+
+long : (s : tie.Start) → length (s .args .records) ≡ 64
+long s = search needs
+
+make-plan-requires : tie.Need-make-plan-requires
+make-plan-requires c κs = search needs
+
+fill-64-requires : tie.Need-fill-64-requires
+fill-64-requires c κs =
+    let s = c .before .before .before in
+    let ready = plan-ready _ (s .args .records) _ (c .before .make-plan .ensures (s .args .records) (long s)) in
+    (omega (arith, ready .0, long s), ready .1)
+
+returns : tie.Need-returns
+returns c =
+    let s = c .before .before .before .before in
+    let plan = c .before .before .make-plan .ensures (s .args .records) (long s) in
+    let ready = plan-ready _ (s .args .records) _ plan in
+    (plan-done _ (s .args .records) _ _ plan (c .fill-64 .ensures), (ap (λ (p : Plan). p .count) plan, omega (arith, ready .0, long s)))
+
+pub list-64-spec : {M : Type 1} → statement M
+list-64-spec = tie.close (tie.spec make-plan-requires fill-64-requires returns)
