@@ -1,0 +1,2 @@
+-- The definition of what a sheet prints.
+pub mod Text

@@ -1,0 +1,70 @@
+-- What a sheet prints: numbers in decimal, an answer, a record of a listing.
+use mathlib.Core.List.{List, [], _∷_, _++_}
+use Prim.Native.Nat.{ℕ, zero, suc, _+_, _/_, _%_}
+use lib.ListN.{take}
+use lib.Dec.{ltb}
+use Rattle.blocks.specs.Pick.{pick}
+use Rattle.blocks.specs.Name.{nameLength}
+use Rattle.calls.specs.declared.answer.Answer.{Answer}
+use Rattle.calls.specs.declared.answer.Record.{Record}
+
+-- `answer=`
+abbrev pub answerKey : List ℕ
+answerKey = 97 ∷ 110 ∷ 115 ∷ 119 ∷ 101 ∷ 114 ∷ 61 ∷ []
+
+-- ` place=`
+abbrev pub placeKey : List ℕ
+placeKey = 32 ∷ 112 ∷ 108 ∷ 97 ∷ 99 ∷ 101 ∷ 61 ∷ []
+
+-- ` byte=`
+abbrev pub byteKey : List ℕ
+byteKey = 32 ∷ 98 ∷ 121 ∷ 116 ∷ 101 ∷ 61 ∷ []
+
+-- `name=`
+abbrev pub nameKey : List ℕ
+nameKey = 110 ∷ 97 ∷ 109 ∷ 101 ∷ 61 ∷ []
+
+-- ` alpha=`
+abbrev pub alphaKey : List ℕ
+alphaKey = 32 ∷ 97 ∷ 108 ∷ 112 ∷ 104 ∷ 97 ∷ 61 ∷ []
+
+-- ` beta=`
+abbrev pub betaKey : List ℕ
+betaKey = 32 ∷ 98 ∷ 101 ∷ 116 ∷ 97 ∷ 61 ∷ []
+
+-- ` next=`
+abbrev pub nextKey : List ℕ
+nextKey = 32 ∷ 110 ∷ 101 ∷ 120 ∷ 116 ∷ 61 ∷ []
+
+-- a line feed
+abbrev pub lineFeed : List ℕ
+lineFeed = 10 ∷ []
+
+-- a number in decimal, with at most k digits: its last digit after those of a tenth of it
+unfoldable pub digits : ℕ → ℕ → List ℕ
+digits zero n = []
+digits (suc k) n = pick (ltb n 10) ((48 + n) ∷ []) (digits k (n / 10) ++ ((48 + n % 10) ∷ []))
+
+-- ten digits hold any number of 32 bits
+unfoldable pub decimal : ℕ → List ℕ
+decimal n = digits 10 n
+
+-- a name without the zero bytes that pad it
+unfoldable pub shown : List ℕ → List ℕ
+shown name = take (nameLength name) name
+
+-- `answer= place=`
+unfoldable pub answerText : Answer → List ℕ
+answerText a = answerKey ++ decimal (a .number) ++ placeKey ++ decimal (a .place)
+
+-- ` byte=`
+unfoldable pub byteText : ℕ → List ℕ
+byteText b = byteKey ++ decimal b
+
+-- a record of a listing, on a line of its own
+unfoldable pub recordText : Record → List ℕ
+recordText r = nameKey ++ shown (r .name) ++ alphaKey ++ decimal (r .alpha) ++ betaKey ++ decimal (r .beta) ++ nextKey ++ decimal (r .next) ++ lineFeed
+
+unfoldable pub recordsText : List Record → List ℕ
+recordsText [] = []
+recordsText (r ∷ rs) = recordText r ++ recordsText rs

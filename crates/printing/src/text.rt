@@ -1,0 +1,126 @@
+// Text put into a lent area: each function writes from index `at` and returns the index after what it wrote.
+use blocks::bytes;
+use blocks::name;
+use calls::answer::Answer;
+use calls::answer::Record;
+ghost use mathlib.Core.Path.{_≡_};
+ghost use mathlib.Core.List.{_∷_, [], _++_};
+ghost use Prim.Native.Nat.{_+_, _*_, _≤_, _<_};
+ghost use lib.ListN.{length, take};
+ghost use Rattle.blocks.specs.Bytes.{splice};
+ghost use Rattle.printing.specs.Text.{decimal, shown, answerText, byteText, recordText, recordsText};
+
+// The text as it is.
+pub fn put_text(out: &mut [u8], at: usize, text: &[u8]) -> usize
+    requires { ⌜ at + length (now text) ≤ length (now out) ⌝ }
+    ensures { λ r. ⌜ (r ≡ at + length (now (text .entry))) × (now (out .exit) ≡ splice (now (out .entry)) at (now (text .entry))) ⌝ }
+{
+    bytes::put_bytes(out, at, text);
+    at + text.len()
+}
+
+// One decimal digit.
+fn put_digit(out: &mut [u8], at: usize, d: u32) -> usize
+    requires { ⌜ (d < 10) × (at + 1 ≤ length (now out)) ⌝ }
+    ensures { λ r. ⌜ (r ≡ at + length ((48 + d) ∷ [])) × (now (out .exit) ≡ splice (now (out .entry)) at ((48 + d) ∷ [])) ⌝ }
+{
+    let digit = [(48 + d) as u8];
+    put_text(out, at, &digit)
+}
+
+// A number in decimal: the digits of a tenth of it, then its last digit.
+pub fn put_decimal(out: &mut [u8], at: usize, v: u32) -> usize
+    requires { ⌜ at + 10 ≤ length (now out) ⌝ }
+    ensures { λ r. ⌜ (r ≡ at + length (decimal v)) × (now (out .exit) ≡ splice (now (out .entry)) at (decimal v)) ⌝ }
+    ensures { λ r. ⌜ r ≤ at + 10 ⌝ }
+{
+    if v < 10 {
+        return put_digit(out, at, v);
+    }
+    let next = put_decimal(out, at, v / 10);
+    put_digit(out, next, v % 10)
+}
+
+// A key and a number in decimal.
+fn put_field(out: &mut [u8], at: usize, key: &[u8], v: u32) -> usize
+    requires { ⌜ at + length (now key) + 10 ≤ length (now out) ⌝ }
+    ensures { λ r. ⌜ (r ≡ at + length (now (key .entry) ++ decimal v)) × (now (out .exit) ≡ splice (now (out .entry)) at (now (key .entry) ++ decimal v)) ⌝ }
+    ensures { λ r. ⌜ r ≤ at + length (now (key .entry)) + 10 ⌝ }
+{
+    let next = put_text(out, at, key);
+    put_decimal(out, next, v)
+}
+
+// The bytes that a list starts with and that a name may have.
+fn put_shown(out: &mut [u8], at: usize, name: &[u8]) -> usize
+    requires { ⌜ at + length (now name) ≤ length (now out) ⌝ }
+    ensures { λ r. ⌜ (r ≡ at + length (shown (now (name .entry)))) × (now (out .exit) ≡ splice (now (out .entry)) at (shown (now (name .entry)))) ⌝ }
+    ensures { λ r. ⌜ r ≤ at + length (now (name .entry)) ⌝ }
+{
+    let n = name::name_length(name);
+    put_text(out, at, &name[..n])
+}
+
+// A name without the zero bytes that pad it.
+pub fn put_name(out: &mut [u8], at: usize, name: [u8; 16]) -> usize
+    requires { ⌜ at + 16 ≤ length (now out) ⌝ }
+    ensures { λ r. ⌜ (r ≡ at + length (shown name)) × (now (out .exit) ≡ splice (now (out .entry)) at (shown name)) ⌝ }
+    ensures { λ r. ⌜ r ≤ at + 16 ⌝ }
+{
+    put_shown(out, at, &name)
+}
+
+// The number and the place of an answer.
+pub fn put_answer(out: &mut [u8], at: usize, a: Answer) -> usize
+    requires { ⌜ at + 40 ≤ length (now out) ⌝ }
+    ensures { λ r. ⌜ (r ≡ at + length (answerText a)) × (now (out .exit) ≡ splice (now (out .entry)) at (answerText a)) ⌝ }
+    ensures { λ r. ⌜ r ≤ at + 40 ⌝ }
+{
+    let number = a.number;
+    let place = a.place;
+    let next = put_field(out, at, b"answer=", number);
+    put_field(out, next, b" place=", place)
+}
+
+// The byte that a read adds to its answer.
+pub fn put_byte(out: &mut [u8], at: usize, b: u8) -> usize
+    requires { ⌜ at + 20 ≤ length (now out) ⌝ }
+    ensures { λ r. ⌜ (r ≡ at + length (byteText b)) × (now (out .exit) ≡ splice (now (out .entry)) at (byteText b)) ⌝ }
+    ensures { λ r. ⌜ r ≤ at + 20 ⌝ }
+{
+    put_field(out, at, b" byte=", b as u32)
+}
+
+// A record of a listing, with the line feed that ends it.
+pub fn put_record(out: &mut [u8], at: usize, r: Record) -> usize
+    requires { ⌜ at + 80 ≤ length (now out) ⌝ }
+    ensures { λ e. ⌜ (e ≡ at + length (recordText r)) × (now (out .exit) ≡ splice (now (out .entry)) at (recordText r)) ⌝ }
+    ensures { λ e. ⌜ e ≤ at + 80 ⌝ }
+{
+    let name = r.name;
+    let alpha = r.alpha;
+    let beta = r.beta;
+    let link = r.next;
+    let mut next = put_text(out, at, b"name=");
+    next = put_name(out, next, name);
+    next = put_field(out, next, b" alpha=", alpha);
+    next = put_field(out, next, b" beta=", beta);
+    next = put_field(out, next, b" next=", link);
+    put_text(out, next, b"\n")
+}
+
+// The first `n` records, one after the other.
+pub fn put_records(out: &mut [u8], at: usize, records: [Record; 64], n: usize) -> usize
+    requires { ⌜ (n ≤ 64) × (at + 80 * n ≤ length (now out)) ⌝ }
+    ensures { λ r. ⌜ (r ≡ at + length (recordsText (take n records))) × (now (out .exit) ≡ splice (now (out .entry)) at (recordsText (take n records))) ⌝ }
+    ensures { λ r. ⌜ r ≤ at + 80 * n ⌝ }
+{
+    let mut next = at;
+    let mut i = 0;
+    while i < n {
+        let r = records[i];
+        next = put_record(out, next, r);
+        i += 1;
+    }
+    next
+}

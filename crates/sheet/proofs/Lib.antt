@@ -1,0 +1,2 @@
+-- Laws of the work sheet.
+pub mod SheetLaws

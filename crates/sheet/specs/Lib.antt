@@ -1,0 +1,2 @@
+-- The definitions of the work sheet.
+pub mod Sheet

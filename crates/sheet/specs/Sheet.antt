@@ -1,0 +1,169 @@
+-- The work sheet: the call that a line asks for, what it does to the sheet's blocks and records, what it prints, and a whole sheet.
+use mathlib.Core.Bool.{Bool, true, false}
+use mathlib.Core.List.{List, [], _∷_, _++_}
+use Prim.Native.Nat.{ℕ, zero, suc, _*_}
+use lib.ListN.{length, take, drop, getD, replicate}
+use lib.Dec.{ltb}
+use Rattle.blocks.specs.Pick.{pick}
+use Rattle.blocks.specs.Bytes.{blockSize, zeroBlock}
+use Rattle.blocks.specs.Name.{noName}
+use Rattle.calls.specs.declared.answer.Answer.{Answer}
+use Rattle.calls.specs.declared.answer.Record.{Record}
+use Rattle.calls.specs.Call.{Call, Ream, Read, Write, Snap, Revert, Listing, Check, Lent, None, Block, Records, answer}
+use Rattle.calls.specs.Parts.{descriptorsOf}
+use Rattle.calls.specs.Step.{Done, step, isAccepted}
+use Rattle.cutter.specs.declared.line.SheetCall.{SheetCall}
+use Rattle.cutter.specs.declared.line.SheetCall.the-variants as line
+use Rattle.cutter.specs.declared.line.Line.{Line}
+use Rattle.cutter.specs.Grammar.{SheetLine, linesOf, lineIn}
+use Rattle.printing.specs.Text.{lineFeed, answerText, byteText, recordsText}
+use Rattle.sheet.specs.declared.run.Shown.{Shown}
+use Rattle.sheet.specs.declared.run.Shown.the-variants.{Nothing, Byte, Listed}
+use Rattle.sheet.specs.declared.run.Ran.{Ran}
+
+-- the blocks that a sheet owns, and its records
+abbrev pub sheetBlocks : ℕ
+sheetBlocks = 64
+
+abbrev pub sheetRecords : ℕ
+sheetRecords = 64
+
+-- the first n blocks, and the area with these put back
+abbrev pub cardOf : List ℕ → ℕ → List ℕ
+cardOf area n = take (blockSize * n) area
+
+abbrev pub withCard : List ℕ → ℕ → List ℕ → List ℕ
+withCard area n card = card ++ drop (blockSize * n) area
+
+-- a sheet between two lines: its blocks, how many of them are the card, and its records
+pub record State : Type 0 where
+  pub area : List ℕ
+  pub blocks : ℕ
+  pub records : List Record
+
+-- at the start all blocks are zero, and all are the card
+abbrev pub noRecord : Record
+noRecord = record { name = noName; alpha = 0; beta = 0; next = 0 }
+
+unfoldable pub start : State
+start = record { area = replicate 32768 0; blocks = sheetBlocks; records = replicate sheetRecords noRecord }
+
+-- whether a line is not of the form
+unfoldable pub isMalformed : SheetCall → Bool
+isMalformed line.Malformed = true
+isMalformed (line.Ream layout blocks volume) = false
+isMalformed (line.Write l fill) = false
+isMalformed (line.Read target l) = false
+isMalformed line.Snap = false
+isMalformed line.Revert = false
+isMalformed line.List = false
+isMalformed line.Check = false
+
+-- the call of a line, with what the sheet lends to it: a block full of one byte, a block of zeros, its records. A line that is not of the form makes none
+unfoldable pub callOf : SheetCall → List ℕ → List Record → Call
+callOf line.Malformed name records = Check
+callOf (line.Ream layout blocks volume) name records = Ream layout volume name
+callOf (line.Write l fill) name records = Write (l .0) (replicate blockSize fill)
+callOf (line.Read target l) name records = Read target name (l .0) zeroBlock
+callOf line.Snap name records = Snap name
+callOf line.Revert name records = Revert name
+callOf line.List name records = Listing records
+callOf line.Check name records = Check
+
+-- the blocks that a call is made on: a format's own, else the card's
+unfoldable pub blocksOf : SheetCall → ℕ → ℕ
+blocksOf line.Malformed n = n
+blocksOf (line.Ream layout blocks volume) n = blocks
+blocksOf (line.Write l fill) n = n
+blocksOf (line.Read target l) n = n
+blocksOf line.Snap n = n
+blocksOf line.Revert n = n
+blocksOf line.List n = n
+blocksOf line.Check n = n
+
+-- the first byte of a lent block, and the records after a call
+unfoldable pub firstOf : Lent → ℕ
+firstOf None = 0
+firstOf (Block b) = getD b 0 0
+firstOf (Records rs) = 0
+
+unfoldable pub recordsIn : Lent → List Record → List Record
+recordsIn None records = records
+recordsIn (Block b) records = records
+recordsIn (Records rs) records = rs
+
+-- what an accepted call prints besides its answer: a read the first byte, a listing a record for each descriptor
+unfoldable pub shownOf : SheetCall → Lent → List ℕ → Shown
+shownOf line.Malformed lent card = Nothing
+shownOf (line.Ream layout blocks volume) lent card = Nothing
+shownOf (line.Write l fill) lent card = Nothing
+shownOf (line.Read target l) lent card = Byte (firstOf lent)
+shownOf line.Snap lent card = Nothing
+shownOf line.Revert lent card = Nothing
+shownOf line.List lent card = Listed (length (descriptorsOf card))
+shownOf line.Check lent card = Nothing
+
+-- what a line leaves, and its blocks
+pub record After : Type 0 where
+  pub ran : Ran
+  pub area : List ℕ
+
+-- a call made on the first n blocks: where it is accepted these are the card
+unfoldable pub afterCall : State → SheetCall → List ℕ → After
+afterCall s call name =
+    let n = blocksOf call (s .blocks) in
+    let card = cardOf (s .area) n in
+    let done = step (callOf call name (s .records)) card in
+    let a = done .outcome .answer in
+    record {
+      ran = record {
+        answer = a;
+        blocks = pick (isAccepted a) n (s .blocks);
+        shown = pick (isAccepted a) (shownOf call (done .outcome .lent) card) Nothing;
+        records = recordsIn (done .outcome .lent) (s .records);
+        ended = false;
+      };
+      area = withCard (s .area) n (done .card);
+    }
+
+-- the line of a number, from 1: one that is not of the form answers 15 with that number, and the sheet ends
+unfoldable pub afterLine : State → ℕ → Line → After
+afterLine s number l =
+    pick (isMalformed (l .call))
+    (record { ran = record { answer = answer 15 number; blocks = s .blocks; shown = Nothing; records = s .records; ended = true }; area = s .area })
+    (afterCall s (l .call) (l .name))
+
+abbrev pub stateAfter : After → State
+stateAfter a = record { area = a .area; blocks = a .ran .blocks; records = a .ran .records }
+
+-- what a line prints: its answer, a read's byte, a line feed, a listing's records
+unfoldable pub byteShown : Shown → List ℕ
+byteShown Nothing = []
+byteShown (Byte b) = byteText b
+byteShown (Listed n) = []
+
+unfoldable pub listedShown : Shown → List Record → List ℕ
+listedShown Nothing records = []
+listedShown (Byte b) records = []
+listedShown (Listed n) records = recordsText (take n records)
+
+unfoldable pub printed : Ran → List ℕ
+printed r = answerText (r .answer) ++ byteShown (r .shown) ++ lineFeed ++ listedShown (r .shown) (r .records)
+
+-- the lines from a number on, one after the other, up to the first that is not of the form
+unfoldable pub linesText : State → ℕ → List SheetLine → List ℕ
+linesText s number [] = []
+linesText s number (l ∷ ls) =
+    let a = afterLine s number (lineIn l) in
+    printed (a .ran) ++ pick (a .ran .ended) [] (linesText (stateAfter a) (suc number) ls)
+
+-- the most bytes of a sheet
+abbrev pub mostSheet : ℕ
+mostSheet = 16384
+
+-- what a sheet prints
+unfoldable pub tooLong : List ℕ
+tooLong = answerText (answer 15 0) ++ lineFeed
+
+unfoldable pub sheetText : List ℕ → List ℕ
+sheetText sheet = pick (ltb mostSheet (length sheet)) tooLong (linesText start 1 (linesOf sheet))

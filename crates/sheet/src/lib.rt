@@ -1,0 +1,2 @@
+// The work sheet: one line after the other.
+pub mod run; // what a line does
