@@ -130,7 +130,7 @@ module _ (c : List ℕ) (records : List Record) (ok : isAccepted (answerOf (List
   unfolding rowsOf listRows
   list-linked = chain-linked c ds (chain-is (chain c) (not-false (chainSound (chain c)) (rows-passed (Listing records) c ok 1 (omega arith))))
 
-  list-room : length ds ≤ length records
+  pub list-room : length ds ≤ length records
   unfolding rowsOf listRows
   list-room = ltb-false (length records) (length ds) (rows-passed (Listing records) c ok 2 (omega arith))
 

@@ -1,8 +1,9 @@
 -- Laws of a line on a sheet, as the code of each call asks them.
-use mathlib.Core.Path.{_≡_, refl, sym, ap, _∙_}
+use mathlib.Core.Path.{_≡_, refl, sym, ap, _∙_, subst}
 use mathlib.Core.Bool.{Bool, true, false}
 use mathlib.Core.List.{List, _++_}
-use Prim.Native.Nat.{ℕ, _*_}
+use Prim.Native.Nat.{ℕ, _*_, _≤_}
+use native.Mathlib.Omega.{arith}
 use lib.ListN.{length, take, drop, getD, replicate, take-append-drop}
 use lib.Dec.{eqb}
 use borrow.Author.Tests.{eq-eqb, ne-eqb}
@@ -13,18 +14,20 @@ use Rattle.blocks.specs.declared.numbers.Logical.{Logical}
 use Rattle.calls.specs.declared.answer.Answer.{Answer}
 use Rattle.calls.specs.declared.answer.Target.{Target}
 use Rattle.calls.specs.declared.answer.Record.{Record}
-use Rattle.calls.specs.Call.{Call, Ream, Read, Write, Snap, Revert, Listing, Check, Lent, None, Block, Records}
+use Rattle.calls.specs.Call.{Call, Ream, Read, Write, Snap, Revert, Listing, Check, Lent, None, Block, Records, answer}
 use Rattle.calls.specs.Parts.{descriptorsOf}
 use Rattle.calls.specs.Ladder.{answerOf}
 use Rattle.calls.specs.Effect.{storesOf}
 use Rattle.calls.specs.Step.{Done, step, isAccepted}
 use Rattle.calls.specs.Listing.{planOf}
+use Rattle.calls.proofs.ListLaws.{list-room}
 use Rattle.cutter.specs.declared.line.SheetCall.{SheetCall}
 use Rattle.cutter.specs.declared.line.SheetCall.the-variants as line
+use Rattle.cutter.specs.declared.line.Line.{Line}
 use Rattle.sheet.specs.declared.run.Shown.{Shown}
 use Rattle.sheet.specs.declared.run.Shown.the-variants.{Nothing, Byte, Listed}
 use Rattle.sheet.specs.declared.run.Ran.{Ran}
-use Rattle.sheet.specs.Sheet.{State, After, cardOf, withCard, callOf, blocksOf, shownOf, recordsIn, firstOf, afterCall}
+use Rattle.sheet.specs.Sheet.{State, After, cardOf, withCard, isMalformed, callOf, blocksOf, sizeOf, shownOf, countOf, recordsIn, firstOf, afterCall, afterLine}
 
 abbrev pub state : List ℕ → ℕ → List Record → State
 state area blocks records = record { area = area; blocks = blocks; records = records }
@@ -34,6 +37,15 @@ done a lent card = record { outcome = record { answer = a; lent = lent }; card =
 
 abbrev pub after : Answer → ℕ → Shown → List Record → List ℕ → After
 after a blocks shown records area = record { ran = record { answer = a; blocks = blocks; shown = shown; records = records; ended = false }; area = area }
+
+-- the answer of a call is that of the definition
+given-by : (b : Bool) (x y : Done) → x .outcome .answer ≡ y .outcome .answer → pick b x y .outcome .answer ≡ y .outcome .answer
+given-by true x y e = e
+given-by false x y e = refl
+
+given : (k : Call) (c : List ℕ) → step k c .outcome .answer ≡ answerOf k c
+unfolding step
+given k c = given-by (isAccepted (answerOf k c)) _ _ refl
 
 -- a call that was made on the first n blocks of the area
 module _ (area : List ℕ) (blocks : ℕ) (records : List Record) (call : SheetCall) (name : List ℕ) (a : Answer) (lent : Lent) (card : List ℕ)
@@ -124,14 +136,8 @@ module _ (area : List ℕ) (blocks : ℕ) (records : List Record) (a : Answer) w
     unfolding callOf blocksOf recordsIn
     list-refused e = same-area _ _ (refused-after area blocks records line.List noName a (Records filled) card made e)
 
-    -- an answer is that of the call
-    answer-by : (b : Bool) (x y : Done) → x .outcome .answer ≡ y .outcome .answer → pick b x y .outcome .answer ≡ y .outcome .answer
-    answer-by true x y e = e
-    answer-by false x y e = refl
-
     answer-is : a ≡ answerOf (Listing records) card
-    unfolding step
-    answer-is = ap (λ (d : Done). d .outcome .answer) made ∙ answer-by (isAccepted (answerOf (Listing records) card)) _ _ refl
+    answer-is = ap (λ (d : Done). d .outcome .answer) made ∙ given (Listing records) card
 
     count-is : a .number ≡ 0 → count ≡ planOf card records .count → count ≡ length (descriptorsOf card)
     unfolding planOf
@@ -140,3 +146,74 @@ module _ (area : List ℕ) (blocks : ℕ) (records : List Record) (a : Answer) w
     pub list-accepted : a .number ≡ 0 → count ≡ planOf card records .count → after a blocks (Listed count) filled area ≡ afterCall (state area blocks records) line.List noName
     unfolding callOf blocksOf recordsIn shownOf
     list-accepted e f = rw (count-is e f) (same-area _ _ (accepted-after area blocks records line.List noName a (Records filled) card made e))
+
+-- what bounds a line's outcome
+pick-most : (b : Bool) (x y m : ℕ) → x ≤ m → y ≤ m → pick b x y ≤ m
+pick-most true x y m h k = h
+pick-most false x y m h k = k
+
+blocks-most : (call : SheetCall) (n : ℕ) → n ≤ 64 → sizeOf call ≤ 64 → blocksOf call n ≤ 64
+unfolding sizeOf blocksOf
+blocks-most line.Malformed n h k = h
+blocks-most (line.Ream layout size volume) n h k = k
+blocks-most (line.Write l fill) n h k = h
+blocks-most (line.Read target l) n h k = h
+blocks-most line.Snap n h k = h
+blocks-most line.Revert n h k = h
+blocks-most line.List n h k = h
+blocks-most line.Check n h k = h
+
+call-blocks : (s : State) (call : SheetCall) (name : List ℕ) → s .blocks ≤ 64 → sizeOf call ≤ 64 → afterCall s call name .ran .blocks ≤ 64
+unfolding afterCall
+call-blocks s call name h k =
+    let d = step (callOf call name (s .records)) (cardOf (s .area) (blocksOf call (s .blocks))) in
+    pick-most (isAccepted (d .outcome .answer)) (blocksOf call (s .blocks)) (s .blocks) 64 (blocks-most call (s .blocks) h k) h
+
+count-by : (b : Bool) (s : Shown) (m : ℕ) → (b ≡ true → countOf s ≤ m) → countOf (pick b s Nothing) ≤ m
+unfolding countOf
+count-by true s m h = h refl
+count-by false s m h = omega arith
+
+shown-most : (call : SheetCall) (lent : Lent) (name card : List ℕ) (records : List Record) → isAccepted (step (callOf call name records) card .outcome .answer) ≡ true → countOf (shownOf call lent card) ≤ length records
+unfolding callOf shownOf countOf
+shown-most line.Malformed lent name card records h = omega arith
+shown-most (line.Ream layout size volume) lent name card records h = omega arith
+shown-most (line.Write l fill) lent name card records h = omega arith
+shown-most (line.Read target l) lent name card records h = omega arith
+shown-most line.Snap lent name card records h = omega arith
+shown-most line.Revert lent name card records h = omega arith
+shown-most line.List lent name card records h = list-room card records (sym (ap isAccepted (given (Listing records) card)) ∙ h)
+shown-most line.Check lent name card records h = omega arith
+
+call-count : (s : State) (call : SheetCall) (name : List ℕ) → countOf (afterCall s call name .ran .shown) ≤ length (s .records)
+unfolding afterCall
+call-count s call name =
+    let card = cardOf (s .area) (blocksOf call (s .blocks)) in
+    let d = step (callOf call name (s .records)) card in
+    count-by (isAccepted (d .outcome .answer)) (shownOf call (d .outcome .lent) card) (length (s .records)) (λ h. shown-most call (d .outcome .lent) name card (s .records) h)
+
+pub bounded-call : (area : List ℕ) (blocks : ℕ) (records : List Record) (call : SheetCall) (name : List ℕ) (r : Ran) (x : List ℕ) → blocks ≤ 64 → sizeOf call ≤ 64 → length records ≡ 64
+    → record { ran = r; area = x } ≡ afterCall (state area blocks records) call name → (r .blocks ≤ 64) × (countOf (r .shown) ≤ 64)
+bounded-call area blocks records call name r x h k long e = (
+  subst (λ (a : After). a .ran .blocks ≤ 64) (sym e) (call-blocks (state area blocks records) call name h k),
+  subst (λ (a : After). countOf (a .ran .shown) ≤ 64) (sym e) (omega (arith, call-count (state area blocks records) call name, long)),
+)
+
+-- a line's call depends on the name only where it has one
+call-same : (s : State) (call : SheetCall) (name other : List ℕ) → callOf call name (s .records) ≡ callOf call other (s .records) → afterCall s call name ≡ afterCall s call other
+unfolding afterCall
+call-same s call name other e = rw e
+
+-- a line that is of the form is its call
+pub line-done : (area : List ℕ) (blocks : ℕ) (records : List Record) (number : ℕ) (l : Line) (call : SheetCall) → l .call ≡ call → blocks ≤ 64 → sizeOf (l .call) ≤ 64 → length records ≡ 64
+    → isMalformed call ≡ false → (name : List ℕ) → callOf call name records ≡ callOf call (l .name) records → (r : Ran) (x : List ℕ) → record { ran = r; area = x } ≡ afterCall (state area blocks records) call name
+    → (record { ran = r; area = x } ≡ afterLine (state area blocks records) number l) × ((r .blocks ≤ 64) × (countOf (r .shown) ≤ 64))
+unfolding afterLine
+line-done area blocks records number l call is h k long m name same r x e =
+    let f = e ∙ call-same (state area blocks records) call name (l .name) same in
+    (rw (is, m) f, bounded-call area blocks records call (l .name) r x h (subst (λ (y : SheetCall). sizeOf y ≤ 64) is k) long f)
+
+pub line-malformed : (area : List ℕ) (blocks : ℕ) (records : List Record) (number : ℕ) (l : Line) → isMalformed (l .call) ≡ true
+    → record { ran = record { answer = answer 15 number; blocks = blocks; shown = Nothing; records = records; ended = true }; area = area } ≡ afterLine (state area blocks records) number l
+unfolding afterLine
+line-malformed area blocks records number l e = rw e

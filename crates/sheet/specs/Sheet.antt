@@ -81,6 +81,10 @@ blocksOf line.Revert n = n
 blocksOf line.List n = n
 blocksOf line.Check n = n
 
+-- the blocks that a format asks for, none in any other line
+unfoldable pub sizeOf : SheetCall → ℕ
+sizeOf call = blocksOf call 0
+
 -- the first byte of a lent block, and the records after a call
 unfoldable pub firstOf : Lent → ℕ
 firstOf None = 0
@@ -102,6 +106,12 @@ shownOf line.Snap lent card = Nothing
 shownOf line.Revert lent card = Nothing
 shownOf line.List lent card = Listed (length (descriptorsOf card))
 shownOf line.Check lent card = Nothing
+
+-- how many records are shown
+unfoldable pub countOf : Shown → ℕ
+countOf Nothing = 0
+countOf (Byte b) = 0
+countOf (Listed n) = n
 
 -- what a line leaves, and its blocks
 pub record After : Type 0 where

@@ -17,7 +17,7 @@ ghost use mathlib.Core.Path.{_≡_};
 ghost use Prim.Native.Nat.{_≤_};
 ghost use lib.ListN.{length};
 ghost use Rattle.blocks.specs.Name.{noName};
-ghost use Rattle.sheet.specs.Sheet.{afterCall, afterLine};
+ghost use Rattle.sheet.specs.Sheet.{sizeOf, countOf, afterCall, afterLine};
 
 // What is printed besides an answer: nothing, a read's byte, or the first records of a listing.
 pub enum Shown {
@@ -195,5 +195,42 @@ fn run_check(area: &[u8], blocks: u32, records: [Record; 64]) -> Ran
         shown: Shown::Nothing,
         records,
         ended: false,
+    }
+}
+
+// One line: the call that it asks for, or 15 with the line's number, after which the sheet ends.
+pub fn run_line(area: &mut [u8], blocks: u32, records: [Record; 64], number: u32, line: Line) -> Ran
+    requires { ⌜ (length (now area) ≡ 32768) × (blocks ≤ 64) × (sizeOf (line .call) ≤ 64) ⌝ }
+    ensures { λ r. ⌜ record { ran = r; area = now (area .exit) } ≡ afterLine (record { area = now (area .entry); blocks = blocks; records = records }) number line ⌝ }
+    ensures { λ r. ⌜ (r .blocks ≤ 64) × (countOf (r .shown) ≤ 64) ⌝ }
+{
+    let call = line.call;
+    let name = line.name;
+    match call {
+        SheetCall::Malformed => Ran {
+            answer: Answer {
+                number: 15,
+                place: number,
+            },
+            blocks,
+            shown: Shown::Nothing,
+            records,
+            ended: true,
+        },
+        SheetCall::Ream(layout, size, volume) => run_ream(
+            area,
+            blocks,
+            records,
+            layout,
+            size,
+            volume,
+            name,
+        ),
+        SheetCall::Write(l, fill) => run_write(area, blocks, records, l, fill),
+        SheetCall::Read(target, l) => run_read(area, blocks, records, target, l, name),
+        SheetCall::Snap => run_snap(area, blocks, records, name),
+        SheetCall::Revert => run_revert(area, blocks, records, name),
+        SheetCall::List => run_list(area, blocks, records),
+        SheetCall::Check => run_check(area, blocks, records),
     }
 }
