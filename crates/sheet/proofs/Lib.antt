@@ -1,2 +1,3 @@
 -- Laws of the work sheet.
 pub mod SheetLaws
+pub mod PrintLaws
