@@ -1,3 +1,4 @@
 -- Laws of the work sheet.
 pub mod SheetLaws
 pub mod PrintLaws
+pub mod TurnLaws

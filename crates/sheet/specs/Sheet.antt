@@ -15,11 +15,12 @@ use Rattle.calls.specs.Step.{Done, step, isAccepted}
 use Rattle.cutter.specs.declared.line.SheetCall.{SheetCall}
 use Rattle.cutter.specs.declared.line.SheetCall.the-variants as line
 use Rattle.cutter.specs.declared.line.Line.{Line}
-use Rattle.cutter.specs.Grammar.{SheetLine, linesOf, lineIn}
+use Rattle.cutter.specs.Grammar.{SheetLine, linesOf, lineIn, cutAt}
 use Rattle.printing.specs.Text.{lineFeed, answerText, byteText, recordsText}
 use Rattle.sheet.specs.declared.run.Shown.{Shown}
 use Rattle.sheet.specs.declared.run.Shown.the-variants.{Nothing, Byte, Listed}
 use Rattle.sheet.specs.declared.run.Ran.{Ran}
+use Rattle.sheet.specs.declared.next.Turn.{Turn}
 
 -- the blocks that a sheet owns, and its records
 abbrev pub sheetBlocks : ℕ
@@ -159,6 +160,32 @@ listedShown (Listed n) records = recordsText (take n records)
 
 unfoldable pub printed : Ran → List ℕ
 printed r = answerText (r .answer) ++ byteShown (r .shown) ++ lineFeed ++ listedShown (r .shown) (r .records)
+
+-- a turn of the program: the line of a number that starts at a byte of the sheet
+pub record Turned : Type 0 where
+  pub turn : Turn
+  pub area : List ℕ
+  pub text : List ℕ
+
+unfoldable pub turnOf : State → ℕ → List ℕ → ℕ → Turned
+turnOf s number sheet at =
+    let cut = cutAt sheet at in
+    let a = afterLine s number (cut .line) in
+    record {
+      turn = record { next = cut .next; length = length (printed (a .ran)); blocks = a .ran .blocks; records = a .ran .records; ended = a .ran .ended };
+      area = a .area;
+      text = printed (a .ran);
+    }
+
+abbrev pub stateTurned : Turned → State
+stateTurned t = record { area = t .area; blocks = t .turn .blocks; records = t .turn .records }
+
+-- what at most k turns print, from the line of a number that starts at a byte of the sheet
+unfoldable pub turnsText : ℕ → State → ℕ → List ℕ → ℕ → List ℕ
+turnsText zero s number sheet at = []
+turnsText (suc k) s number sheet at =
+    let t = turnOf s number sheet at in
+    pick (ltb at (length sheet)) (t .text ++ pick (t .turn .ended) [] (turnsText k (stateTurned t) (suc number) sheet (t .turn .next))) []
 
 -- the lines from a number on, one after the other, up to the first that is not of the form
 unfoldable pub linesText : State → ℕ → List SheetLine → List ℕ

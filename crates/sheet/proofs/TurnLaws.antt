@@ -1,0 +1,118 @@
+-- Laws of the program's turns: a line asks for at most 64 blocks, and turn after turn is the fold of the sheet's lines.
+use mathlib.Core.Path.{_≡_, refl, sym, ap, _∙_, subst}
+use mathlib.Core.Bool.{Bool, true, false, not, _&&_}
+use mathlib.Core.List.{List, [], _∷_, _++_}
+use Prim.Native.Nat.{ℕ, zero, suc, _+_, _≤_, _<_}
+use native.Mathlib.Omega.{arith}
+use lib.ListN.{length, drop, replicate}
+use lib.Dec.{eqb, ltb, leb}
+use borrow.Author.Tests.{leb-true, lt-ltb, le-ltb, ltb-true, ltb-false}
+use Rattle.blocks.specs.Pick.{pick, same}
+use Rattle.blocks.specs.Bytes.{splice, part}
+use Rattle.blocks.specs.Name.{padded, noName}
+use Rattle.blocks.specs.declared.numbers.Logical.{Logical}
+use Rattle.calls.specs.declared.answer.Target.the-variants.{Active, Snapshot}
+use Rattle.calls.proofs.RowLaws.{no}
+use Rattle.cutter.specs.declared.line.SheetCall.the-variants.{Malformed, Ream, Write, Read, Snap, Revert, List as Listing, Check}
+use Rattle.cutter.specs.declared.line.Line.{Line}
+use Rattle.cutter.specs.declared.line.Cut.{Cut}
+use Rattle.cutter.specs.Words.{opReam, keyLayout, keyBlocks, keyVolume, keyName, opWrite, opRead, keyBlock, keyFill, keyFrom, opSnap, opRevert, opList, opCheck, star}
+use Rattle.cutter.specs.Grammar.{SheetLine, hasKey, valueOf, hasNumber, numberOf, lineWith, malformed, logical, lineOfOne, lineOfTwo, readFrom, lineOfThree, lineOfFive, lineOfWords, wordsOf, lineOf, lineLength, linesOf, lineIn, cutAt}
+use Rattle.cutter.proofs.LineLaws.{lineAt, cut-lines, cut-line-in, lines-none}
+use Rattle.sheet.specs.declared.run.Ran.{Ran}
+use Rattle.sheet.specs.declared.next.Turn.{Turn}
+use Rattle.sheet.specs.Sheet.{State, After, blocksOf, sizeOf, afterLine, stateAfter, printed, turnOf, stateTurned, turnsText, linesText}
+
+-- a line asks for at most 64 blocks
+abbrev Small : Line → Type 0
+Small l = sizeOf (l .call) ≤ 64
+
+small-malformed : Small malformed
+unfolding sizeOf blocksOf
+small-malformed = omega arith
+
+one-by : (b c : Bool) → Small (pick b (lineWith Listing noName) (pick c (lineWith Check noName) malformed))
+unfolding sizeOf blocksOf
+one-by true c = omega arith
+one-by false true = omega arith
+one-by false false = omega arith
+
+two-by : (b c : Bool) (name : List ℕ) → Small (pick b (lineWith Snap name) (pick c (lineWith Revert name) malformed))
+unfolding sizeOf blocksOf
+two-by true c name = omega arith
+two-by false true name = omega arith
+two-by false false name = omega arith
+
+read-by : (b : Bool) (l : Logical) (name : List ℕ) → Small (pick b (lineWith (Read Active l) noName) (lineWith (Read Snapshot l) name))
+unfolding sizeOf blocksOf
+read-by true l name = omega arith
+read-by false l name = omega arith
+
+small-read : (from : List ℕ) (l : ℕ) → Small (readFrom from l)
+unfolding readFrom
+small-read from l = read-by (same from star) (logical l) (padded from)
+
+three-by : (b c : Bool) (l : Logical) (fill : ℕ) (r : Line) → Small r → Small (pick b (lineWith (Write l fill) noName) (pick c r malformed))
+unfolding sizeOf blocksOf
+three-by true c l fill r h = omega arith
+three-by false true l fill r h = h
+three-by false false l fill r h = omega arith
+
+five-test : (a b c d e f : Bool) → (a && b && c && d && e && f) ≡ true → d ≡ true
+five-test true true true true e f h = refl
+five-test true true true false e f h = no h
+five-test true true false d e f h = no h
+five-test true false c d e f h = no h
+five-test false b c d e f h = no h
+
+five-by : (t : Bool) (layout size volume : ℕ) (name : List ℕ) → (t ≡ true → size ≤ 64) → Small (pick t (lineWith (Ream layout size volume) name) malformed)
+unfolding sizeOf blocksOf
+five-by true layout size volume name h = h refl
+five-by false layout size volume name h = omega arith
+
+small-words : (ws : List (List ℕ)) → Small (lineOfWords ws)
+unfolding lineOfWords lineOfOne lineOfTwo lineOfThree lineOfFive
+small-words [] = small-malformed
+small-words (a ∷ []) = one-by (same a opList) (same a opCheck)
+small-words (a ∷ b ∷ []) = two-by (same a opSnap && hasKey keyName b) (same a opRevert && hasKey keyName b) (padded (valueOf keyName b))
+small-words (a ∷ b ∷ c ∷ []) =
+    three-by (same a opWrite && hasNumber keyBlock b && hasNumber keyFill c && leb (numberOf keyFill c) 255) (same a opRead && hasKey keyFrom b && hasNumber keyBlock c)
+    (logical (numberOf keyBlock b)) (numberOf keyFill c) (readFrom (valueOf keyFrom b) (numberOf keyBlock c)) (small-read (valueOf keyFrom b) (numberOf keyBlock c))
+small-words (a ∷ b ∷ c ∷ d ∷ []) = small-malformed
+small-words (a ∷ b ∷ c ∷ d ∷ e ∷ []) =
+    five-by (same a opReam && hasNumber keyLayout b && hasNumber keyBlocks c && leb (numberOf keyBlocks c) 64 && hasNumber keyVolume d && hasKey keyName e)
+    (numberOf keyLayout b) (numberOf keyBlocks c) (numberOf keyVolume d) (padded (valueOf keyName e))
+    (λ h. leb-true (numberOf keyBlocks c) 64 (five-test (same a opReam) (hasNumber keyLayout b) (hasNumber keyBlocks c) (leb (numberOf keyBlocks c) 64) (hasNumber keyVolume d) (hasKey keyName e) h))
+small-words (a ∷ b ∷ c ∷ d ∷ e ∷ f ∷ ws) = small-malformed
+
+small-if : (b : Bool) (x y : Line) → Small x → Small y → Small (pick b x y)
+small-if true x y h k = h
+small-if false x y h k = k
+
+small-line : (bytes : List ℕ) → Small (lineOf bytes)
+unfolding lineOf
+small-line bytes = small-if (ltb 127 (length bytes)) malformed (lineOfWords (wordsOf bytes)) small-malformed (small-words (wordsOf bytes))
+
+cut-by : (b : Bool) (l : Line) (n m : ℕ) → Small l → Small (pick {A = Cut} b (record { line = l; next = n }) (record { line = malformed; next = m }) .line)
+cut-by true l n m h = h
+cut-by false l n m h = small-malformed
+
+pub cut-small : (s : List ℕ) (at : ℕ) → sizeOf (cutAt s at .line .call) ≤ 64
+unfolding cutAt
+cut-small s at =
+    let n = lineLength (drop at s) in
+    cut-by (ltb (at + n) (length s)) (lineOf (part s at n)) (at + n + 1) (length s) (small-line (part s at n))
+
+-- a turn, from the line that was cut and what it left
+pub turn-done : (s : State) (number : ℕ) (sheet : List ℕ) (at : ℕ) (cut : Cut) (r : Ran) (area o o′ : List ℕ) (n : ℕ) → cut ≡ cutAt sheet at → record { ran = r; area = area } ≡ afterLine s number (cut .line)
+    → n ≡ length (printed r) → o′ ≡ splice o 0 (printed r)
+    → (record { next = cut .next; length = n; blocks = r .blocks; records = r .records; ended = r .ended } ≡ turnOf s number sheet at .turn) × (area ≡ turnOf s number sheet at .area) × (o′ ≡ splice o 0 (turnOf s number sheet at .text))
+unfolding turnOf
+turn-done s number sheet at cut r area o o′ n e f l p =
+    let g : record { ran = r; area = area } ≡ afterLine s number (cutAt sheet at .line) = f ∙ ap (λ (c : Cut). afterLine s number (c .line)) e in (
+      ap (λ (c : Cut). record { next = c .next; length = n; blocks = r .blocks; records = r .records; ended = r .ended }) e
+      ∙ ap (λ (k : ℕ). record { next = cutAt sheet at .next; length = k; blocks = r .blocks; records = r .records; ended = r .ended }) l
+      ∙ ap (λ (a : After). record { next = cutAt sheet at .next; length = length (printed (a .ran)); blocks = a .ran .blocks; records = a .ran .records; ended = a .ran .ended }) g,
+      ap (λ (a : After). a .area) g,
+      p ∙ ap (λ (a : After). splice o 0 (printed (a .ran))) g,
+    )
