@@ -21,7 +21,7 @@ use Rattle.cutter.specs.Grammar.{SheetLine, hasKey, valueOf, hasNumber, numberO
 use Rattle.cutter.proofs.LineLaws.{lineAt, cut-lines, cut-line-in, lines-none}
 use Rattle.sheet.specs.declared.run.Ran.{Ran}
 use Rattle.sheet.specs.declared.next.Turn.{Turn}
-use Rattle.sheet.specs.Sheet.{State, After, blocksOf, sizeOf, afterLine, stateAfter, printed, turnOf, stateTurned, turnsText, linesText}
+use Rattle.sheet.specs.Sheet.{State, After, blocksOf, sizeOf, afterLine, stateAfter, printed, turnOf, stateTurned, turnsText, linesText, start, tooLong, sheetText, TurnsClaim}
 
 -- a line asks for at most 64 blocks
 abbrev Small : Line → Type 0
@@ -116,3 +116,36 @@ turn-done s number sheet at cut r area o o′ n e f l p =
       ap (λ (a : After). a .area) g,
       p ∙ ap (λ (a : After). splice o 0 (printed (a .ran))) g,
     )
+
+-- the next line starts further on
+next-by : (b : Bool) (x y : Cut) (at : ℕ) → at < x .next → at < y .next → at < pick b x y .next
+next-by true x y at h k = h
+next-by false x y at h k = k
+
+next-on : (s : List ℕ) (at : ℕ) → at < length s → at < cutAt s at .next
+unfolding cutAt
+next-on s at h =
+    let n = lineLength (drop at s) in
+    next-by (ltb (at + n) (length s)) (record { line = lineOf (part s at n); next = at + n + 1 }) (record { line = malformed; next = length s }) at (omega arith) h
+
+-- turn after turn is the fold of the lines
+turns-by : (k : ℕ) → ((s : State) (number : ℕ) (sheet : List ℕ) (at : ℕ) → length sheet ≤ at + k → turnsText k s number sheet at ≡ linesText s number (linesOf (drop at sheet)))
+    → (s : State) (number : ℕ) (sheet : List ℕ) (at : ℕ) → length sheet ≤ at + suc k → (b : Bool) → ltb at (length sheet) ≡ b → turnsText (suc k) s number sheet at ≡ linesText s number (linesOf (drop at sheet))
+unfolding turnsText turnOf linesText
+turns-by k more s number sheet at h true e =
+    let inside = ltb-true at (length sheet) e in
+    let l = cutAt sheet at .line in
+    let next = cutAt sheet at .next in
+    let a = afterLine s number l in
+    rw (e, cut-lines sheet at inside, cut-line-in sheet at)
+    (ap (λ (x : List ℕ). printed (a .ran) ++ pick (a .ran .ended) [] x) (more (stateAfter a) (suc number) sheet next (omega (arith, next-on sheet at inside))))
+turns-by k more s number sheet at h false e = rw (e, lines-none sheet at (ltb-false at (length sheet) e))
+
+turns-lines : (k : ℕ) (s : State) (number : ℕ) (sheet : List ℕ) (at : ℕ) → length sheet ≤ at + k → turnsText k s number sheet at ≡ linesText s number (linesOf (drop at sheet))
+unfolding turnsText linesText
+turns-lines zero s number sheet at h = rw (lines-none sheet at (omega arith))
+turns-lines (suc k) s number sheet at h = turns-by k (turns-lines k) s number sheet at h (ltb at (length sheet)) refl
+
+pub turns-claim : TurnsClaim
+unfolding TurnsClaim sheetText
+turns-claim sheet h = turns-lines (length sheet) start 1 sheet 0 (omega arith) ∙ sym (ap (λ (b : Bool). pick b tooLong (linesText start 1 (linesOf sheet))) (le-ltb 16384 (length sheet) h))

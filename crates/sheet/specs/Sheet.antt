@@ -1,7 +1,8 @@
 -- The work sheet: the call that a line asks for, what it does to the sheet's blocks and records, what it prints, and a whole sheet.
+use mathlib.Core.Path.{_≡_}
 use mathlib.Core.Bool.{Bool, true, false}
 use mathlib.Core.List.{List, [], _∷_, _++_}
-use Prim.Native.Nat.{ℕ, zero, suc, _*_}
+use Prim.Native.Nat.{ℕ, zero, suc, _*_, _≤_}
 use lib.ListN.{length, take, drop, getD, replicate}
 use lib.Dec.{ltb}
 use Rattle.blocks.specs.Pick.{pick}
@@ -204,3 +205,7 @@ tooLong = answerText (answer 15 0) ++ lineFeed
 
 unfoldable pub sheetText : List ℕ → List ℕ
 sheetText sheet = pick (ltb mostSheet (length sheet)) tooLong (linesText start 1 (linesOf sheet))
+
+-- turn after turn, a sheet that is not too long prints just that
+unfoldable pub TurnsClaim : Type 0
+TurnsClaim = (sheet : List ℕ) → length sheet ≤ mostSheet → turnsText (length sheet) start 1 sheet 0 ≡ sheetText sheet
