@@ -111,8 +111,8 @@ unfolding turnOf
 turn-done s number sheet at cut r area o o′ n e f l p =
     let g : record { ran = r; area = area } ≡ afterLine s number (cutAt sheet at .line) = f ∙ ap (λ (c : Cut). afterLine s number (c .line)) e in (
       ap (λ (c : Cut). record { next = c .next; length = n; blocks = r .blocks; records = r .records; ended = r .ended }) e
-      ∙ ap (λ (k : ℕ). record { next = cutAt sheet at .next; length = k; blocks = r .blocks; records = r .records; ended = r .ended }) l
-      ∙ ap (λ (a : After). record { next = cutAt sheet at .next; length = length (printed (a .ran)); blocks = a .ran .blocks; records = a .ran .records; ended = a .ran .ended }) g,
+          ∙ ap (λ (k : ℕ). record { next = cutAt sheet at .next; length = k; blocks = r .blocks; records = r .records; ended = r .ended }) l
+          ∙ ap (λ (a : After). record { next = cutAt sheet at .next; length = length (printed (a .ran)); blocks = a .ran .blocks; records = a .ran .records; ended = a .ran .ended }) g,
       ap (λ (a : After). a .area) g,
       p ∙ ap (λ (a : After). splice o 0 (printed (a .ran))) g,
     )

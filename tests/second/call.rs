@@ -1,0 +1,94 @@
+//! A call as a value, with its arguments and the content of what is lent to it besides the
+//! card; and what a call says: its answer and that content at exit.
+
+use crate::store::{self, Answer, Logical, Record, Target};
+
+#[derive(Clone, Debug)]
+pub enum Call {
+    Ream {
+        layout: u64,
+        volume: u64,
+        name: Vec<u8>,
+    },
+    Read {
+        target: Target,
+        logical: Logical,
+        lent: Vec<u8>,
+    },
+    Write {
+        logical: Logical,
+        lent: Vec<u8>,
+    },
+    Snap {
+        name: Vec<u8>,
+    },
+    Revert {
+        name: Vec<u8>,
+    },
+    List {
+        lent: Vec<Record>,
+    },
+    Check,
+}
+
+#[derive(Clone, PartialEq, Eq, Debug)]
+pub struct Said {
+    pub answer: Answer,
+    /// The lent block at exit, empty where none was lent.
+    pub block: Vec<u8>,
+    /// The lent list at exit, empty where none was lent.
+    pub records: Vec<Record>,
+    /// How many records were filled.
+    pub filled: usize,
+}
+
+fn plain(answer: Answer) -> Said {
+    Said {
+        answer,
+        block: Vec::new(),
+        records: Vec::new(),
+        filled: 0,
+    }
+}
+
+/// Carries out a call on a card.
+pub fn carry_out(card: &mut [u8], call: &Call) -> Said {
+    match call {
+        Call::Ream {
+            layout,
+            volume,
+            name,
+        } => plain(store::ream(card, *layout, *volume, name)),
+        Call::Read {
+            target,
+            logical,
+            lent,
+        } => {
+            let mut block = lent.clone();
+            let answer = store::read(card, target, *logical, &mut block);
+            Said {
+                block,
+                ..plain(answer)
+            }
+        }
+        Call::Write { logical, lent } => {
+            let answer = store::write(card, *logical, lent);
+            Said {
+                block: lent.clone(),
+                ..plain(answer)
+            }
+        }
+        Call::Snap { name } => plain(store::snap(card, name)),
+        Call::Revert { name } => plain(store::revert(card, name)),
+        Call::List { lent } => {
+            let mut records = lent.clone();
+            let (answer, filled) = store::list(card, &mut records);
+            Said {
+                records,
+                filled,
+                ..plain(answer)
+            }
+        }
+        Call::Check => plain(store::check(card)),
+    }
+}

@@ -1,0 +1,492 @@
+//! Cards damaged by hand: each rule for descriptors, chain and entries, with the answer and
+//! the place that document 01 gives.
+
+use crate::store::{self, Logical, Target, ACCEPTED, BLOCK};
+use crate::values::{answer, beta, list, put, read, reamed, same, write};
+use crate::Count;
+
+/// Counts all cases.
+pub fn run(count: &mut Count) {
+    descriptors(count);
+    chains(count);
+    followed(count);
+    checked(count);
+    damaged_writes(count);
+}
+
+/// Every byte of a descriptor damaged, in the first and in the second one.
+fn descriptors(count: &mut Count) {
+    for layout in [1, 2] {
+        let mut good = reamed(layout, 9, 16);
+        store::snap(&mut good, b"mon");
+        let second = beta(&reamed(layout, 9, 16));
+        for (descriptor, byte) in (0..BLOCK).flat_map(|byte| [(0, byte), (second, byte)]) {
+            let mut card = good.clone();
+            card[descriptor as usize * BLOCK + byte] ^= 0x80;
+            let phi = layout == 2 && byte >= 64;
+            // The first descriptor's L is then 137, which is legal, and the second one's is
+            // not the same; in layout 1 its opening no longer fits its beta.
+            let volume = byte == 8 && descriptor == 0;
+            let expected = match (phi, volume && layout == 2) {
+                (true, _) => ACCEPTED,
+                (_, true) => answer(6, second),
+                _ => answer(6, descriptor),
+            };
+            let name = format!("layout {layout}, byte {byte} of descriptor {descriptor}");
+            same(count, &name, list(&card), expected);
+            if phi {
+                same(count, &name, store::check(&card), answer(10, descriptor));
+            }
+        }
+    }
+    let texts: [(&[u8], bool); 6] = [
+        (b"a\0b", false),
+        (b"", false),
+        (b"-", true),
+        (b"0.-z", true),
+        (b"A", false),
+        (b"a b", false),
+    ];
+    for (text, good) in texts {
+        let mut card = reamed(2, 9, 4);
+        card[24..40].fill(0);
+        card[24..24 + text.len()].copy_from_slice(text);
+        let expected = if good { ACCEPTED } else { answer(6, 0) };
+        same(
+            count,
+            &format!("stored name {text:?}"),
+            list(&card),
+            expected,
+        );
+    }
+    for (volume, good) in [
+        (0, false),
+        (1, true),
+        (14_336, true),
+        (14_337, false),
+        (65_545, false),
+    ] {
+        let mut card = reamed(2, 9, 4);
+        put(&mut card, 0, 8, volume);
+        let expected = if good { ACCEPTED } else { answer(6, 0) };
+        same(count, &format!("stored L {volume}"), list(&card), expected);
+    }
+}
+
+/// Alpha, beta and next.
+fn chains(count: &mut Count) {
+    let base = |layout| {
+        let mut card = reamed(layout, 129, 16);
+        store::snap(&mut card, b"mon");
+        card
+    };
+    // Layout 1: openings 0..3 and 3..6. Layout 2: 0..1 and 1..2.
+    for (layout, second, end) in [(1, 3, 6), (2, 1, 2)] {
+        let cases = [
+            (
+                "beta one short",
+                second,
+                16,
+                end - 1,
+                answer(6, u64::from(second)),
+            ),
+            ("beta just", second, 16, end, ACCEPTED),
+            ("beta N", second, 16, 16, ACCEPTED),
+            ("beta N + 1", second, 16, 17, answer(6, u64::from(second))),
+            (
+                "beta the largest",
+                second,
+                16,
+                u32::MAX,
+                answer(6, u64::from(second)),
+            ),
+            (
+                "alpha the largest",
+                second,
+                12,
+                u32::MAX,
+                answer(6, u64::from(second)),
+            ),
+            (
+                "next to itself",
+                second,
+                20,
+                second,
+                answer(6, u64::from(second)),
+            ),
+            (
+                "next past beta",
+                second,
+                20,
+                end + 1,
+                answer(6, u64::from(second)),
+            ),
+            (
+                "next at beta, zeros there",
+                second,
+                20,
+                end,
+                answer(6, u64::from(end)),
+            ),
+            ("next of the first nil", 0, 20, 0, ACCEPTED),
+            (
+                "beta of the first past next",
+                0,
+                16,
+                second + 1,
+                answer(6, 0),
+            ),
+        ];
+        for (name, block, byte, value, expected) in cases {
+            let mut card = base(layout);
+            put(&mut card, u64::from(block), byte, value);
+            same(
+                count,
+                &format!("layout {layout}, {name}"),
+                list(&card),
+                expected,
+            );
+        }
+        let mut card = base(layout);
+        put(&mut card, u64::from(second), 16, 16);
+        put(&mut card, u64::from(second), 20, 16);
+        let at = answer(6, u64::from(second));
+        same(
+            count,
+            &format!("layout {layout}, next = beta = N"),
+            list(&card),
+            at,
+        );
+        let mut card = base(layout);
+        let name = card[24..40].to_vec();
+        let at = second as usize * BLOCK;
+        card[at + 24..at + 40].copy_from_slice(&name);
+        same(
+            count,
+            "a name twice",
+            list(&card),
+            answer(6, u64::from(second)),
+        );
+    }
+    // A 257th descriptor is unsound, good as it may look.
+    let mut card = reamed(2, 9, 300);
+    for k in 0..255 {
+        store::snap(&mut card, format!("s{k}").as_bytes());
+    }
+    let copy = card[255 * BLOCK..256 * BLOCK].to_vec();
+    card[256 * BLOCK..257 * BLOCK].copy_from_slice(&copy);
+    put(&mut card, 256, 12, 256);
+    put(&mut card, 256, 16, 257);
+    card[255 * BLOCK + 24] = b'q';
+    same(count, "256 descriptors", list(&card), ACCEPTED);
+    put(&mut card, 255, 20, 256);
+    same(count, "257 descriptors", list(&card), answer(6, 256));
+    same(
+        count,
+        "snap on 257 descriptors",
+        store::snap(&mut card, b"new"),
+        answer(6, 256),
+    );
+}
+
+/// 10 in reads and writes, and its place.
+fn followed(count: &mut Count) {
+    // Layout 2: descriptor 0, table 1, data 2, descriptor 3, table 4, data 5.
+    let mut good = reamed(2, 200, 16);
+    write(&mut good, 5);
+    store::snap(&mut good, b"mon");
+    write(&mut good, 5);
+    same(
+        count,
+        "a good card",
+        (store::check(&good), beta(&good)),
+        (ACCEPTED, 6),
+    );
+    let mon = Target::Snapshot(b"mon".to_vec());
+    let old = |card: &[u8]| store::read(card, &mon, Logical(5), &mut [0; BLOCK]);
+    let entries = [
+        (0, true),
+        (1, true),
+        (2, true),
+        (3, false),
+        (4, true),
+        (5, true),
+        (6, false),
+    ];
+    for (entry, good_entry) in
+        entries
+            .into_iter()
+            .chain([(15, false), (16, false), (u32::MAX, false)])
+    {
+        let mut card = good.clone();
+        put(&mut card, 3, 64, entry);
+        // Blocks 2 and 5 are data: their bytes, taken as entries, are not in place.
+        let expected = match (entry, good_entry) {
+            (2 | 5, _) => answer(10, u64::from(entry)),
+            (_, true) => ACCEPTED,
+            (_, false) => answer(10, 3),
+        };
+        same(
+            count,
+            &format!("read, Phi names {entry}"),
+            read(&card, 0).0,
+            expected,
+        );
+        same(
+            count,
+            &format!("read of the rest, Phi names {entry}"),
+            read(&card, 199).0,
+            ACCEPTED,
+        );
+        if !good_entry {
+            same(
+                count,
+                &format!("write, Phi names {entry}"),
+                write(&mut card, 0),
+                expected,
+            );
+            same(
+                count,
+                &format!("snap, Phi names {entry}"),
+                store::snap(&mut card, b"a"),
+                ACCEPTED,
+            );
+            same(
+                count,
+                &format!("revert, Phi names {entry}"),
+                store::revert(&mut card, b"a"),
+                ACCEPTED,
+            );
+        }
+        let mut card = good.clone();
+        put(&mut card, 4, 20, entry);
+        let expected = if good_entry { ACCEPTED } else { answer(10, 4) };
+        same(
+            count,
+            &format!("read, Pi names {entry}"),
+            read(&card, 5).0,
+            expected,
+        );
+        same(
+            count,
+            &format!("write, Pi names {entry}"),
+            write(&mut card, 5),
+            expected,
+        );
+        let mut card = good.clone();
+        put(&mut card, 1, 20, entry);
+        let expected = if entry < 3 { ACCEPTED } else { answer(10, 1) };
+        same(
+            count,
+            &format!("old read, Pi names {entry}"),
+            old(&card),
+            expected,
+        );
+        let mut card = good.clone();
+        put(&mut card, 0, 64, entry);
+        let expected = match entry {
+            0 | 1 => ACCEPTED,
+            2 => answer(10, 2),
+            _ => answer(10, 0),
+        };
+        same(
+            count,
+            &format!("old read, Phi names {entry}"),
+            old(&card),
+            expected,
+        );
+    }
+    // Layout 1, two tables: 0..3 and data 3; then 4..7 and data 7.
+    let mut good = reamed(1, 200, 16);
+    write(&mut good, 130);
+    store::snap(&mut good, b"mon");
+    write(&mut good, 130);
+    same(
+        count,
+        "a good card",
+        (store::check(&good), beta(&good)),
+        (ACCEPTED, 8),
+    );
+    for entry in 0..17 {
+        let mut card = good.clone();
+        put(&mut card, 6, 8, entry);
+        let expected = if [0, 3, 7].contains(&entry) {
+            ACCEPTED
+        } else {
+            answer(10, 6)
+        };
+        same(
+            count,
+            &format!("layout 1, read, Pi names {entry}"),
+            read(&card, 130).0,
+            expected,
+        );
+        same(
+            count,
+            &format!("layout 1, check, Pi names {entry}"),
+            store::check(&card),
+            expected,
+        );
+        same(
+            count,
+            &format!("layout 1, write, Pi names {entry}"),
+            write(&mut card, 130),
+            expected,
+        );
+    }
+    // 10 before 11, 8 before 10.
+    let mut card = reamed(2, 200, 3);
+    write(&mut card, 5);
+    put(&mut card, 1, 24, 3);
+    same(count, "10 before 11", write(&mut card, 6), answer(10, 1));
+    same(count, "8 before 10", write(&mut card, 200), answer(8, 0));
+    same(count, "11", write(&mut card, 7), answer(11, 0));
+}
+
+/// The rules of check.
+fn checked(count: &mut Count) {
+    // Layout 2, two groups: descriptor 0, table 1, data 2, table 3, data 4; then
+    // descriptor 5, table 6, data 7.
+    let mut good = reamed(2, 200, 16);
+    write(&mut good, 5);
+    write(&mut good, 130);
+    store::snap(&mut good, b"mon");
+    write(&mut good, 5);
+    same(
+        count,
+        "a good card",
+        (store::check(&good), beta(&good)),
+        (ACCEPTED, 8),
+    );
+    // Name, block, byte, value, place.
+    let cases: [(&str, u64, usize, u32, u64); 12] = [
+        ("Phi past n", 5, 64 + 8, 2, 5),
+        ("last of Phi", 5, 508, 4, 5),
+        ("Pi past L", 3, 4 * 72, 1, 3),
+        ("last of Pi", 3, 508, 1, 3),
+        ("data named twice", 6, 24, 7, 6),
+        ("own table named as data", 6, 24, 6, 6),
+        ("table named as data before Phi", 6, 24, 3, 5),
+        ("data named as table", 5, 68, 7, 5),
+        ("table named twice", 5, 68, 6, 5),
+        ("Pi names beta", 6, 24, 8, 6),
+        ("Pi names a descriptor", 6, 24, 5, 6),
+        ("old Pi names new data", 3, 12, 7, 3),
+    ];
+    for (name, block, byte, value, place) in cases {
+        let mut card = good.clone();
+        put(&mut card, block, byte, value);
+        same(count, name, store::check(&card), answer(10, place));
+        same(count, "and list", list(&card), ACCEPTED);
+    }
+    // Data above alpha in an old table, which descriptor 0 names no more.
+    let mut card = good.clone();
+    put(&mut card, 0, 64, 0);
+    put(&mut card, 5, 64, 1);
+    put(&mut card, 1, 20, 7);
+    same(
+        count,
+        "data above alpha in an old table",
+        store::check(&card),
+        answer(10, 1),
+    );
+    same(
+        count,
+        "such data is overwritten",
+        write(&mut card, 5),
+        ACCEPTED,
+    );
+    same(count, "and nothing is taken", beta(&card), 8);
+    // Entry by entry: table 6's last entry is at fault before Phi's second.
+    let mut card = good.clone();
+    put(&mut card, 6, 508, 7);
+    put(&mut card, 5, 68, 15);
+    same(count, "entry by entry", store::check(&card), answer(10, 6));
+    // Descriptor by descriptor.
+    put(&mut card, 0, 508, 1);
+    same(
+        count,
+        "descriptor by descriptor",
+        store::check(&card),
+        answer(10, 0),
+    );
+    // What check does not forbid: an older descriptor's table as data.
+    let mut card = good.clone();
+    put(&mut card, 6, 24, 1);
+    same(count, "an old table as data", store::check(&card), ACCEPTED);
+    // Block 3 is below beta and named nowhere; the table is block 1 in both layouts.
+    for layout in [1, 2] {
+        let mut spare = reamed(layout, 5, 16);
+        write(&mut spare, 0);
+        put(&mut spare, 0, 16, 4);
+        for (j, expected) in [(4, ACCEPTED), (5, answer(10, 1)), (127, answer(10, 1))] {
+            let mut card = spare.clone();
+            put(&mut card, 1, 4 * j, 3);
+            let name = format!("layout {layout}, L 5, entry {j} names a spare block");
+            same(count, &name, store::check(&card), expected);
+        }
+    }
+    // Layout 1: past L, and a block named twice in two tables.
+    let mut good = reamed(1, 200, 16);
+    write(&mut good, 5);
+    write(&mut good, 130);
+    same(count, "a good card", store::check(&good), ACCEPTED);
+    let mut card = good.clone();
+    put(&mut card, 2, 4 * 72, 3);
+    same(
+        count,
+        "layout 1, past L",
+        store::check(&card),
+        answer(10, 2),
+    );
+    let mut card = good.clone();
+    put(&mut card, 2, 0, 3);
+    same(
+        count,
+        "layout 1, named twice",
+        store::check(&card),
+        answer(10, 2),
+    );
+}
+
+/// Writes on cards that have a chain and fail check.
+fn damaged_writes(count: &mut Count) {
+    let mut good = reamed(2, 200, 16);
+    write(&mut good, 5);
+    // The data entry names its own table: it is overwritten whole.
+    let mut card = good.clone();
+    put(&mut card, 1, 20, 1);
+    same(count, "own table as data", write(&mut card, 5), ACCEPTED);
+    same(
+        count,
+        "its bytes",
+        card[BLOCK..2 * BLOCK].to_vec(),
+        vec![1; BLOCK],
+    );
+    same(
+        count,
+        "then no entry is in place",
+        read(&card, 0).0,
+        answer(10, 1),
+    );
+    // Both groups share a table: an entry set by one shows in the other.
+    let mut card = good.clone();
+    put(&mut card, 0, 68, 1);
+    same(count, "shared table", write(&mut card, 128), ACCEPTED);
+    same(
+        count,
+        "seen by the other",
+        read(&card, 0),
+        (ACCEPTED, vec![1; BLOCK]),
+    );
+    same(count, "one block taken", beta(&card), 4);
+    // A table copy takes entries past L with it.
+    let mut card = reamed(2, 5, 16);
+    write(&mut card, 0);
+    put(&mut card, 1, 508, 2);
+    store::snap(&mut card, b"mon");
+    same(count, "copied table", write(&mut card, 0), ACCEPTED);
+    same(count, "entry past L", card[4 * BLOCK + 508], 2);
+    same(count, "the frozen table stays", card[BLOCK], 2);
+    same(count, "the copy has the new block", card[4 * BLOCK], 5);
+}

@@ -1,0 +1,113 @@
+//! Random damage to cards in use: no call may come to grief, a refused call leaves card and
+//! lent memory, and an accepted one leaves a sound chain.
+
+use crate::call::{carry_out, Call};
+use crate::rng::Rng;
+use crate::store::{self, Logical, Record, Target, BLOCK};
+use crate::Count;
+
+const NOTHING: Record = Record {
+    name: [0; 16],
+    alpha: 0,
+    beta: 0,
+    next: 0,
+};
+
+/// Runs the cards of `count` seeds and prints how often each number arose.
+pub fn run(seed: u64, count: u64) -> Count {
+    let mut sum = Count::default();
+    let mut answers = [0_u64; 16];
+    for k in 0..count {
+        let this = seed.wrapping_add(k);
+        sum.case(&format!("seed {this}"), one(this, &mut answers));
+    }
+    for (number, times) in answers.iter().enumerate() {
+        println!("answer {number}: {times}");
+    }
+    sum
+}
+
+/// A card in use with some of its numbers or bytes changed.
+fn damaged_card(rng: &mut Rng) -> Vec<u8> {
+    let layout = rng.between(1, 2);
+    let blocks = rng.between(4, 60);
+    let volume = rng.between(1, 300);
+    let mut card = vec![0; blocks as usize * BLOCK];
+    store::ream(&mut card, layout, volume, b"fs");
+    for k in 0..rng.below(blocks) {
+        store::write(&mut card, Logical(rng.below(volume)), &[k as u8; BLOCK]);
+        if rng.once_in(4) {
+            store::snap(&mut card, format!("v{}", k % 8).as_bytes());
+        }
+    }
+    for _ in 0..rng.between(1, 4) {
+        let block = rng.below(blocks) as usize;
+        let numbers = *rng.pick(&[6, 20, 128]);
+        let at = block * BLOCK + 4 * rng.below(numbers) as usize;
+        let value = match rng.below(6) {
+            0 => rng.bits() as u32,
+            1 => *rng.pick(&[0, 1, blocks as u32, u32::MAX]),
+            _ => rng.below(blocks + 2) as u32,
+        };
+        card[at..at + 4].copy_from_slice(&value.to_le_bytes());
+    }
+    if rng.once_in(20) {
+        let length = rng.below(card.len() as u64) as usize;
+        card.truncate(length);
+    }
+    card
+}
+
+fn random_call(rng: &mut Rng) -> Call {
+    let name = format!("v{}", rng.below(9)).into_bytes();
+    let logical = Logical(rng.below(310));
+    let content = vec![rng.below(4) as u8; BLOCK];
+    match rng.below(8) {
+        0 => Call::Read {
+            target: Target::Active,
+            logical,
+            lent: content,
+        },
+        1 => Call::Read {
+            target: Target::Snapshot(name),
+            logical,
+            lent: content,
+        },
+        2 | 3 => Call::Write {
+            logical,
+            lent: content,
+        },
+        4 => Call::Snap { name },
+        5 => Call::Revert { name },
+        6 => Call::List {
+            lent: vec![NOTHING; rng.below(30) as usize],
+        },
+        _ => Call::Check,
+    }
+}
+
+/// Runs some calls on one damaged card.
+fn one(seed: u64, answers: &mut [u64; 16]) -> Result<(), String> {
+    let mut rng = Rng::new(seed);
+    let mut card = damaged_card(&mut rng);
+    for _ in 0..20 {
+        let before = card.clone();
+        let call = random_call(&mut rng);
+        let said = carry_out(&mut card, &call);
+        answers[said.answer.number as usize] += 1;
+        let (block, records) = match &call {
+            Call::Read { lent, .. } | Call::Write { lent, .. } => (lent.clone(), Vec::new()),
+            Call::List { lent } => (Vec::new(), lent.clone()),
+            _ => (Vec::new(), Vec::new()),
+        };
+        let refused = said.answer != store::ACCEPTED;
+        if refused && (card != before || said.block != block || said.records != records) {
+            return Err(format!("{:?} has changed something", said.answer));
+        }
+        let chain = store::list(&card, &mut [NOTHING; store::MOST_DESCRIPTORS]).0;
+        if !refused && chain != store::ACCEPTED {
+            return Err(format!("no chain any more: {chain:?}"));
+        }
+    }
+    Ok(())
+}

@@ -1,0 +1,103 @@
+//! A count of the blocks that a list of calls takes, made without looking at a card: what
+//! was touched in each region says what a write needs.
+
+use std::collections::BTreeSet;
+
+#[derive(Clone)]
+struct Region {
+    alpha: u64,
+    beta: u64,
+    /// Logical blocks that have a data block in this region.
+    logicals: BTreeSet<u64>,
+    /// Groups of 128 logical blocks that have a table block in this region.
+    groups: BTreeSet<u64>,
+}
+
+pub struct Room {
+    layout: u64,
+    cost: u64,
+    blocks: u64,
+    regions: Vec<Region>,
+}
+
+fn opened(alpha: u64, cost: u64) -> Region {
+    Region {
+        alpha,
+        beta: alpha + cost,
+        logicals: BTreeSet::new(),
+        groups: BTreeSet::new(),
+    }
+}
+
+impl Room {
+    /// The count right after a format.
+    pub fn new(layout: u64, volume: u64, blocks: u64) -> Room {
+        let cost = if layout == 1 {
+            1 + volume / 128 + u64::from(volume % 128 > 0)
+        } else {
+            1
+        };
+        Room {
+            layout,
+            cost,
+            blocks,
+            regions: vec![opened(0, cost)],
+        }
+    }
+
+    fn last(&self) -> &Region {
+        &self.regions[self.regions.len() - 1]
+    }
+
+    /// How many blocks a write takes.
+    fn need(&self, logical: u64) -> u64 {
+        if self.last().logicals.contains(&logical) {
+            0
+        } else if self.layout == 2 && !self.last().groups.contains(&(logical / 128)) {
+            2
+        } else {
+            1
+        }
+    }
+
+    pub fn has_for_write(&self, logical: u64) -> bool {
+        self.last().beta + self.need(logical) <= self.blocks
+    }
+
+    pub fn has_for_snap(&self) -> bool {
+        self.last().beta + self.cost <= self.blocks
+    }
+
+    pub fn take_write(&mut self, logical: u64) {
+        let need = self.need(logical);
+        let last = self.regions.len() - 1;
+        let region = &mut self.regions[last];
+        region.beta += need;
+        region.logicals.insert(logical);
+        region.groups.insert(logical / 128);
+    }
+
+    pub fn take_snap(&mut self) {
+        self.regions.push(opened(self.last().beta, self.cost));
+    }
+
+    /// Makes the k-th region the last one again.
+    pub fn go_back(&mut self, k: usize) {
+        self.regions.truncate(k + 1);
+    }
+
+    /// Alpha, beta and next of each region.
+    pub fn marks(&self) -> Vec<(u64, u64, u64)> {
+        let count = self.regions.len();
+        let next = |k: usize| {
+            if k + 1 < count {
+                self.regions[k + 1].alpha
+            } else {
+                0
+            }
+        };
+        (0..count)
+            .map(|k| (self.regions[k].alpha, self.regions[k].beta, next(k)))
+            .collect()
+    }
+}
