@@ -98,7 +98,7 @@ pub fn read_descriptor(card: &[u8], p: Physical) -> Descriptor
 }
 
 // Stores sixteen bytes at `at`.
-fn put_name(block: &mut [u8], at: usize, name: [u8; 16])
+pub fn put_name(block: &mut [u8], at: usize, name: [u8; 16])
     requires { ⌜ at + 16 ≤ length (now block) ⌝ }
     ensures { λ _. ⌜ now (block .exit) ≡ splice (now (block .entry)) at name ⌝ }
     ensures { λ _. ⌜ length name ≡ 16 ⌝ }

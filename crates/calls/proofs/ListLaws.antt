@@ -87,7 +87,7 @@ module _ {c : List ℕ} where
       ∙ linked-next l i h
 
   -- so the descriptors are those in the blocks along the links
-  along-at : {ds : List Descriptor} → Linked c [] 0 ds → (i : ℕ) → i < length ds → descriptorAt c (blockAlong c i) ≡ getD ds i noDescriptor
+  pub along-at : {ds : List Descriptor} → Linked c [] 0 ds → (i : ℕ) → i < length ds → descriptorAt c (blockAlong c i) ≡ getD ds i noDescriptor
   along-at l i h = ap (descriptorAt c) (along-start l i h) ∙ sym (linked-at l i h .is)
 
   -- and these blocks are on the card
@@ -126,7 +126,7 @@ module _ (c : List ℕ) (records : List Record) (ok : isAccepted (answerOf (List
   unfolding rowsOf listRows
   list-area = rows-passed (Listing records) c ok 0 (omega arith)
 
-  list-linked : Linked c [] 0 ds
+  pub list-linked : Linked c [] 0 ds
   unfolding rowsOf listRows
   list-linked = chain-linked c ds (chain-is (chain c) (not-false (chainSound (chain c)) (rows-passed (Listing records) c ok 1 (omega arith))))
 
@@ -134,7 +134,7 @@ module _ (c : List ℕ) (records : List Record) (ok : isAccepted (answerOf (List
   unfolding rowsOf listRows
   list-room = ltb-false (length records) (length ds) (rows-passed (Listing records) c ok 2 (omega arith))
 
-  list-inside : (j : ℕ) → j < length ds → 512 * blockAlong c j + 512 ≤ length c
+  pub list-inside : (j : ℕ) → j < length ds → 512 * blockAlong c j + 512 ≤ length c
   list-inside j h = omega (arith, along-below list-linked j h, card-even c list-area)
 
 -- what a listing needs to fill n records: that there are so many, and that the blocks of their descriptors are on the card

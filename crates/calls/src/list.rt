@@ -32,7 +32,7 @@ fn planned(number: u32, place: u32, count: usize) -> Plan
 }
 
 // All tests of a listing into `room` records.
-fn make_plan(card: &[u8], room: usize) -> Plan
+pub fn make_plan(card: &[u8], room: usize) -> Plan
     ensures { λ r. ⌜ ((records : List Record) → length records ≡ room → r ≡ planOf (now (card .entry)) records) ⌝ }
 {
     if area::is_bad(card) {
@@ -51,7 +51,7 @@ fn make_plan(card: &[u8], room: usize) -> Plan
 }
 
 // The record of the descriptor in block `p`.
-fn record_at(card: &[u8], p: u32) -> Record
+pub fn record_at(card: &[u8], p: u32) -> Record
     requires { ⌜ 512 * p + 512 ≤ length (now card) ⌝ }
     ensures { λ r. ⌜ r ≡ recordOf (descriptorAt (now (card .entry)) p) ⌝ }
 {

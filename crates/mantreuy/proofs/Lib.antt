@@ -1,0 +1,4 @@
+-- Laws of the definitions of the exported functions.
+pub mod ExportedLaws
+pub mod RecordLaws
+pub mod ListingLaws

@@ -1,0 +1,3 @@
+-- The definitions of the exported functions, in reading order.
+pub mod Exported
+pub mod RecordBytes

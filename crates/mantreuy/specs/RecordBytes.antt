@@ -1,0 +1,62 @@
+-- Records as bytes, and a listing into them.
+use mathlib.Core.List.{List, [], _∷_, _++_}
+use Prim.Native.Nat.{ℕ, zero, suc, _*_, _/_}
+use lib.ListN.{length, take, drop, replicate}
+use Rattle.blocks.specs.Pick.{pick}
+use Rattle.blocks.specs.Bytes.{u32At, le32, splice}
+use Rattle.blocks.specs.Descriptor.{noDescriptor, descriptorAt}
+use Rattle.calls.specs.declared.answer.Answer.{Answer}
+use Rattle.calls.specs.declared.answer.Record.{Record}
+use Rattle.calls.specs.Call.{Listing, Lent, None, Block, Records}
+use Rattle.calls.specs.Parts.{descriptorsOf}
+use Rattle.calls.specs.Effect.{recordOf, listed}
+use Rattle.calls.specs.Step.{step, isAccepted}
+use Rattle.calls.specs.Listing.{blockAlong}
+
+-- bytes of a record
+abbrev pub recordSize : ℕ
+recordSize = 28
+
+-- a record as bytes: the name, then alpha, beta and next
+unfoldable pub recordBytes : Record → List ℕ
+recordBytes r = r .name ++ le32 (r .alpha) ++ le32 (r .beta) ++ le32 (r .next)
+
+-- records, one after the other
+unfoldable pub recordsBytes : List Record → List ℕ
+recordsBytes [] = []
+recordsBytes (r ∷ rs) = recordBytes r ++ recordsBytes rs
+
+-- and back: the record that bytes start with, and n records from the start of bytes
+unfoldable pub recordIn : List ℕ → Record
+recordIn bytes = record { name = take 16 bytes; alpha = u32At bytes 16; beta = u32At bytes 20; next = u32At bytes 24 }
+
+unfoldable pub recordsIn : ℕ → List ℕ → List Record
+recordsIn zero bytes = []
+recordsIn (suc n) bytes = recordIn bytes ∷ recordsIn n (drop recordSize bytes)
+
+-- what is lent to a call, as bytes
+unfoldable pub lentBytes : Lent → List ℕ
+lentBytes None = []
+lentBytes (Block block) = block
+lentBytes (Records records) = recordsBytes records
+
+-- as many records as lent bytes have room for. A listing's answer does not depend on what stands in them
+unfoldable pub roomIn : List ℕ → List Record
+roomIn bytes = replicate (length bytes / recordSize) (recordOf noDescriptor)
+
+-- the answer of a listing, and the lent bytes at exit
+pub record Listed : Type 0 where
+  pub answer : Answer
+  pub bytes : List ℕ
+
+-- where it is accepted, the records of the chain's descriptors in chain order, then the bytes that were there; else the bytes as they were
+unfoldable pub listingOf : List ℕ → List ℕ → Listed
+listingOf c bytes =
+    let ds = descriptorsOf c in
+    let a = step (Listing (roomIn bytes)) c .outcome .answer in
+    record { answer = a; bytes = pick (isAccepted a) (recordsBytes (listed ds []) ++ drop (recordSize * length ds) bytes) bytes }
+
+-- the bytes, of which the first n records are those of the descriptors in the blocks along the links
+unfoldable pub filledBytes : List ℕ → List ℕ → ℕ → List ℕ
+filledBytes c bytes zero = bytes
+filledBytes c bytes (suc i) = splice (filledBytes c bytes i) (recordSize * i) (recordBytes (recordOf (descriptorAt c (blockAlong c i))))

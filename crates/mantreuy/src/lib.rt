@@ -1,0 +1,121 @@
+// The static library that C and Rust programs link: the seven calls and the padding of a name, on numbers and lent bytes.
+// Each call returns the number of its answer and stores the place; the contract of each is one equation, by the calls' `step`.
+use blocks::descriptor;
+use blocks::name;
+use blocks::numbers::Logical;
+use calls::check;
+use calls::list;
+use calls::read;
+use calls::ream;
+use calls::revert;
+use calls::snap;
+use calls::write;
+ghost use mathlib.Core.Path.{_≡_};
+ghost use Rattle.calls.specs.Call.{Ream, Read, Write, Snap, Revert, Check, None, Block, answer};
+ghost use Rattle.calls.specs.Step.{step};
+ghost use Rattle.mantreuy.specs.Exported.{done, nameIn, targetIn, Padding, paddingOf};
+ghost use Rattle.mantreuy.specs.RecordBytes.{Listed, listingOf};
+
+pub mod argument; // names and targets as a caller gives them
+pub mod record; // records as bytes
+
+// Formats the card.
+#[no_mangle]
+pub extern "C" fn mantreuy_ream(
+    card: &mut [u8],
+    layout: u32,
+    volume: u32,
+    name: &[u8],
+    place: &mut u32,
+) -> u32
+    ensures { λ r. ⌜ done r (now (place .exit)) None (now (card .exit)) ≡ step (Ream layout volume (nameIn (now (name .entry)))) (now (card .entry)) ⌝ }
+{
+    let a = ream::ream(card, layout, volume, argument::name_in(name));
+    *place = a.place;
+    a.number
+}
+
+// Reads a block of the active store where `snapshot` is 0, else of the snapshot that has the name.
+#[no_mangle]
+pub extern "C" fn mantreuy_read(
+    card: &[u8],
+    snapshot: u32,
+    name: &[u8],
+    block: u32,
+    out: &mut [u8],
+    place: &mut u32,
+) -> u32
+    ensures { λ r. ⌜ done r (now (place .exit)) (Block (now (out .exit))) (now (card .entry)) ≡ step (Read (targetIn snapshot) (nameIn (now (name .entry))) block (now (out .entry))) (now (card .entry)) ⌝ }
+{
+    let target = argument::target_in(snapshot);
+    let a = read::read(card, target, argument::name_in(name), Logical(block), out);
+    *place = a.place;
+    a.number
+}
+
+// Writes a block of the active store.
+#[no_mangle]
+pub extern "C" fn mantreuy_write(card: &mut [u8], block: u32, bytes: &[u8], place: &mut u32) -> u32
+    ensures { λ r. ⌜ done r (now (place .exit)) (Block (now (bytes .entry))) (now (card .exit)) ≡ step (Write block (now (bytes .entry))) (now (card .entry)) ⌝ }
+{
+    let a = write::write(card, Logical(block), bytes);
+    *place = a.place;
+    a.number
+}
+
+// Freezes the active volume under the name.
+#[no_mangle]
+pub extern "C" fn mantreuy_snap(card: &mut [u8], name: &[u8], place: &mut u32) -> u32
+    ensures { λ r. ⌜ done r (now (place .exit)) None (now (card .exit)) ≡ step (Snap (nameIn (now (name .entry)))) (now (card .entry)) ⌝ }
+{
+    let a = snap::snap(card, argument::name_in(name));
+    *place = a.place;
+    a.number
+}
+
+// Back to the snapshot that has the name.
+#[no_mangle]
+pub extern "C" fn mantreuy_revert(card: &mut [u8], name: &[u8], place: &mut u32) -> u32
+    ensures { λ r. ⌜ done r (now (place .exit)) None (now (card .exit)) ≡ step (Revert (nameIn (now (name .entry)))) (now (card .entry)) ⌝ }
+{
+    let a = revert::revert(card, argument::name_in(name));
+    *place = a.place;
+    a.number
+}
+
+// Lists the chain into bytes, 28 for each record.
+#[no_mangle]
+pub extern "C" fn mantreuy_list(card: &[u8], records: &mut [u8], place: &mut u32) -> u32
+    ensures { λ r. ⌜ record { answer = answer r (now (place .exit)); bytes = now (records .exit) } ≡ listingOf (now (card .entry)) (now (records .entry)) ⌝ }
+{
+    let p = list::make_plan(card, records.len() / 28);
+    record::fill_bytes(card, records, p.count);
+    *place = p.answer.place;
+    p.answer.number
+}
+
+// Checks the card.
+#[no_mangle]
+pub extern "C" fn mantreuy_check(card: &[u8], place: &mut u32) -> u32
+    ensures { λ r. ⌜ done r (now (place .exit)) None (now (card .entry)) ≡ step Check (now (card .entry)) ⌝ }
+{
+    let a = check::check(card);
+    *place = a.place;
+    a.number
+}
+
+// Pads a text to a name: 0, or 4 where the text is no name or `name` has not sixteen bytes.
+#[no_mangle]
+pub extern "C" fn mantreuy_pad_name(text: &[u8], name: &mut [u8]) -> u32
+    ensures { λ r. ⌜ record { number = r; name = now (name .exit) } ≡ paddingOf (now (text .entry)) (now (name .entry)) ⌝ }
+{
+    if name.len() != 16 {
+        return 4;
+    }
+    let padded = name::pad_name(text);
+    if !name::is_name(padded) {
+        return 4;
+    }
+    descriptor::put_name(name, 0, padded);
+    0
+}
