@@ -62,7 +62,7 @@ module _ (area : List ℕ) (layout volume : ℕ) (name : List ℕ) (can : format
 
 pub snapshot-claim : SnapshotClaim
 unfolding SnapshotClaim
-snapshot-claim area layout volume name bytes can ks standing k v reverted = found area layout volume name can ks standing k v reverted
+snapshot-claim area layout volume name can ks standing k v reverted = found area layout volume name can ks standing k v reverted
 
 pub demand-3 : Demand3
 unfolding Demand3

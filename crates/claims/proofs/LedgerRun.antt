@@ -14,11 +14,12 @@ use Rattle.calls.specs.Check.{Passes}
 use Rattle.calls.specs.Ladder.{answerOf}
 use Rattle.calls.specs.Effect.{storesOf}
 use Rattle.calls.specs.Step.{step, after, isAccepted}
-use Rattle.claims.specs.History.{Standing, more, isFormat}
+use Rattle.claims.specs.History.{Standing, more, isFormat, formatted}
 use Rattle.claims.specs.Ledger.{Ledger, ledgerStep, ledgerOf, ledgerNames, cellRead}
-use Rattle.claims.specs.Claims.{ledgerAfter, recordNames, LedgerStep, LedgerClaim}
+use Rattle.claims.specs.Claims.{ledgerAfter, recordNames, firstLedger, LedgerStep, LedgerClaim, FormatClaim, FormatLedgerClaim}
 use Rattle.calls.proofs.RowLaws.{no}
 use Rattle.claims.proofs.Runs.{standing-length, step-length}
+use Rattle.claims.proofs.Format.{format-claim}
 use Rattle.claims.proofs.LedgerAnswers.{ledger-reads, ledger-lists, ledger-number, ledger-place, ledger-no-room}
 use Rattle.claims.proofs.PassesAfter.{passes-revert}
 use Rattle.claims.proofs.PassesSnapped.{passes-snap}
@@ -105,4 +106,11 @@ whole-run (k ∷ ks) c g q p (more f b rest) =
 
 pub ledger-claim : LedgerClaim
 unfolding LedgerClaim
-ledger-claim c ks bytes p s = whole-run ks c (ledgerOf c) refl p s
+ledger-claim c ks p s = whole-run ks c (ledgerOf c) refl p s
+
+-- from a format
+pub format-ledger-claim : FormatLedgerClaim
+unfolding FormatLedgerClaim FormatClaim
+format-ledger-claim area layout volume name can ks s =
+    let f = format-claim area layout volume name can in
+    whole-run ks (formatted area layout volume name) (firstLedger volume name) (f .1) (f .0) s

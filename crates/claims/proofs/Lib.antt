@@ -2,6 +2,7 @@
 pub mod Running
 pub mod Bench
 pub mod Example
+pub mod Edges
 pub mod Rows
 pub mod Local
 pub mod LocalEntries
@@ -28,6 +29,7 @@ pub mod SoundStep
 pub mod CardBytes
 pub mod Rollback
 pub mod Demand
+pub mod NotEmpty
 pub mod LedgerAnswers
 pub mod FoundEntry
 pub mod PassesAfter
@@ -41,3 +43,4 @@ pub mod CellEntry
 pub mod LedgerSnap
 pub mod LedgerWrite
 pub mod LedgerRun
+pub mod Places

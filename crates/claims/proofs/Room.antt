@@ -1,4 +1,4 @@
--- Alpha and beta after accepted calls.
+-- The chain after accepted calls.
 use mathlib.Core.Path.{_≡_, ap, _∙_}
 use mathlib.Core.Bool.{true}
 use mathlib.Core.List.{List}
@@ -7,12 +7,12 @@ use Rattle.blocks.specs.Bytes.{storeAll}
 use Rattle.blocks.specs.Chain.{Sound, chain}
 use Rattle.blocks.specs.declared.descriptor.Descriptor.{Descriptor}
 use Rattle.calls.specs.Call.{Call, Write, Snap, Revert}
-use Rattle.calls.specs.Parts.{descriptorsOf, activeOf, snapshotsOf}
+use Rattle.calls.specs.Parts.{descriptorsOf}
 use Rattle.calls.specs.Ladder.{answerOf}
 use Rattle.calls.specs.Effect.{storesOf}
 use Rattle.calls.specs.Step.{step, isAccepted}
 use Rattle.claims.specs.Claims.{blocksNeeded, RoomClaim}
-use Rattle.claims.proofs.ChainAfter.{before, active-snoc, reverted-chain}
+use Rattle.claims.proofs.ChainAfter.{reverted-chain}
 use Rattle.claims.proofs.SnappedChain.{snapped-chain}
 use Rattle.claims.proofs.WrittenChain.{written-chain}
 use Rattle.claims.proofs.Kept.{descriptors-are}
@@ -29,7 +29,7 @@ pub room-claim : RoomClaim
 unfolding RoomClaim blocksNeeded
 room-claim c =
     record {
-      write = λ l block e. ap activeOf (after-is (Write l block) c e _ (written-chain c l block e)) ∙ active-snoc (snapshotsOf (descriptorsOf c)) _;
+      write = λ l block e. after-is (Write l block) c e _ (written-chain c l block e);
       snap = λ name e. after-is (Snap name) c e _ (snapped-chain c name e);
-      revert = λ name e. ap activeOf (after-is (Revert name) c e _ (reverted-chain c name e)) ∙ active-snoc (before (snapshotsOf (descriptorsOf c)) name) _;
+      revert = λ name e. after-is (Revert name) c e _ (reverted-chain c name e);
     }

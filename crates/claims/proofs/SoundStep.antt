@@ -16,7 +16,7 @@ use Rattle.calls.specs.Step.{step, isAccepted}
 use Rattle.claims.specs.History.{Agree, isFormat}
 use Rattle.claims.specs.Claims.{MovesBeta, RoomClaim, SoundClaim}
 use Rattle.calls.proofs.RowLaws.{no}
-use Rattle.claims.proofs.ChainAfter.{before, behind, active-append, active-last, link-region, revert-rows, revert-split}
+use Rattle.claims.proofs.ChainAfter.{before, behind, active-snoc, active-append, active-last, link-region, revert-rows, revert-split}
 use Rattle.claims.proofs.AgreeStep.{active-two, agree-step}
 use Rattle.claims.proofs.Room.{room-claim}
 
@@ -39,7 +39,7 @@ module _ (c : List ℕ) where
   moves = room-claim c
 
   kept-write : (l : ℕ) (block : List ℕ) → isAccepted (answerOf (Write l block) c) ≡ true → Kept (activeOf (descriptorsOf (step (Write l block) c .card))) d
-  kept-write l block e = kept-as _ _ d (moves .write l block e) (refl, refl, refl)
+  kept-write l block e = kept-as _ _ d (ap activeOf (moves .write l block e) ∙ active-snoc (snapshotsOf (descriptorsOf c)) _) (refl, refl, refl)
 
   kept-snap : (name : List ℕ) → isAccepted (answerOf (Snap name) c) ≡ true → Kept (activeOf (descriptorsOf (step (Snap name) c .card))) d
   kept-snap name e =
@@ -53,7 +53,7 @@ module _ (c : List ℕ) where
       let v = withName ss name in
       let one = link-region c (r .0) (r .1) (before ss name) v (behind ss name ++ (d ∷ [])) (revert-split c name e) in
       let other = link-region c (r .0) (r .1) ss d [] (active-last c (r .0) (r .1)) in
-      kept-as _ _ d (moves .revert name e) (
+      kept-as _ _ d (ap activeOf (moves .revert name e) ∙ active-snoc (before ss name) _) (
         region-layout (descriptorAt c 0) (blockCount c) _ v one ∙ sym (region-layout (descriptorAt c 0) (blockCount c) _ d other),
         region-volume (descriptorAt c 0) (blockCount c) _ v one ∙ sym (region-volume (descriptorAt c 0) (blockCount c) _ d other),
         refl,

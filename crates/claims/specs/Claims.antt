@@ -1,23 +1,26 @@
--- What is claimed of the calls, each claim a theorem in proofs/: refusals, room, check, the algorithms, the ledger over whole lists of calls, and the rollback claim.
+-- What is claimed of the calls, each claim a theorem in proofs/: refusals and their places, room, check, the algorithms, the ledger over whole lists of calls, and the rollback claim.
 -- A card area and what is written to it are bytes; the claims that need it say so by AreBytes.
 use mathlib.Core.Path.{_≡_}
 use mathlib.Core.Logic.{_⊎_, _↔_}
 use mathlib.Core.Bool.{Bool, true, false, not, _&&_, _||_}
 use mathlib.Core.List.{List, [], _∷_, _++_, map}
-use Prim.Native.Nat.{ℕ, zero, suc, _+_, _*_, _<_, _≤_}
+use Prim.Native.Nat.{ℕ, zero, suc, _+_, _*_, _/_, _%_, _<_, _≤_}
 use lib.ListN.{length, take, drop, getD, replicate}
 use Rattle.blocks.specs.Pick.{pick}
 use lib.Dec.{eqb}
 use Rattle.blocks.specs.Bytes.{blockSize, blockCount, blockAt, zeroBlock}
-use Rattle.blocks.specs.Descriptor.{physical, noDescriptor, tableCount, cost, costOf, firstOf, descriptorBlock, renamedOf, linkedOf, extendedOf, reopenedOf}
-use Rattle.blocks.specs.Chain.{chain, chainSound, named}
-use Rattle.entries.specs.Entry.{need}
+use Rattle.blocks.specs.Name.{isName}
+use Rattle.blocks.specs.Descriptor.{physical, noDescriptor, tableSize, tableCount, cost, costOf, firstOf, descriptorAt, descriptorBlock, renamedOf, linkedOf, extendedOf, reopenedOf}
+use Rattle.blocks.specs.Chain.{Sound, Unsound, mostDescriptors, sound, chain, chainSound, named}
+use Rattle.blocks.specs.declared.descriptor.Descriptor.{Descriptor}
+use Rattle.entries.specs.InPlace.{inPlace}
+use Rattle.entries.specs.Entry.{entryAt, phiAt, need}
 use Rattle.entries.specs.Naming.{Naming, namings, atFault}
 use Rattle.entries.specs.Rules.{Rules}
 use Rattle.calls.specs.declared.answer.Target.{Target}
 use Rattle.calls.specs.declared.answer.Record.{Record}
 use Rattle.calls.specs.Call.{Call, Ream, Read, Write, Snap, Revert, Listing, Check, Lent, None, Block, Records, Outcome, answer, accepted}
-use Rattle.calls.specs.Parts.{areaBad, descriptorsOf, activeOf, snapshotsOf, withName, targetOf, foundThrough}
+use Rattle.calls.specs.Parts.{areaBad, descriptorsOf, activeOf, snapshotsOf, indexOf, withName, isSnapshot, targetOf, foundThrough}
 use Rattle.calls.specs.Check.{Passes}
 use Rattle.calls.specs.Ladder.{Row, row, rowsOf, answerOf}
 use Rattle.calls.specs.Effect.{lentOf}
@@ -52,17 +55,19 @@ ReamClaim =
     → (isAccepted (answerOf (Ream layout volume name) area) ≡ formattable area layout volume name)
     × (formattable area layout volume name ≡ true → step (Ream layout volume name) area .card ≡ formatted area layout volume name)
 
--- Alpha and beta on a card with a sound chain: a write moves beta by its need, a snap opens a region of c blocks at beta, a revert goes back to
--- the snapshot's region. The active name stays.
+-- The whole chain after an accepted call: a write moves the active beta by its need, a snap opens a region of c blocks at beta, a revert goes back to
+-- the snapshot's region, with those before it. The active name stays, and every other descriptor is as it was.
 pub record MovesBeta (c : List ℕ) : Type 0 where
   pub write : (l : ℕ) (block : List ℕ) → isAccepted (answerOf (Write l block) c) ≡ true
-      → activeOf (descriptorsOf (step (Write l block) c .card)) ≡ extendedOf (activeOf (descriptorsOf c)) (blocksNeeded (Write l block) c)
+      → descriptorsOf (step (Write l block) c .card)
+      ≡ snapshotsOf (descriptorsOf c) ++ (extendedOf (activeOf (descriptorsOf c)) (blocksNeeded (Write l block) c) ∷ [])
   pub snap : (name : List ℕ) → isAccepted (answerOf (Snap name) c) ≡ true
       → descriptorsOf (step (Snap name) c .card)
       ≡ snapshotsOf (descriptorsOf c) ++ (linkedOf (renamedOf (activeOf (descriptorsOf c)) name) (activeOf (descriptorsOf c) .beta) ∷ reopenedOf (activeOf (descriptorsOf c)) ∷ [])
   pub revert : (name : List ℕ) → isAccepted (answerOf (Revert name) c) ≡ true
-      → activeOf (descriptorsOf (step (Revert name) c .card))
-      ≡ linkedOf (renamedOf (withName (snapshotsOf (descriptorsOf c)) name) (activeOf (descriptorsOf c) .name)) (physical 0)
+      → let ss = snapshotsOf (descriptorsOf c) in
+      descriptorsOf (step (Revert name) c .card)
+      ≡ take (indexOf ss name) ss ++ (linkedOf (renamedOf (withName ss name) (activeOf (descriptorsOf c) .name)) (physical 0) ∷ [])
 
 unfoldable pub RoomClaim : Type 0
 RoomClaim = (c : List ℕ) → MovesBeta c
@@ -126,6 +131,66 @@ TableClaim =
     → let r = getD (rowsOf k c) i (row false 0 0) in
     (answerOf k c ≡ answer (r .number) (r .place)) ↔ ((r .holds ≡ true) × ((j : ℕ) → j < i → getD (rowsOf k c) j (row false 0 0) .holds ≡ false)))
     × ((answerOf k c ≡ accepted) ↔ ((i : ℕ) → i < length (rowsOf k c) → getD (rowsOf k c) i (row false 0 0) .holds ≡ false))
+
+-- The places of 6 and 10.
+
+-- block q holds the first unsound descriptor on the way from block p, after the earlier ones of the chain: one that is not sound, or one that is not
+-- among the first 256, whatever it holds
+pub data FirstUnsound (c : List ℕ) : List Descriptor → ℕ → ℕ → Type 0 where
+  here : {earlier : List Descriptor} {p : ℕ} → length earlier < mostDescriptors → sound c earlier p ≡ false → FirstUnsound c earlier p p
+  past : {earlier : List Descriptor} {p : ℕ} → mostDescriptors ≤ length earlier → FirstUnsound c earlier p p
+  on : {earlier : List Descriptor} {p q : ℕ} → length earlier < mostDescriptors → sound c earlier p ≡ true → (descriptorAt c p .next .0 ≡ 0 → ⊥)
+      → FirstUnsound c (earlier ++ (descriptorAt c p ∷ [])) (descriptorAt c p .next .0) q → FirstUnsound c earlier p q
+
+-- the descriptors from block p on, after the earlier ones of the chain: each is sound and among the first 256, each but the last names the block of
+-- the one after it, and the last has a nil next
+pub data Chained (c : List ℕ) : List Descriptor → ℕ → List Descriptor → Type 0 where
+  last : {earlier : List Descriptor} {p : ℕ} → length earlier < mostDescriptors → sound c earlier p ≡ true → descriptorAt c p .next .0 ≡ 0
+      → Chained c earlier p (descriptorAt c p ∷ [])
+  link : {earlier : List Descriptor} {p : ℕ} {ds : List Descriptor} → length earlier < mostDescriptors → sound c earlier p ≡ true
+      → (descriptorAt c p .next .0 ≡ 0 → ⊥) → Chained c (earlier ++ (descriptorAt c p ∷ [])) (descriptorAt c p .next .0) ds → Chained c earlier p (descriptorAt c p ∷ ds)
+
+-- whether a call comes to the chain: the area is a card, a name that is given is one, the caller's block has 512 bytes. A ream never does
+unfoldable pub comesToChain : Call → List ℕ → Bool
+comesToChain (Ream layout volume name) c = false
+comesToChain (Read target name l block) c = not (areaBad c) && (not (isSnapshot target) || isName name) && eqb (length block) blockSize
+comesToChain (Write l block) c = not (areaBad c) && eqb (length block) blockSize
+comesToChain (Snap name) c = not (areaBad c) && isName name
+comesToChain (Revert name) c = not (areaBad c) && isName name
+comesToChain (Listing records) c = not (areaBad c)
+comesToChain Check c = not (areaBad c)
+
+-- A sound chain is all the descriptors from block 0 on; an unsound one is so at the block of its first unsound descriptor. 6 is given exactly where a
+-- call comes to an unsound chain, with that place.
+unfoldable pub ChainClaim : Type 0
+ChainClaim =
+    (c : List ℕ)
+    → ((ds : List Descriptor) → (chain c ≡ Sound ds) ↔ Chained c [] 0 ds)
+    × ((q : ℕ) → (chain c ≡ Unsound q) ↔ FirstUnsound c [] 0 q)
+    × ((k : Call) (q : ℕ) → (answerOf k c ≡ answer 6 q) ↔ ((comesToChain k c ≡ true) × FirstUnsound c [] 0 q))
+
+-- block h holds an entry that is followed on the way to logical block l through d and that is not in place: Phi's entry of l's group, held by the
+-- descriptor's own block; or the entry of l, held by its table block, which layout 1 has after the descriptor and layout 2 where Phi's entry names it
+pub data Stray (c : List ℕ) (d : Descriptor) (l : ℕ) : ℕ → Type 0 where
+  phi : d .layout ≡ 2 → inPlace (descriptorsOf c) d (phiAt c d (l / tableSize)) ≡ false → Stray c d l (d .alpha .0)
+  named-table : d .layout ≡ 2 → inPlace (descriptorsOf c) d (phiAt c d (l / tableSize)) ≡ true → (phiAt c d (l / tableSize) ≡ 0 → ⊥)
+      → inPlace (descriptorsOf c) d (entryAt c (phiAt c d (l / tableSize)) (l % tableSize)) ≡ false → Stray c d l (phiAt c d (l / tableSize))
+  own-table : d .layout ≡ 1 → inPlace (descriptorsOf c) d (entryAt c (d .alpha .0 + 1 + l / tableSize) (l % tableSize)) ≡ false
+      → Stray c d l (d .alpha .0 + 1 + l / tableSize)
+
+-- 10 in reads and writes: given exactly where the call comes to a sound chain, a snapshot that is named is there, the number is below L and an entry
+-- that is followed is not in place; the place is the block that holds it
+pub record StrayPlaces (c : List ℕ) : Type 0 where
+  pub read : (target : Target) (name : List ℕ) (l : ℕ) (block : List ℕ) (h : ℕ)
+      → (answerOf (Read target name l block) c ≡ answer 10 h)
+      ↔ ((comesToChain (Read target name l block) c ≡ true) × (chainSound (chain c) ≡ true) × ((not (isSnapshot target) || named (snapshotsOf (descriptorsOf c)) name) ≡ true)
+      × (l < activeOf (descriptorsOf c) .volume) × Stray c (targetOf (descriptorsOf c) target name) l h)
+  pub write : (l : ℕ) (block : List ℕ) (h : ℕ)
+      → (answerOf (Write l block) c ≡ answer 10 h)
+      ↔ ((comesToChain (Write l block) c ≡ true) × (chainSound (chain c) ≡ true) × (l < activeOf (descriptorsOf c) .volume) × Stray c (activeOf (descriptorsOf c)) l h)
+
+unfoldable pub PlaceClaim : Type 0
+PlaceClaim = (c : List ℕ) → StrayPlaces c
 
 -- Check and the algorithms.
 
@@ -223,21 +288,36 @@ pub record LedgerStep (k : Call) (c : List ℕ) (g : Ledger) : Type 0 where
 -- the card before that call matches the ledger carried so far by the ledger's own step, and LedgerStep holds of the call.
 unfoldable pub LedgerClaim : Type 0
 LedgerClaim =
-    (c : List ℕ) (ks : List Call) → AreBytes c → Passes c → Standing c ks
+    (c : List ℕ) (ks : List Call) → Passes c → Standing c ks
     → ((i : ℕ) → i < length ks → LedgerStep (getD ks i Check) (after (take i ks) c) (ledgerAfter (take i ks) c (ledgerOf c)))
     × Passes (after ks c)
     × (ledgerOf (after ks c) ≡ ledgerAfter ks c (ledgerOf c))
+
+-- the ledger that a format starts: no snapshots, and a volume of zeros
+abbrev pub firstLedger : ℕ → List ℕ → Ledger
+firstLedger volume name = record { snapshots = []; active = record { name = name; cells = replicate volume zeroBlock } }
 
 -- From a format the ledger starts with no snapshots and a volume of zeros, and the card passes, whatever the area held.
 unfoldable pub FormatClaim : Type 0
 FormatClaim =
     (area : List ℕ) (layout volume : ℕ) (name : List ℕ) → formattable area layout volume name ≡ true
     → Passes (formatted area layout volume name)
-    × (ledgerOf (formatted area layout volume name) ≡ record { snapshots = []; active = record { name = name; cells = replicate volume zeroBlock } })
+    × (ledgerOf (formatted area layout volume name) ≡ firstLedger volume name)
     × (descriptorsOf (formatted area layout volume name) ≡ firstOf layout volume name ∷ [])
     × (blockAt (formatted area layout volume name) 0 ≡ descriptorBlock (firstOf layout volume name) (replicate 472 0))
     × ((p : ℕ) → 0 < p → p < cost layout volume → blockAt (formatted area layout volume name) p ≡ zeroBlock)
     × (drop (blockSize * cost layout volume) (formatted area layout volume name) ≡ drop (blockSize * cost layout volume) area)
+
+-- From a format, whatever the area held, every run matches the ledger that starts with no snapshots and a volume of zeros.
+unfoldable pub FormatLedgerClaim : Type 0
+FormatLedgerClaim =
+    (area : List ℕ) (layout volume : ℕ) (name : List ℕ) → formattable area layout volume name ≡ true
+    → let c = formatted area layout volume name in
+    let g = firstLedger volume name in
+    (ks : List Call) → Standing c ks
+    → ((i : ℕ) → i < length ks → LedgerStep (getD ks i Check) (after (take i ks) c) (ledgerAfter (take i ks) c g))
+    × Passes (after ks c)
+    × (ledgerOf (after ks c) ≡ ledgerAfter ks c g)
 
 -- The rollback claim.
 
@@ -271,7 +351,7 @@ RollbackClaim =
 -- "That visit's snapshot" exists on a card that a format made, whatever the area held.
 unfoldable pub SnapshotClaim : Type 0
 SnapshotClaim =
-    (area : List ℕ) (layout volume : ℕ) (name : List ℕ) → AreBytes area → formattable area layout volume name ≡ true
+    (area : List ℕ) (layout volume : ℕ) (name : List ℕ) → formattable area layout volume name ≡ true
     → (ks : List Call) → Standing (formatted area layout volume name) ks
     → (k : ℕ) (v : List ℕ) → RevertedAt (formatted area layout volume name) ks k v
     → (i : ℕ) × (i < k) × (latestSnap v (formatted area layout volume name) (take k ks) ≡ At i)

@@ -5,3 +5,4 @@ pub mod Ledger
 pub mod Claims
 pub mod Bench
 pub mod Example
+pub mod Edges

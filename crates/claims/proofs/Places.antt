@@ -1,0 +1,412 @@
+-- The places of 6 and 10: the block of the first unsound descriptor, and the block that holds an entry that is followed and not in place.
+use mathlib.Core.Path.{_≡_, refl, sym, ap, _∙_, subst}
+use mathlib.Core.Logic.{_↔_}
+use mathlib.Core.Bool.{Bool, true, false, not, _&&_, _||_}
+use mathlib.Core.List.{List, [], _∷_, _++_}
+use Prim.Native.Nat.{ℕ, zero, suc, _+_, _/_, _%_, _<_}
+use native.Mathlib.Omega.{arith}
+use lib.ListN.{length, length-append}
+use lib.Seq.{append-snoc}
+use lib.Dec.{eqb, leb}
+use borrow.Author.Tests.{eqb-true, eqb-false, eq-eqb, ne-eqb, leb-false, lt-leb, not-true}
+use Rattle.blocks.specs.Pick.{pick}
+use Rattle.blocks.specs.Name.{isName}
+use Rattle.blocks.specs.Descriptor.{physical, descriptorAt}
+use Rattle.blocks.specs.Chain.{sound, Chain, Unsound, Sound, chainFrom, chain, chainSound, chainPlace, named}
+use Rattle.blocks.specs.declared.descriptor.Descriptor.{Descriptor}
+use Rattle.blocks.proofs.Tests.{and-left, and-right}
+use Rattle.blocks.proofs.SoundLaws.{form-layout}
+use Rattle.blocks.proofs.LinkedLaws.{chain-linked, linked-some, linked-at}
+use Rattle.entries.specs.InPlace.{inPlace}
+use Rattle.entries.specs.Entry.{entryAt, phiAt, tableOf, entryFound, find}
+use Rattle.entries.specs.declared.find.Found.the-variants.{Misplaced, Entry}
+use Rattle.calls.specs.declared.answer.Answer.{Answer}
+use Rattle.calls.specs.declared.answer.Target.{Target}
+use Rattle.calls.specs.declared.answer.Target.the-variants.{Active}
+use Rattle.calls.specs.Call.{Call, Ream, Read, Write, Snap, Revert, Listing, Check, answer}
+use Rattle.calls.specs.Parts.{areaBad, descriptorsOf, activeOf, snapshotsOf, isSnapshot, targetOf, foundThrough, isMisplaced, holderOf}
+use Rattle.calls.specs.Ladder.{Row, row, areaRow, nameRow, blockRow, chainRow, volumeRow, firstRow, reamRows, readRows, writeRows, snapRows, revertRows, listRows, checkRows, rowsOf, answerOf}
+use Rattle.claims.specs.Claims.{FirstUnsound, here, past, on, Chained, last, link, comesToChain, ChainClaim, Stray, phi, named-table, own-table, PlaceClaim}
+use Rattle.calls.proofs.RowLaws.{no, fresh, fresh-never}
+use Rattle.calls.proofs.CardLaws.{chain-is}
+use Rattle.claims.proofs.Agreement.{target-member}
+
+-- no row of a list holds
+unfoldable clear : List Row → Bool
+clear [] = true
+clear (r ∷ rs) = not (r .holds) && clear rs
+
+-- a row with a number of its own is given exactly where it holds and none before it does, with its place
+first-by : (n q : ℕ) (r : Row) (rs : List Row) (b : Bool) → (r .number ≡ n → ⊥) → pick b (answer (r .number) (r .place)) (firstRow rs) ≡ answer n q → (b ≡ false) × (firstRow rs ≡ answer n q)
+first-by n q r rs true other e = absurd (other (ap (λ (a : Answer). a .number) e))
+first-by n q r rs false other e = (refl, e)
+
+last-by : (n p q : ℕ) (ys : List Row) (b : Bool) → fresh n ys ≡ true → (n ≡ 0 → ⊥) → pick b (answer n p) (firstRow ys) ≡ answer n q → (b ≡ true) × (p ≡ q)
+last-by n p q ys true f z e = (refl, ap (λ (a : Answer). a .place) e)
+last-by n p q ys false f z e = absurd (fresh-never ys n f z (ap (λ (a : Answer). a .number) e))
+
+row-given : (xs ys : List Row) (b : Bool) (n p q : ℕ) → fresh n xs ≡ true → fresh n ys ≡ true → (n ≡ 0 → ⊥) → firstRow (xs ++ (row b n p ∷ ys)) ≡ answer n q
+    → (clear xs ≡ true) × (b ≡ true) × (p ≡ q)
+unfolding firstRow fresh clear
+row-given [] ys b n p q f g z e = let r = last-by n p q ys b g z e in (refl, r .0, r .1)
+row-given (r ∷ xs) ys b n p q f g z e =
+    let first = first-by n q r (xs ++ (row b n p ∷ ys)) (r .holds) (eqb-false (r .number) n (not-true _ (and-left (not (eqb (r .number) n)) (fresh n xs) f))) e in
+    let rest = row-given xs ys b n p q (and-right (not (eqb (r .number) n)) (fresh n xs) f) g z (first .1) in
+    (rw (first .0) (rest .0), rest .1, rest .2)
+
+row-gives : (xs ys : List Row) (b : Bool) (n p q : ℕ) → clear xs ≡ true → b ≡ true → p ≡ q → firstRow (xs ++ (row b n p ∷ ys)) ≡ answer n q
+unfolding firstRow clear
+row-gives [] ys b n p q f h e = rw (h, e)
+row-gives (r ∷ xs) ys b n p q f h e = rw (not-true (r .holds) (and-left (not (r .holds)) (clear xs) f)) (row-gives xs ys b n p q (and-right (not (r .holds)) (clear xs) f) h e)
+
+-- the walk along the chain, with as much fuel as there may be more descriptors
+module _ (c : List ℕ) where
+  stopped : (ch : Chain) (p q : ℕ) → ch ≡ Unsound p → ch ≡ Unsound q → p ≡ q
+  unfolding chainPlace
+  stopped ch p q e f = ap chainPlace (sym e ∙ f)
+
+  walk-by : (fuel : ℕ) (es : List Descriptor) (p q : ℕ) → length es + suc fuel ≡ 256
+      → ((es′ : List Descriptor) (p′ : ℕ) → length es′ + fuel ≡ 256 → chainFrom c fuel es′ p′ ≡ Unsound q → FirstUnsound c es′ p′ q)
+      → (s z : Bool) → sound c es p ≡ s → eqb (descriptorAt c p .next .0) 0 ≡ z
+      → pick s (pick z (Sound (es ++ (descriptorAt c p ∷ []))) (chainFrom c fuel (es ++ (descriptorAt c p ∷ [])) (descriptorAt c p .next .0))) (Unsound p) ≡ Unsound q
+      → FirstUnsound c es p q
+  walk-by fuel es p q l later true true hs hz e = let y : _≡_ {A = ℕ} 0 1 = cc in absurd (omega arith)
+  walk-by fuel es p q l later true false hs hz e =
+      on {earlier = es} (omega arith) hs (eqb-false _ _ hz) (later (es ++ (descriptorAt c p ∷ [])) (descriptorAt c p .next .0) (omega (arith, length-append es (descriptorAt c p ∷ []))) e)
+  walk-by fuel es p q l later false z hs hz e = subst (λ (x : ℕ). FirstUnsound c es p x) (stopped (Unsound p) p q refl e) (here {earlier = es} (omega arith) hs)
+
+  walk-place : (fuel : ℕ) (es : List Descriptor) (p q : ℕ) → length es + fuel ≡ 256 → chainFrom c fuel es p ≡ Unsound q → FirstUnsound c es p q
+  unfolding chainFrom
+  walk-place zero es p q l e = subst (λ (x : ℕ). FirstUnsound c es p x) (stopped (Unsound p) p q refl e) (past {earlier = es} (omega arith))
+  walk-place (suc fuel) es p q l e = walk-by fuel es p q l (λ es′ p′. walk-place fuel es′ p′ q) (sound c es p) (eqb (descriptorAt c p .next .0) 0) refl refl e
+
+  place-walk : (fuel : ℕ) (es : List Descriptor) (p q : ℕ) → length es + fuel ≡ 256 → FirstUnsound c es p q → chainFrom c fuel es p ≡ Unsound q
+  unfolding chainFrom
+  place-walk zero es p q l (here few h) = absurd (omega arith)
+  place-walk zero es p q l (past many) = refl
+  place-walk zero es p q l (on few h n rest) = absurd (omega arith)
+  place-walk (suc fuel) es p q l (here few h) = rw h
+  place-walk (suc fuel) es p q l (past many) = absurd (omega arith)
+  place-walk (suc fuel) es p q l (on few h n rest) =
+      rw (h, ne-eqb (descriptorAt c p .next .0) 0 n)
+      (place-walk fuel (es ++ (descriptorAt c p ∷ [])) (descriptorAt c p .next .0) q (omega (arith, length-append es (descriptorAt c p ∷ []))) rest)
+
+  chain-place : (q : ℕ) → chain c ≡ Unsound q → FirstUnsound c [] 0 q
+  unfolding chain
+  chain-place q e = walk-place 256 [] 0 q refl e
+
+  place-chain : (q : ℕ) → FirstUnsound c [] 0 q → chain c ≡ Unsound q
+  unfolding chain
+  place-chain q f = place-walk 256 [] 0 q refl f
+
+-- the same walk where it finds no fault
+module _ (c : List ℕ) where
+  abbrev Rest : List Descriptor → List Descriptor → ℕ → Type 0
+  Rest ds es p = (rest : List Descriptor) × (ds ≡ es ++ rest) × Chained c es p rest
+
+  sound-by : (fuel : ℕ) (es : List Descriptor) (p : ℕ) (ds : List Descriptor) → length es + suc fuel ≡ 256
+      → ((es′ : List Descriptor) (p′ : ℕ) → length es′ + fuel ≡ 256 → chainFrom c fuel es′ p′ ≡ Sound ds → Rest ds es′ p′)
+      → (s z : Bool) → sound c es p ≡ s → eqb (descriptorAt c p .next .0) 0 ≡ z
+      → pick s (pick z (Sound (es ++ (descriptorAt c p ∷ []))) (chainFrom c fuel (es ++ (descriptorAt c p ∷ [])) (descriptorAt c p .next .0))) (Unsound p) ≡ Sound ds
+      → Rest ds es p
+  sound-by fuel es p ds l later true true hs hz e = (descriptorAt c p ∷ [], cc, last {earlier = es} (omega arith) hs (eqb-true _ _ hz))
+  sound-by fuel es p ds l later true false hs hz e =
+      let r = later (es ++ (descriptorAt c p ∷ [])) (descriptorAt c p .next .0) (omega (arith, length-append es (descriptorAt c p ∷ []))) e in
+      (descriptorAt c p ∷ r .0, r .1 ∙ append-snoc es (descriptorAt c p) (r .0), link {earlier = es} (omega arith) hs (eqb-false _ _ hz) (r .2))
+  sound-by fuel es p ds l later false z hs hz e = let y : _≡_ {A = ℕ} 0 1 = cc in absurd (omega arith)
+
+  walk-sound : (fuel : ℕ) (es : List Descriptor) (p : ℕ) (ds : List Descriptor) → length es + fuel ≡ 256 → chainFrom c fuel es p ≡ Sound ds → Rest ds es p
+  unfolding chainFrom
+  walk-sound zero es p ds l e = let y : _≡_ {A = ℕ} 0 1 = cc in absurd (omega arith)
+  walk-sound (suc fuel) es p ds l e = sound-by fuel es p ds l (λ es′ p′. walk-sound fuel es′ p′ ds) (sound c es p) (eqb (descriptorAt c p .next .0) 0) refl refl e
+
+  sound-walk : (fuel : ℕ) (es : List Descriptor) (p : ℕ) (ds : List Descriptor) → length es + fuel ≡ 256 → Chained c es p ds → chainFrom c fuel es p ≡ Sound (es ++ ds)
+  unfolding chainFrom
+  sound-walk zero es p ds l (last few h z) = absurd (omega arith)
+  sound-walk zero es p ds l (link few h n rest) = absurd (omega arith)
+  sound-walk (suc fuel) es p ds l (last few h z) = rw (h, eq-eqb (descriptorAt c p .next .0) 0 z)
+  sound-walk (suc fuel) es p ds l (link {ds = ds′} few h n rest) =
+      rw (h, ne-eqb (descriptorAt c p .next .0) 0 n)
+      (sound-walk fuel (es ++ (descriptorAt c p ∷ [])) (descriptorAt c p .next .0) ds′ (omega (arith, length-append es (descriptorAt c p ∷ []))) rest
+      ∙ ap Sound (append-snoc es (descriptorAt c p) ds′))
+
+  chain-chained : (ds : List Descriptor) → chain c ≡ Sound ds → Chained c [] 0 ds
+  unfolding chain
+  chain-chained ds e = let r = walk-sound 256 [] 0 ds refl e in rw (r .1) (r .2)
+
+  chained-chain : (ds : List Descriptor) → Chained c [] 0 ds → chain c ≡ Sound ds
+  unfolding chain
+  chained-chain ds h = sound-walk 256 [] 0 ds refl h
+
+-- the row of 6 says so
+unsound-is : (ch : Chain) (q : ℕ) → not (chainSound ch) ≡ true → chainPlace ch ≡ q → ch ≡ Unsound q
+unfolding chainSound chainPlace
+unsound-is (Unsound p) q h e = ap Unsound e
+unsound-is (Sound ds) q h e = no h
+
+unsound-row : (ch : Chain) (q : ℕ) → ch ≡ Unsound q → (not (chainSound ch) ≡ true) × (chainPlace ch ≡ q)
+unfolding chainSound chainPlace
+unsound-row ch q e = rw e (refl, refl)
+
+-- rows that do not hold, by the tests that pass
+clear-one : (a : Bool) → (not a && true) ≡ not a
+clear-one true = refl
+clear-one false = refl
+
+clear-two : (a b : Bool) → (not a && (not (not b) && true)) ≡ (not a && b)
+clear-two true b = refl
+clear-two false true = refl
+clear-two false false = refl
+
+clear-three : (a s n b : Bool) → (not a && (not (s && not n) && (not (not b) && true))) ≡ (not a && (not s || n) && b)
+clear-three true s n b = refl
+clear-three false true true true = refl
+clear-three false true true false = refl
+clear-three false true false b = refl
+clear-three false false n true = refl
+clear-three false false n false = refl
+
+module _ (c : List ℕ) (q : ℕ) where
+  abbrev Six : Call → Type 0
+  Six k = (comesToChain k c ≡ true) × FirstUnsound c [] 0 q
+
+  six : (k : Call) (xs ys : List Row) → rowsOf k c ≡ xs ++ (chainRow c ∷ ys) → fresh 6 xs ≡ true → fresh 6 ys ≡ true → clear xs ≡ comesToChain k c → answerOf k c ≡ answer 6 q → Six k
+  unfolding answerOf
+  six k xs ys is f g h e =
+      let r = row-given xs ys (not (chainSound (chain c))) 6 (chainPlace (chain c)) q f g (λ z. omega arith) (rw is at e) in
+      (sym h ∙ r .0, chain-place c q (unsound-is (chain c) q (r .1) (r .2)))
+
+  six-given : (k : Call) (xs ys : List Row) → rowsOf k c ≡ xs ++ (chainRow c ∷ ys) → clear xs ≡ comesToChain k c → Six k → answerOf k c ≡ answer 6 q
+  unfolding answerOf
+  six-given k xs ys is h s =
+      let r = unsound-row (chain c) q (place-chain c q (s .1)) in
+      rw is (row-gives xs ys (not (chainSound (chain c))) 6 (chainPlace (chain c)) q (h ∙ s .0) (r .0) (r .1))
+
+  never-six : (layout volume : ℕ) (name : List ℕ) → answerOf (Ream layout volume name) c ≡ answer 6 q → ⊥
+  unfolding answerOf rowsOf reamRows fresh
+  never-six layout volume name e = fresh-never (reamRows c layout volume name) 6 refl (λ z. omega arith) (ap (λ (a : Answer). a .number) e)
+
+  chain-answer : (k : Call) → (answerOf k c ≡ answer 6 q) ↔ Six k
+  unfolding rowsOf readRows writeRows snapRows revertRows listRows checkRows fresh clear comesToChain
+  chain-answer (Ream layout volume name) = (λ e. absurd (never-six layout volume name e), λ s. no (s .0))
+  chain-answer (Read target name l block) =
+      let xs = areaRow c ∷ row (isSnapshot target && not (isName name)) 4 0 ∷ blockRow block ∷ [] in (
+        six (Read target name l block) xs _ refl refl refl (clear-three (areaBad c) (isSnapshot target) (isName name) (eqb (length block) 512)),
+        six-given (Read target name l block) xs _ refl (clear-three (areaBad c) (isSnapshot target) (isName name) (eqb (length block) 512)),
+      )
+  chain-answer (Write l block) =
+      let xs = areaRow c ∷ blockRow block ∷ [] in
+      (six (Write l block) xs _ refl refl refl (clear-two (areaBad c) (eqb (length block) 512)), six-given (Write l block) xs _ refl (clear-two (areaBad c) (eqb (length block) 512)))
+  chain-answer (Snap name) =
+      let xs = areaRow c ∷ nameRow name ∷ [] in
+      (six (Snap name) xs _ refl refl refl (clear-two (areaBad c) (isName name)), six-given (Snap name) xs _ refl (clear-two (areaBad c) (isName name)))
+  chain-answer (Revert name) =
+      let xs = areaRow c ∷ nameRow name ∷ [] in
+      (six (Revert name) xs _ refl refl refl (clear-two (areaBad c) (isName name)), six-given (Revert name) xs _ refl (clear-two (areaBad c) (isName name)))
+  chain-answer (Listing records) =
+      let xs = areaRow c ∷ [] in
+      (six (Listing records) xs _ refl refl refl (clear-one (areaBad c)), six-given (Listing records) xs _ refl (clear-one (areaBad c)))
+  chain-answer Check =
+      let xs = areaRow c ∷ [] in
+      (six Check xs _ refl refl refl (clear-one (areaBad c)), six-given Check xs _ refl (clear-one (areaBad c)))
+
+pub chain-claim : ChainClaim
+unfolding ChainClaim
+chain-claim c = (λ ds. (chain-chained c ds, chained-chain c ds), λ q. (chain-place c q, place-chain c q), λ k q. chain-answer c q k)
+
+-- what find gives of an entry that is not in place
+module _ (ds : List Descriptor) (d : Descriptor) (m p h : ℕ) where
+  misplaced-by : (t : Bool) → inPlace ds d p ≡ t → isMisplaced (pick t (Entry (physical m) (physical p)) (Misplaced (physical m))) ≡ true
+      → holderOf (pick t (Entry (physical m) (physical p)) (Misplaced (physical m))) ≡ h → (inPlace ds d p ≡ false) × (m ≡ h)
+  unfolding isMisplaced holderOf
+  misplaced-by true e q k = no q
+  misplaced-by false e q k = (e, k)
+
+  misplaced-entry : isMisplaced (entryFound ds d m p) ≡ true → holderOf (entryFound ds d m p) ≡ h → (inPlace ds d p ≡ false) × (m ≡ h)
+  unfolding entryFound
+  misplaced-entry q k = misplaced-by (inPlace ds d p) refl q k
+
+  entry-misplaced : inPlace ds d p ≡ false → (isMisplaced (entryFound ds d m p) ≡ true) × (holderOf (entryFound ds d m p) ≡ m)
+  unfolding entryFound isMisplaced holderOf
+  entry-misplaced e = rw e (refl, refl)
+
+module _ (c : List ℕ) (d : Descriptor) (l : ℕ) where
+  abbrev ds : List Descriptor
+  ds = descriptorsOf c
+
+  abbrev f : ℕ
+  f = phiAt c d (l / 128)
+
+  abbrev o : ℕ
+  o = d .alpha .0 + 1 + l / 128
+
+  layout-two : (eqb (d .layout) 1 || eqb (d .layout) 2) ≡ true → eqb (d .layout) 1 ≡ false → d .layout ≡ 2
+  layout-two form e = eqb-true (d .layout) 2 (rw e at form)
+
+  -- through Phi
+  phi-by : (h : ℕ) → d .layout ≡ 2 → (i z : Bool) → inPlace ds d f ≡ i → eqb f 0 ≡ z
+      → isMisplaced (pick i (pick z (Entry (physical 0) (physical 0)) (entryFound ds d f (entryAt c f (l % 128)))) (Misplaced (d .alpha))) ≡ true
+      → holderOf (pick i (pick z (Entry (physical 0) (physical 0)) (entryFound ds d f (entryAt c f (l % 128)))) (Misplaced (d .alpha))) ≡ h
+      → Stray c d l h
+  unfolding isMisplaced holderOf
+  phi-by h two true true hi hz q k = no q
+  phi-by h two true false hi hz q k =
+      let r = misplaced-entry ds d f (entryAt c f (l % 128)) h q k in
+      subst (Stray c d l) (r .1) (named-table two hi (eqb-false f 0 hz) (r .0))
+  phi-by h two false z hi hz q k = subst (Stray c d l) k (phi two hi)
+
+  stray-by : (h : ℕ) → (eqb (d .layout) 1 || eqb (d .layout) 2) ≡ true → (t : Bool) → eqb (d .layout) 1 ≡ t
+      → isMisplaced (foundThrough c d l) ≡ true → holderOf (foundThrough c d l) ≡ h → Stray c d l h
+  unfolding find tableOf
+  stray-by h form true e q k =
+      let r = misplaced-entry ds d o (entryAt c o (l % 128)) h (rw e at q) (rw e at k) in
+      subst (Stray c d l) (r .1) (own-table (eqb-true (d .layout) 1 e) (r .0))
+  stray-by h form false e q k = phi-by h (layout-two form e) (inPlace ds d f) (eqb f 0) refl refl (rw e at q) (rw e at k)
+
+  found-stray : (h : ℕ) → Stray c d l h → (isMisplaced (foundThrough c d l) ≡ true) × (holderOf (foundThrough c d l) ≡ h)
+  unfolding find tableOf isMisplaced holderOf
+  found-stray h (phi two e) = rw (ne-eqb (d .layout) 1 (omega (arith, two)), e) (refl, refl)
+  found-stray h (named-table two e set p) = rw (ne-eqb (d .layout) 1 (omega (arith, two)), e, ne-eqb f 0 set) (entry-misplaced ds d f (entryAt c f (l % 128)) 0 p)
+  found-stray h (own-table one p) = rw (eq-eqb (d .layout) 1 one) (entry-misplaced ds d o (entryAt c o (l % 128)) 0 p)
+
+-- the descriptor that a call goes through has layout 1 or 2
+target-layout : (c : List ℕ) → chainSound (chain c) ≡ true → (target : Target) (name : List ℕ) → (isSnapshot target && not (named (snapshotsOf (descriptorsOf c)) name)) ≡ false
+    → (eqb (targetOf (descriptorsOf c) target name .layout) 1 || eqb (targetOf (descriptorsOf c) target name .layout) 2) ≡ true
+target-layout c ok target name h =
+    let linked = chain-linked c (descriptorsOf c) (chain-is (chain c) ok) in
+    let m = target-member (descriptorsOf c) (linked-some linked) target name h in
+    subst (λ (d : Descriptor). (eqb (d .layout) 1 || eqb (d .layout) 2) ≡ true) (sym (m .2)) (form-layout c _ _ (linked-at linked (m .0) (m .1) .form))
+
+-- the rows before 10
+clear-read : (a s n b u t v : Bool)
+    → (not a && (not (s && not n) && (not (not b) && (not (not u) && (not (s && not t) && (not v && true)))))) ≡ ((((not a && (not s || n) && b) && u) && (not s || t)) && not v)
+clear-read true s n b u t v = refl
+clear-read false true true true true true true = refl
+clear-read false true true true true true false = refl
+clear-read false true true true true false v = refl
+clear-read false true true true false t v = refl
+clear-read false true true false u t v = refl
+clear-read false true false b u t v = refl
+clear-read false false n true true t true = refl
+clear-read false false n true true t false = refl
+clear-read false false n true false t v = refl
+clear-read false false n false u t v = refl
+
+clear-write : (a b u v : Bool) → (not a && (not (not b) && (not (not u) && (not v && true)))) ≡ (((not a && b) && u) && not v)
+clear-write true b u v = refl
+clear-write false false u v = refl
+clear-write false true false v = refl
+clear-write false true true true = refl
+clear-write false true true false = refl
+
+given-name : (s t : Bool) → (not s || t) ≡ true → (s && not t) ≡ false
+given-name true true h = refl
+given-name true false h = no h
+given-name false t h = refl
+
+and-both : (a b : Bool) → a ≡ true → b ≡ true → (a && b) ≡ true
+and-both a b h k = rw (h, k)
+
+not-false-of : (v : Bool) → v ≡ false → not v ≡ true
+not-false-of v e = rw e
+
+module _ (c : List ℕ) (l : ℕ) (block : List ℕ) (h : ℕ) where
+  abbrev all : List Descriptor
+  all = descriptorsOf c
+
+  abbrev sounds : Bool
+  sounds = chainSound (chain c)
+
+  abbrev beyond : Bool
+  beyond = leb (activeOf all .volume) l
+
+  -- a read
+  module _ (target : Target) (name : List ℕ) where
+    abbrev comes : Bool
+    comes = comesToChain (Read target name l block) c
+
+    abbrev there : Bool
+    there = not (isSnapshot target) || named (snapshotsOf all) name
+
+    abbrev above : List Row
+    above = areaRow c ∷ row (isSnapshot target && not (isName name)) 4 0 ∷ blockRow block ∷ chainRow c ∷ row (isSnapshot target && not (named (snapshotsOf all) name)) 7 0 ∷ volumeRow c l ∷ []
+
+    above-clear : clear above ≡ (((comes && sounds) && there) && not beyond)
+    unfolding clear comesToChain
+    above-clear = clear-read (areaBad c) (isSnapshot target) (isName name) (eqb (length block) 512) sounds (named (snapshotsOf all) name) beyond
+
+    abbrev ReadStray : Type 0
+    ReadStray = (comes ≡ true) × (sounds ≡ true) × (there ≡ true) × (l < activeOf all .volume) × Stray c (targetOf all target name) l h
+
+    read-stray : answerOf (Read target name l block) c ≡ answer 10 h → ReadStray
+    unfolding answerOf rowsOf readRows fresh
+    read-stray e =
+        let found = foundThrough c (targetOf all target name) l in
+        let r = row-given above [] (isMisplaced found) 10 (holderOf found) h refl refl (λ z. omega arith) e in
+        let w = sym above-clear ∙ r .0 in
+        let three = and-left ((comes && sounds) && there) (not beyond) w in
+        let two = and-left (comes && sounds) there three in
+        let ok = and-right comes sounds two in
+        let here-name = and-right (comes && sounds) there three in
+        let form = target-layout c ok target name (given-name (isSnapshot target) (named (snapshotsOf all) name) here-name) in (
+          and-left comes sounds two,
+          ok,
+          here-name,
+          leb-false (activeOf all .volume) l (not-true beyond (and-right ((comes && sounds) && there) (not beyond) w)),
+          stray-by c (targetOf all target name) l h form (eqb (targetOf all target name .layout) 1) refl (r .1) (r .2),
+        )
+
+    stray-read : ReadStray → answerOf (Read target name l block) c ≡ answer 10 h
+    unfolding answerOf rowsOf readRows
+    stray-read s =
+        let found = foundThrough c (targetOf all target name) l in
+        let r = found-stray c (targetOf all target name) l h (s .4) in
+        let v = not-false-of beyond (lt-leb (activeOf all .volume) l (s .3)) in
+        let w = and-both ((comes && sounds) && there) (not beyond) (and-both (comes && sounds) there (and-both comes sounds (s .0) (s .1)) (s .2)) v in
+        row-gives above [] (isMisplaced found) 10 (holderOf found) h (above-clear ∙ w) (r .0) (r .1)
+
+  -- a write
+  abbrev reaches : Bool
+  reaches = comesToChain (Write l block) c
+
+  abbrev before : List Row
+  before = areaRow c ∷ blockRow block ∷ chainRow c ∷ volumeRow c l ∷ []
+
+  before-clear : clear before ≡ ((reaches && sounds) && not beyond)
+  unfolding clear comesToChain
+  before-clear = clear-write (areaBad c) (eqb (length block) 512) sounds beyond
+
+  abbrev WriteStray : Type 0
+  WriteStray = (reaches ≡ true) × (sounds ≡ true) × (l < activeOf all .volume) × Stray c (activeOf all) l h
+
+  write-stray : answerOf (Write l block) c ≡ answer 10 h → WriteStray
+  unfolding answerOf rowsOf writeRows fresh targetOf
+  write-stray e =
+      let found = foundThrough c (activeOf all) l in
+      let r = row-given before _ (isMisplaced found) 10 (holderOf found) h refl refl (λ z. omega arith) e in
+      let w = sym before-clear ∙ r .0 in
+      let two = and-left (reaches && sounds) (not beyond) w in
+      let ok = and-right reaches sounds two in
+      let form = target-layout c ok Active [] refl in (
+        and-left reaches sounds two,
+        ok,
+        leb-false (activeOf all .volume) l (not-true beyond (and-right (reaches && sounds) (not beyond) w)),
+        stray-by c (activeOf all) l h form (eqb (activeOf all .layout) 1) refl (r .1) (r .2),
+      )
+
+  stray-write : WriteStray → answerOf (Write l block) c ≡ answer 10 h
+  unfolding answerOf rowsOf writeRows
+  stray-write s =
+      let found = foundThrough c (activeOf all) l in
+      let r = found-stray c (activeOf all) l h (s .3) in
+      let v = not-false-of beyond (lt-leb (activeOf all .volume) l (s .2)) in
+      let w = and-both (reaches && sounds) (not beyond) (and-both reaches sounds (s .0) (s .1)) v in
+      row-gives before _ (isMisplaced found) 10 (holderOf found) h (before-clear ∙ w) (r .0) (r .1)
+
+pub place-claim : PlaceClaim
+unfolding PlaceClaim
+place-claim c =
+    record {
+      read = λ target name l block h. (read-stray c l block h target name, stray-read c l block h target name);
+      write = λ l block h. (write-stray c l block h, stray-write c l block h);
+    }
