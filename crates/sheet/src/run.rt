@@ -50,8 +50,8 @@ fn run_ream(
 {
     let end = 512 * (size as usize);
     let answer = ream::ream(&mut area[..end], layout, volume, name);
-    let number = answer.number;
-    if number != 0 {
+    let refusal = answer.number;
+    if refusal != 0 {
         return Ran {
             answer,
             blocks,
