@@ -1,0 +1,72 @@
+//! Drives the library through its C boundary beside the own store and compares, after each
+//! call, the answer, the whole card and all lent memory.
+
+#[path = "drive/boundary.rs"]
+mod boundary;
+mod call;
+#[path = "drive/calls.rs"]
+mod calls;
+#[path = "drive/hurt.rs"]
+mod hurt;
+#[path = "drive/lent.rs"]
+mod lent;
+#[path = "drive/lists.rs"]
+mod lists;
+#[path = "drive/names.rs"]
+mod names;
+#[path = "drive/pair.rs"]
+mod pair;
+mod rng;
+mod store;
+#[path = "drive/table.rs"]
+mod table;
+#[path = "drive/twice.rs"]
+mod twice;
+
+use std::process::ExitCode;
+use table::Table;
+
+const USAGE: &str = "\
+drive calls SEED COUNT       random lists of calls
+drive damaged SEED COUNT     random calls on damaged cards
+drive rollback SEED COUNT    each accepted revert beside the shorter list
+drive names SEED COUNT       lists of texts made into names
+";
+
+/// One list: it counts its answers in the table, or says what differed.
+type List = fn(u64, &mut Table) -> Result<(), String>;
+
+/// Runs the lists of `count` seeds.
+fn run(list: List, expected: table::Expected, seed: u64, count: u64) -> ExitCode {
+    let mut table = Table::default();
+    let mut failed = 0;
+    for k in 0..count {
+        let this = seed.wrapping_add(k);
+        if let Err(reason) = list(this, &mut table) {
+            failed += 1;
+            println!("failed: seed {this}: {reason}");
+        }
+    }
+    table.print(expected);
+    println!("{} passed, {failed} failed", count - failed);
+    ExitCode::from(u8::from(failed > 0))
+}
+
+fn main() -> ExitCode {
+    let words: Vec<String> = std::env::args().skip(1).collect();
+    if let [command, seed, count] = &words[..] {
+        let chosen: Option<(List, table::Expected)> = match command.as_str() {
+            "calls" => Some((calls::one, table::CALLS)),
+            "damaged" => Some((hurt::one, table::DAMAGED)),
+            "rollback" => Some((twice::one, table::ROLLBACK)),
+            "names" => Some((names::one, table::NAMES)),
+            _ => None,
+        };
+        if let (Some((list, expected)), Ok(seed), Ok(count)) = (chosen, seed.parse(), count.parse())
+        {
+            return run(list, expected, seed, count);
+        }
+    }
+    eprint!("{USAGE}");
+    ExitCode::from(2)
+}

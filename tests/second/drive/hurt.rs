@@ -1,0 +1,280 @@
+//! Random calls on damaged cards.
+
+use crate::boundary::{by_own, Ask};
+use crate::lent::{noise, Lent};
+use crate::lists::{random_shape, random_volume, unformatted, Maker, Shape, MANY_SNAPS};
+use crate::pair::Pair;
+use crate::rng::Rng;
+use crate::store::{self, Record, BLOCK, MOST_DESCRIPTORS, MOST_VOLUME};
+use crate::table::Table;
+
+const NOTHING: Record = Record {
+    name: [0; 16],
+    alpha: 0,
+    beta: 0,
+    next: 0,
+};
+
+/// The list of a seed: a card in use, damage, calls, more damage, more calls.
+pub fn one(seed: u64, table: &mut Table) -> Result<(), String> {
+    let mut rng = Rng::new(seed);
+    let wide = rng.once_in(250);
+    let shape = match wide {
+        true => wide_shape(&mut rng),
+        false => random_shape(&mut rng, false).0,
+    };
+    let sizes = (shape.layout, shape.volume, shape.blocks);
+    let length = shape.length;
+    let mut card = unformatted(&mut rng, shape.blocks);
+    let mut maker = Maker::new(rng, shape);
+    in_use(&mut maker, &mut card, length);
+
+    let rounds = if wide { 2 } else { maker.rng.between(1, 5) };
+    for round in 0..rounds {
+        let mut hurt = card.clone();
+        let (names, hot) = (maker.names.clone(), maker.hot.clone());
+        for _ in 0..maker.rng.between(1, 3) {
+            damage(&mut maker, &mut hurt);
+        }
+        if maker.rng.once_in(15) {
+            let most = hurt.len() as u64;
+            let length = match maker.rng.below(2) {
+                0 => maker.rng.below(most / 512) * 512,
+                _ => maker.rng.below(most),
+            };
+            hurt.truncate(length as usize);
+        }
+        let mut pair = Pair::new(Lent::new(&mut maker.rng, &hurt, 1_100));
+        for k in 0..maker.rng.between(7, 20) {
+            let area = maker.area_length(&pair.own);
+            // Reams last: they make the card good again.
+            let kind = match k {
+                0 => 6,
+                18.. => 0,
+                _ => *maker.rng.pick(&[1, 1, 1, 2, 2, 2, 3, 4, 5, 6, 6]),
+            };
+            let ask = maker.make(kind, pair.own.part());
+            let (answer, _) = pair.call(area, &ask, table).map_err(|reason| {
+                format!(
+                    "layout, volume, blocks {sizes:?}: round {round}, call {k}, {} on {area} bytes: {reason}",
+                    ask.words()
+                )
+            })?;
+            maker.after(&ask, answer.0);
+        }
+        // The next round takes the good card again.
+        maker.names = names;
+        maker.hot = hot;
+        maker.shape.layout = sizes.0;
+        maker.shape.volume = sizes.1;
+    }
+    Ok(())
+}
+
+/// A card of many thousands of blocks.
+fn wide_shape(rng: &mut Rng) -> Shape {
+    Shape {
+        layout: rng.between(1, 2) as u32,
+        volume: random_volume(rng, MOST_VOLUME),
+        blocks: *rng.pick(&[65_536, 65_535, 40_000, 20_000]),
+        length: rng.between(300, 1_500),
+        snap_weight: *rng.pick(&[20, 200, MANY_SNAPS]),
+    }
+}
+
+/// Formats the card and uses it by the own store.
+fn in_use(maker: &mut Maker, card: &mut [u8], length: u64) {
+    let mut ask = maker.first_ream();
+    by_own(card, &mut ask);
+    maker.after(&ask, 0);
+    maker.steady = true;
+    for _ in 0..length {
+        let mut ask = maker.next(card);
+        if matches!(ask, Ask::Check | Ask::Read { .. } | Ask::List { .. }) {
+            continue;
+        }
+        let answer = by_own(card, &mut ask);
+        maker.after(&ask, answer.0);
+    }
+    maker.steady = false;
+}
+
+fn number_at(card: &[u8], at: usize) -> u32 {
+    u32::from_le_bytes([card[at], card[at + 1], card[at + 2], card[at + 3]])
+}
+
+fn put(card: &mut [u8], at: usize, value: u32) {
+    card[at..at + 4].copy_from_slice(&value.to_le_bytes());
+}
+
+/// Has a logical block used about every third time.
+fn use_often(hot: &mut Vec<u32>, logical: u32) {
+    for _ in 0..hot.len() / 2 + 1 {
+        hot.push(logical);
+    }
+}
+
+/// Changes the card in one place, and has logical blocks near it used.
+fn damage(maker: &mut Maker, card: &mut [u8]) {
+    let blocks = (card.len() / BLOCK) as u64;
+    let (layout, volume) = (maker.shape.layout, maker.shape.volume);
+    let mut records = [NOTHING; MOST_DESCRIPTORS];
+    let (_, count) = store::list(card, &mut records);
+    let records = &records[..count.max(1)];
+    let rng = &mut maker.rng;
+    // The last and the first descriptors more often.
+    let descriptor = match rng.below(4) {
+        0 => records[0],
+        1 => *rng.pick(records),
+        _ => records[records.len() - 1],
+    };
+    let start = descriptor.alpha as usize * BLOCK;
+    let tables = volume.div_ceil(128);
+    let i = match rng.below(3) {
+        0 => rng.below(u64::from(tables)) as u32,
+        _ => *rng.pick(&maker.hot) / 128,
+    };
+    let value = any_entry(rng, card, records, &descriptor, blocks);
+    match rng.below(26) {
+        0 => {
+            let byte = rng.below(64) as usize;
+            card[start + byte] ^= 1 << rng.below(8);
+        }
+        1 => {
+            let field = *rng.pick(&[4, 8, 12, 16, 16, 20, 20]);
+            put(card, start + field, value);
+        }
+        7..=9 if layout == 2 => {
+            let i = match rng.below(4) {
+                0 => rng.below(112) as u32,
+                1 => tables % 112,
+                _ => i % 112,
+            };
+            put(card, start + 64 + 4 * i as usize, value);
+            let j = rng.below(128) as u32;
+            let logical = match rng.below(2) {
+                0 => *rng.pick(&maker.hot),
+                _ => (i * 128 + j) % volume,
+            };
+            use_often(&mut maker.hot, logical);
+        }
+        2..=14 => {
+            let table = match layout {
+                1 => descriptor.alpha as u32 + 1 + i,
+                _ => number_at(card, start + 64 + 4 * (i as usize % 112)),
+            };
+            let j = match rng.below(4) {
+                0 => rng.below(128) as u32,
+                1 => (volume % 128 + rng.below(3) as u32) % 128,
+                _ => *rng.pick(&maker.hot) % 128,
+            };
+            if table != 0 && u64::from(table) < blocks {
+                put(card, table as usize * BLOCK + 4 * j as usize, value);
+                use_often(&mut maker.hot, (i * 128 + j) % volume);
+            }
+        }
+        15 => {
+            let block = rng.below(blocks) as usize * BLOCK;
+            card[block..block + BLOCK].copy_from_slice(&noise(rng, BLOCK));
+        }
+        16 => {
+            let from = match rng.below(2) {
+                0 => start,
+                _ => rng.below(blocks) as usize * BLOCK,
+            };
+            let to = rng.below(blocks) as usize * BLOCK;
+            card.copy_within(from..from + BLOCK, to);
+        }
+        17 => {
+            let at = rng.below(card.len() as u64) as usize;
+            card[at] ^= rng.between(1, 255) as u8;
+        }
+        18 => {
+            let other = rng.pick(records).name;
+            card[start + 24..start + 40].copy_from_slice(&other);
+        }
+        19 => {
+            let at = start + 24 + rng.below(16) as usize;
+            card[at] = *rng.pick(b"\0\0a-A/{");
+        }
+        20 | 21 => {
+            // Beta greater, with old blocks now below it.
+            let active = records[records.len() - 1];
+            let beta = rng.between(active.beta.min(blocks), blocks) as u32;
+            put(card, active.alpha as usize * BLOCK + 16, beta);
+        }
+        22 | 23 => {
+            // A spare block below a greater beta, named once: by an entry near L or near n.
+            let active = records[records.len() - 1];
+            let from = active.alpha as usize * BLOCK;
+            let last = tables - 1;
+            let table = match layout {
+                1 => active.alpha as u32 + 1 + last,
+                _ => number_at(card, from + 64 + 4 * last as usize),
+            };
+            if count > 0 && active.beta < blocks {
+                put(card, from + 16, active.beta as u32 + 1);
+                let j = (volume + 127 + rng.below(3) as u32) % 128;
+                let past = (tables as usize + 111 + rng.below(3) as usize) % 112;
+                let at = match layout == 2 && rng.once_in(3) {
+                    true => from + 64 + 4 * past,
+                    false => table as usize % blocks as usize * BLOCK + 4 * j as usize,
+                };
+                if at >= BLOCK || at >= 64 && layout == 2 {
+                    put(card, at, active.beta as u32);
+                }
+            }
+        }
+        _ => {
+            // One descriptor more after the last: good but for what is damaged beside it,
+            // and where it is the 257th.
+            let active = records[records.len() - 1];
+            let cost = store::opening_cost(u64::from(layout), u64::from(volume));
+            if count > 0 && active.beta + cost <= blocks {
+                let from = active.alpha as usize * BLOCK;
+                let to = active.beta as usize * BLOCK;
+                card.copy_within(from..from + cost as usize * BLOCK, to);
+                put(card, from + 20, active.beta as u32);
+                put(card, to + 12, active.beta as u32);
+                put(card, to + 16, (active.beta + cost) as u32);
+                let name = crate::lists::random_name(rng);
+                card[to + 24..to + 40].copy_from_slice(&name);
+            }
+        }
+    }
+}
+
+/// A number that may stand where an entry or a field stands.
+fn any_entry(
+    rng: &mut Rng,
+    card: &[u8],
+    records: &[Record],
+    descriptor: &Record,
+    blocks: u64,
+) -> u32 {
+    let blocks = blocks as u32;
+    let other = *rng.pick(records);
+    let near = match rng.below(10) {
+        0 => descriptor.alpha as u32,
+        1 => descriptor.beta as u32,
+        2 => other.alpha as u32,
+        3 => other.beta as u32,
+        4 => *rng.pick(&[0, blocks, 65_536, 1 << 31, u32::MAX]),
+        5 | 6 => {
+            // A number that stands in some block of the region, or in the descriptor.
+            let low = descriptor.alpha;
+            let high = descriptor
+                .beta
+                .clamp(low + 1, u64::from(blocks).max(low + 1));
+            let block = low + rng.below((high - low).min(6));
+            number_at(card, block as usize * BLOCK + 4 * rng.below(128) as usize)
+        }
+        7 | 8 => rng.below(descriptor.beta.max(1)) as u32,
+        _ => return rng.below(u64::from(blocks) + 2) as u32,
+    };
+    match rng.below(6) {
+        0 => near.wrapping_add(1),
+        1 => near.wrapping_sub(1),
+        _ => near,
+    }
+}

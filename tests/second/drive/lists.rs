@@ -1,0 +1,484 @@
+//! A maker of random calls. It follows the names that stand on the card by the answers.
+
+use crate::boundary::{Ask, RECORD};
+use crate::lent::{noise, Lent};
+use crate::rng::Rng;
+use crate::store::{self, opening_cost, Logical, Name, BLOCK};
+
+/// The weight of snaps in a list that is to meet 13.
+pub const MANY_SNAPS: u64 = 4_000;
+
+const LETTERS: &[u8] = b"abcdefghijklmnopqrstuvwxyz0123456789.-";
+
+/// The sizes of a card and of its list.
+pub struct Shape {
+    pub layout: u32,
+    pub volume: u32,
+    pub blocks: usize,
+    /// How many calls the list has.
+    pub length: u64,
+    pub snap_weight: u64,
+}
+
+pub struct Maker {
+    pub rng: Rng,
+    pub shape: Shape,
+    /// Logical blocks that are used again and again.
+    pub hot: Vec<u32>,
+    /// The names of the snapshots, in order.
+    pub names: Vec<Name>,
+    active: Name,
+    pool: Vec<Name>,
+    /// Whether the area is always lent whole and no ream is accepted.
+    pub steady: bool,
+    full: bool,
+}
+
+/// A random name.
+pub fn random_name(rng: &mut Rng) -> Name {
+    let length = match rng.below(4) {
+        0 => 16,
+        1 => 1,
+        _ => rng.between(1, 16),
+    };
+    let mut name = [0; 16];
+    for byte in &mut name[..length as usize] {
+        *byte = *rng.pick(LETTERS);
+    }
+    name
+}
+
+/// A random volume; `most` is at least 1.
+pub fn random_volume(rng: &mut Rng, most: u64) -> u32 {
+    let volume = match rng.below(5) {
+        0 => rng.between(1, 20),
+        1 => *rng.pick(&[1, 127, 128, 129, 255, 256, 257, 384]),
+        2 => rng.between(1, most),
+        3 if rng.once_in(4) => most - rng.below(2).min(most - 1),
+        _ => rng.between(1, 700),
+    };
+    volume.min(most) as u32
+}
+
+/// The greatest volume of a card.
+pub fn most_volume(layout: u64, blocks: u64) -> u64 {
+    match layout {
+        1 => store::MOST_VOLUME.min(128 * (blocks - 1)),
+        _ => store::MOST_VOLUME,
+    }
+}
+
+/// What a card may hold before it is formatted.
+pub fn unformatted(rng: &mut Rng, blocks: usize) -> Vec<u8> {
+    let length = blocks * BLOCK;
+    match rng.below(4) {
+        0 => vec![0; length],
+        1 => vec![0xff; length],
+        2 => noise(rng, length),
+        _ => {
+            // A card that was in use before.
+            let mut card = vec![0; length];
+            store::ream(&mut card, rng.between(1, 2), 300, b"old");
+            for k in 0..blocks.min(300) {
+                let logical = Logical(rng.below(300));
+                store::write(&mut card, logical, &[k as u8; BLOCK]);
+                if rng.once_in(6) {
+                    store::snap(&mut card, format!("v{k}").as_bytes());
+                }
+            }
+            card
+        }
+    }
+}
+
+impl Maker {
+    pub fn new(mut rng: Rng, shape: Shape) -> Maker {
+        let names = match shape.snap_weight {
+            MANY_SNAPS => 500,
+            _ => rng.between(2, 30),
+        };
+        let pool = (0..names).map(|_| random_name(&mut rng)).collect();
+        let mut hot = Vec::new();
+        for _ in 0..rng.between(2, 40) {
+            let near = *rng.pick(&[8, 130, 14_336]);
+            hot.push(rng.below(near.min(u64::from(shape.volume))) as u32);
+        }
+        Maker {
+            active: random_name(&mut rng),
+            rng,
+            shape,
+            hot,
+            names: Vec::new(),
+            pool,
+            steady: false,
+            full: false,
+        }
+    }
+
+    /// The format that the list begins with.
+    pub fn first_ream(&mut self) -> Ask {
+        let (layout, volume) = (self.shape.layout, self.shape.volume);
+        self.pool.retain(|name| *name != self.active);
+        let name = self.active;
+        Ask::Ream {
+            layout,
+            volume,
+            name: self.lent(&name),
+        }
+    }
+
+    /// Takes note of an answer.
+    pub fn after(&mut self, ask: &Ask, number: u32) {
+        let named = |name: &Lent| Name::try_from(name.part()).unwrap_or([0; 16]);
+        match ask {
+            Ask::Write { .. } => self.full = number == 11,
+            Ask::Snap { name } => {
+                self.full = number == 11;
+                if number == 0 {
+                    self.names.push(named(name));
+                }
+            }
+            Ask::Revert { name } if number == 0 => {
+                self.full = false;
+                let name = named(name);
+                if let Some(k) = self.names.iter().position(|other| *other == name) {
+                    self.names.truncate(k);
+                }
+            }
+            Ask::Ream {
+                layout,
+                volume,
+                name,
+            } if number == 0 => {
+                self.full = false;
+                self.names.clear();
+                self.active = named(name);
+                self.shape.layout = *layout;
+                self.shape.volume = *volume;
+            }
+            _ => {}
+        }
+    }
+
+    fn lent(&mut self, bytes: &[u8]) -> Lent {
+        Lent::new(&mut self.rng, bytes, 40)
+    }
+
+    /// The length of the area that is lent: mostly the whole card.
+    pub fn area_length(&mut self, card: &Lent) -> usize {
+        let whole = card.length();
+        let often = if whole > 2_000 * BLOCK { 6 } else { 25 };
+        if self.steady || !self.rng.once_in(often) {
+            return whole;
+        }
+        let rng = &mut self.rng;
+        let length = match rng.below(8) {
+            0 => *rng.pick(&[0, 1, 511, 512, 513, 1_023, 1_024]),
+            1 => whole.saturating_sub(*rng.pick(&[1, 511, 512])),
+            2 => whole + *rng.pick(&[1, 511, 512, 513]),
+            3 => rng.below(whole as u64 + 1) as usize,
+            4 => card.most(),
+            5 => BLOCK * (whole / BLOCK + 1),
+            _ => BLOCK * rng.below((whole / BLOCK) as u64 + 1) as usize,
+        };
+        length.min(card.most())
+    }
+
+    /// A random call, most often one that is accepted. Some written bytes are taken from
+    /// the card.
+    pub fn next(&mut self, card: &[u8]) -> Ask {
+        if self.full && !self.names.is_empty() && self.rng.once_in(3) {
+            return self.make(4, card);
+        }
+        // With 255 snapshots the rest of the card is filled as well.
+        let snap = match self.names.len() {
+            store::MOST_SNAPSHOTS => 800,
+            _ => self.shape.snap_weight,
+        };
+        let kind = match self.rng.below(1_000 + snap) {
+            0..=449 => 2,
+            450..=729 => 1,
+            730..=799 => 5,
+            800..=839 => 6,
+            840..=859 => 0,
+            860..=869 => 4,
+            870..=899 if self.shape.snap_weight < MANY_SNAPS => 4,
+            _ => 3,
+        };
+        self.make(kind, card)
+    }
+
+    /// A call of a kind, by its row in the table.
+    pub fn make(&mut self, kind: usize, card: &[u8]) -> Ask {
+        match kind {
+            0 => self.ream(),
+            1 => {
+                let snapshot = match self.rng.below(8) {
+                    0..=3 => 0,
+                    4 => *self.rng.pick(&[2, 256, 65_536, 1 << 31, u32::MAX]),
+                    _ => 1,
+                };
+                let length = self.block_length();
+                let before = noise(&mut self.rng, length);
+                Ask::Read {
+                    snapshot,
+                    name: self.old_name(),
+                    block: self.logical(),
+                    out: self.lent(&before),
+                }
+            }
+            2 => {
+                let content = self.content(card);
+                Ask::Write {
+                    block: self.logical(),
+                    bytes: self.lent(&content),
+                }
+            }
+            3 => Ask::Snap {
+                name: self.fresh_name(),
+            },
+            4 => Ask::Revert {
+                name: self.old_name(),
+            },
+            5 => {
+                let length = self.list_length();
+                let before = noise(&mut self.rng, length);
+                Ask::List {
+                    records: self.lent(&before),
+                }
+            }
+            _ => Ask::Check,
+        }
+    }
+
+    fn logical(&mut self) -> u32 {
+        let volume = self.shape.volume;
+        match self.rng.below(30) {
+            0 => volume,
+            1 => *self
+                .rng
+                .pick(&[65_535, 65_536, 14_336, volume + 1, 1 << 31, u32::MAX]),
+            2..=4 => self.rng.below(u64::from(volume)) as u32,
+            5 => volume - 1,
+            _ => *self.rng.pick(&self.hot),
+        }
+    }
+
+    fn block_length(&mut self) -> usize {
+        match self.rng.below(40) {
+            0 => *self.rng.pick(&[0, 1, 100, 511, 513, 1_024]),
+            _ => BLOCK,
+        }
+    }
+
+    /// What is written: also bytes that would do harm if they were taken for entries.
+    fn content(&mut self, card: &[u8]) -> Vec<u8> {
+        let length = self.block_length();
+        match self.rng.below(5) {
+            0 => vec![self.rng.below(256) as u8; length],
+            1 => vec![0; length],
+            2 if length == BLOCK && card.len() >= BLOCK => {
+                let blocks = (card.len() / BLOCK) as u64;
+                let near = *self.rng.pick(&[1, 8, blocks]);
+                let from = self.rng.below(near.min(blocks)) as usize * BLOCK;
+                card[from..from + BLOCK].to_vec()
+            }
+            3 => {
+                let mut bytes = Vec::new();
+                while bytes.len() < length {
+                    let entry = self.rng.below(self.shape.blocks as u64) as u32;
+                    bytes.extend_from_slice(&entry.to_le_bytes());
+                }
+                bytes.truncate(length);
+                bytes
+            }
+            _ => noise(&mut self.rng, length),
+        }
+    }
+
+    fn list_length(&mut self) -> usize {
+        let chain = self.names.len() + 1;
+        let rest = self.rng.below(RECORD as u64) as usize;
+        match self.rng.below(8) {
+            0 => chain * RECORD,
+            1 => chain * RECORD - 1,
+            2 => chain * RECORD + rest,
+            3 => (chain - 1) * RECORD + rest,
+            4 => self.rng.below(chain as u64 + 3) as usize * RECORD + rest,
+            5 => *self.rng.pick(&[0, 1, 27, 28, 29]),
+            6 => 256 * RECORD,
+            _ => 256 * RECORD + rest + *self.rng.pick(&[0, 1, 30]) * RECORD,
+        }
+    }
+
+    /// A ream, mostly one that is refused.
+    fn ream(&mut self) -> Ask {
+        let (mut layout, mut volume) = (self.shape.layout, self.shape.volume);
+        let rng = &mut self.rng;
+        let blocks = self.shape.blocks as u64;
+        let mut name = random_name(rng);
+        let mut bad_name = false;
+        match rng.below(5) {
+            0 => layout = *rng.pick(&[0, 3, 258, 65_537, u32::MAX]),
+            1 => volume = *rng.pick(&[0, 14_337, 65_537, 1 << 31, u32::MAX]),
+            2 if 128 * blocks <= store::MOST_VOLUME => {
+                layout = 1;
+                volume = (128 * (blocks - 1) + 1 + rng.below(128)) as u32;
+            }
+            3 if !self.steady => {
+                layout = rng.between(1, 2) as u32;
+                let most = most_volume(u64::from(layout), blocks);
+                volume = random_volume(rng, most);
+                if rng.once_in(4) {
+                    name = *rng.pick(&self.pool);
+                }
+            }
+            _ => bad_name = true,
+        }
+        // Several refusals at once.
+        if rng.once_in(8) {
+            layout = 0;
+            volume = 0;
+            bad_name = true;
+        }
+        let name = match bad_name {
+            true => self.no_name(),
+            false => self.lent(&name),
+        };
+        Ask::Ream {
+            layout,
+            volume,
+            name,
+        }
+    }
+
+    /// A buffer that is no name.
+    fn no_name(&mut self) -> Lent {
+        let good = match self.names.is_empty() {
+            true => self.active,
+            false => *self.rng.pick(&self.names),
+        };
+        let mut bytes = good.to_vec();
+        let rng = &mut self.rng;
+        match rng.below(7) {
+            0 => bytes.resize(*rng.pick(&[0, 1, 15, 17, 32]), 0),
+            1 => bytes = vec![0; 16],
+            2 => bytes[0] = *rng.pick(b"\0AZ`{/:,_ \x80\xff"),
+            3 => {
+                let at = rng.below(16) as usize;
+                bytes[at] = *rng.pick(b"AZ`{/:,_ \x80\xff");
+            }
+            4 => {
+                // A zero byte and then a byte of names.
+                bytes[14] = 0;
+                bytes[15] = b'a';
+            }
+            5 => bytes.truncate(15),
+            _ => bytes.push(0),
+        }
+        self.lent(&bytes)
+    }
+
+    /// Mostly the name of a snapshot.
+    fn old_name(&mut self) -> Lent {
+        let count = self.names.len() as u64;
+        let name = match self.rng.below(30) {
+            0 => self.active,
+            1 | 2 => return self.no_name(),
+            3 => *self.rng.pick(&self.pool),
+            _ if count == 0 => *self.rng.pick(&self.pool),
+            // Late ones more often, so that reverts do not empty the card each time.
+            _ if self.rng.once_in(2) => {
+                let near = self.rng.below(count.min(3)) as usize;
+                self.names[self.names.len() - 1 - near]
+            }
+            _ => *self.rng.pick(&self.names),
+        };
+        self.lent(&name)
+    }
+
+    /// Mostly a name that is not in use.
+    fn fresh_name(&mut self) -> Lent {
+        let name = match self.rng.below(30) {
+            0 => self.active,
+            1 | 2 => return self.no_name(),
+            3 if !self.names.is_empty() => *self.rng.pick(&self.names),
+            4 => *self.rng.pick(&self.pool),
+            _ => {
+                let used = |name: &Name| *name == self.active || self.names.contains(name);
+                let start = self.rng.below(self.pool.len() as u64) as usize;
+                let mut turn = self.pool[start..].iter().chain(&self.pool[..start]);
+                match turn.find(|name| !used(name)) {
+                    Some(name) => *name,
+                    None => random_name(&mut self.rng),
+                }
+            }
+        };
+        self.lent(&name)
+    }
+}
+
+/// The sizes of a list for `calls` and `rollback`; `large` says whether large cards come.
+pub fn random_shape(rng: &mut Rng, large: bool) -> (Shape, bool) {
+    let kind = rng.below(400);
+    let mut layout = rng.between(1, 2);
+    let mut snap_weight = rng.between(20, 200);
+    let mut length = match rng.below(4) {
+        0 => rng.between(5, 60),
+        _ => rng.between(60, 240),
+    };
+    let blocks;
+    let volume;
+    let mut big = false;
+    match kind {
+        0..=3 if large => {
+            big = true;
+            blocks = match kind {
+                0 | 1 => 65_536,
+                _ => rng.between(2_000, 65_536),
+            };
+            volume = match rng.below(3) {
+                0 => store::MOST_VOLUME as u32,
+                _ => random_volume(rng, store::MOST_VOLUME),
+            };
+            length = rng.between(20, 60);
+        }
+        4..=23 => {
+            // Many snapshots; in layout 1 with one table.
+            if rng.once_in(2) {
+                layout = 2;
+            }
+            snap_weight = MANY_SNAPS;
+            length = rng.between(360, 480);
+            let spare = *rng.pick(&[40, 100, 250]);
+            blocks = 256 * opening_cost(layout, 1) + rng.between(0, spare);
+            volume = match layout {
+                1 => rng.between(1, 128) as u32,
+                _ => random_volume(rng, store::MOST_VOLUME),
+            };
+        }
+        24..=43 => {
+            // The card is as large as its opening, or a little larger.
+            volume = random_volume(rng, store::MOST_VOLUME);
+            let cost = opening_cost(layout, u64::from(volume));
+            blocks = (cost + rng.below(5)).max(2);
+        }
+        _ => {
+            blocks = match kind {
+                44..=47 => rng.between(600, 8_000),
+                48..=144 => rng.between(2, 12),
+                145..=245 => rng.between(2, 60),
+                _ => rng.between(2, 600),
+            };
+            volume = random_volume(rng, most_volume(layout, blocks));
+        }
+    }
+    let shape = Shape {
+        layout: layout as u32,
+        volume,
+        blocks: blocks as usize,
+        length,
+        snap_weight,
+    };
+    (shape, big)
+}
