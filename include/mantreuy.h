@@ -19,7 +19,8 @@
  *     or sets a global variable, or calls back.
  *   - While a call runs nobody else may change its buffers, nor read those that
  *     it may change: one caller at a time for each card.
- *   - STACK-FIGURE
+ *   - A check uses at most 69 KB of stack, any other call at most 4 KB
+ *     (measured on x86-64).
  *
  * SIZES
  *

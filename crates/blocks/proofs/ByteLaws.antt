@@ -9,8 +9,8 @@ use native.Mathlib.Nat.{add-assoc, zero-add, add-zero, div-div-eq-div-mul, div-a
 use mathlib.Core.Bool.{Bool, true, false}
 use lib.Dec.{ltb}
 use borrow.Author.Tests.{ltb-true, ltb-false}
-use lib.ListN.{length, take, drop, getD, set, length-append, length-take, length-drop, List·getD-append}
-use lib.Seq.{take-length, drop-length, paste, paste-zero, paste-suc, take-at, getD-take, getD-drop, getD-append-add, ext-getD, drop-drop, drop-append-add}
+use lib.ListN.{length, take, drop, getD, set, length-append, length-take, length-drop, List·getD-append, take-append-drop, replicate, length-replicate, getD-replicate}
+use lib.Seq.{take-length, drop-length, paste, paste-zero, paste-suc, take-at, getD-take, getD-drop, getD-append-add, ext-getD, drop-drop, take-append-add, drop-append-add, take-append-le, drop-append-le, length-take-le}
 use Rattle.blocks.specs.Bytes.{u32At, le32, splice, part, blockAt, storeBlock}
 
 -- area after the first n elements of s were copied in from index at. Shut, so that `_` and `rw` find its arguments
@@ -194,6 +194,44 @@ pub put-next : (c : List ℕ) {c′ c″ : List ℕ} (at : ℕ) (x : List ℕ) (
     → c″ ≡ splice c at (x ++ y)
 put-next c at x b y p q e h = rw (q, p) (splice-join c at x b y e h)
 
+-- a put past a head is a put into the rest, and one inside a head leaves the rest
+pub splice-past : (x y : List ℕ) (n k : ℕ) (z : List ℕ) → length x ≡ n → splice (x ++ y) (n + k) z ≡ x ++ splice y k z
+unfolding splice
+splice-past x y n k z e =
+    rw (← e, add-assoc (length x) k (length z), take-append-add x y k, drop-append-add x y (k + length z), append-assoc x (take k y) z) (append-assoc x (take k y ++ z) (drop (k + length z) y))
+
+splice-front : (x y : List ℕ) (k : ℕ) (z : List ℕ) → k + length z ≤ length x → splice (x ++ y) k z ≡ splice x k z ++ y
+unfolding splice
+splice-front x y k z h =
+    rw (take-append-le k x y (omega arith), drop-append-le (k + length z) x y h) (sym (append-assoc (take k x ++ z) (drop (k + length z) x) y))
+
+splice-parts : (c : List ℕ) (at : ℕ) (b : List ℕ) (n : ℕ) → length b ≡ n → splice c at b ≡ take at c ++ (b ++ drop (at + n) c)
+unfolding splice
+splice-parts c at b n e = rw (← e) (append-assoc (take at c) b (drop (at + length b) c))
+
+-- a put inside what was put in
+pub splice-over : (c : List ℕ) (at : ℕ) (b : List ℕ) (k : ℕ) (x : List ℕ) → at + length b ≤ length c → k + length x ≤ length b → splice (splice c at b) (at + k) x ≡ splice c at (splice b k x)
+splice-over c at b k x h l =
+    ap (λ (y : List ℕ). splice y (at + k) x) (splice-parts c at b (length b) refl)
+    ∙ splice-past (take at c) (b ++ drop (at + length b) c) at k x (take-is c at b h)
+    ∙ ap (λ (y : List ℕ). take at c ++ y) (splice-front b (drop (at + length b) c) k x l)
+    ∙ sym (splice-parts c at (splice b k x) (length b) (length-splice b k x l))
+
+-- a part put where it stands
+pub splice-self : (c : List ℕ) (at n : ℕ) → at + n ≤ length c → splice c at (part c at n) ≡ c
+splice-self c at n h =
+    splice-parts c at (part c at n) n (length-part c at n h)
+    ∙ ap (λ (y : List ℕ). take at c ++ (part c at n ++ y)) (sym (drop-drop n at c))
+    ∙ ap (λ (y : List ℕ). take at c ++ y) (take-append-drop n (drop at c))
+    ∙ take-append-drop at c
+
+-- what is put into a part that is lent, from at to e, seen in the whole
+pub part-put : (c : List ℕ) (at e : ℕ) (y x : List ℕ) → at + length x ≡ e → e ≤ length c → y ≡ splice (part c at (e - at)) 0 x → take at c ++ (y ++ drop (e - at) (drop at c)) ≡ splice c at x
+part-put c at e y x l h q =
+    let n : e - at ≡ length x = omega arith in
+    let w : y ≡ x = q ∙ splice-whole (part c at (e - at)) x (sym (length-part c at (e - at) (omega arith) ∙ n)) in
+    rw (w, n, drop-drop (length x) at c) (sym (splice-parts c at x (length x) refl))
+
 -- blocks: the length of a block of the card, and what a store of a block changes
 pub length-blockAt : (c : List ℕ) (p : ℕ) → 512 * p + 512 ≤ length c → length (blockAt c p) ≡ 512
 unfolding blockAt
@@ -223,3 +261,58 @@ module _ (c : List ℕ) (p : ℕ) (b : List ℕ) (whole : length b ≡ 512) (ins
       outside : (i : ℕ) → (q ≡ p → ⊥) → 512 * q ≤ i → i < 512 * q + 512 → (t : Bool) → ltb i (512 * p) ≡ t → (i < 512 * p) ⊎ (512 * p + length b ≤ i)
       outside i n l m true e = inl (ltb-true i (512 * p) e)
       outside i n l m false e = inr (omega (arith, ltb-false i (512 * p) e, n))
+
+-- a put inside a block is a store of that block
+pub put-block : (c : List ℕ) (p k : ℕ) (x : List ℕ) → 512 * p + 512 ≤ length c → k + length x ≤ 512 → splice c (512 * p + k) x ≡ storeBlock c p (splice (blockAt c p) k x)
+unfolding storeBlock blockAt
+put-block c p k x h l =
+    let n = length-part c (512 * p) 512 h in
+    ap (λ (y : List ℕ). splice y (512 * p + k) x) (sym (splice-self c (512 * p) 512 h)) ∙ splice-over c (512 * p) (part c (512 * p) 512) k x (rw n h) (rw n l)
+
+-- the same where the block was stored before
+pub put-stored : (c : List ℕ) (p : ℕ) (b : List ℕ) (k : ℕ) (x : List ℕ) → length b ≡ 512 → 512 * p + 512 ≤ length c → k + length x ≤ 512 → splice (storeBlock c p b) (512 * p + k) x ≡ storeBlock c p (splice b k x)
+unfolding storeBlock
+put-stored c p b k x n h l = splice-over c (512 * p) b k x (rw n h) (rw n l)
+
+-- of two stores of a block the second stays
+pub store-over : (c : List ℕ) (p : ℕ) (x y : List ℕ) → length x ≡ 512 → length y ≡ 512 → 512 * p + 512 ≤ length c → storeBlock (storeBlock c p x) p y ≡ storeBlock c p y
+unfolding storeBlock
+store-over c p x y n m h =
+    ap (λ (at : ℕ). splice (splice c (512 * p) x) at y) (sym (add-zero (512 * p)))
+    ∙ splice-over c (512 * p) x 0 y (rw n h) (omega arith)
+    ∙ ap (splice c (512 * p)) (splice-whole x y (m ∙ sym n))
+
+-- a copy of block p to block q, byte by byte: the byte that comes next is as it was
+copied-splice : (d : List ℕ) (at : ℕ) (s : List ℕ) (n : ℕ) → n ≤ length s → copied d at s n ≡ splice d at (take n s)
+unfolding copied splice
+copied-splice d at s n h = rw (length-take-le n s h)
+
+copied-other : (d : List ℕ) (at : ℕ) (s : List ℕ) (n i : ℕ) → n ≤ length s → at + n ≤ length d → (i < at) ⊎ (at + n ≤ i) → getD (copied d at s n) i 0 ≡ getD d i 0
+copied-other d at s n i h l o =
+    let long = length-take-le n s h in
+    ap (λ (y : List ℕ). getD y i 0) (copied-splice d at s n h) ∙ splice-other d at (take n s) (rw long l) i (rw long o)
+
+pub block-copied-more : (c x : List ℕ) (p q i : ℕ) → 512 * p + 512 ≤ length c → 512 * q + 512 ≤ length c → i < 512 → x ≡ copied c (512 * q) (part c (512 * p) 512) i
+    → set x (512 * q + i) (getD x (512 * p + i) 0) ≡ copied c (512 * q) (part c (512 * p) 512) (i + 1)
+block-copied-more c x p q i hp hq hi e =
+    ap (set x (512 * q + i)) byte ∙ ap (λ (y : List ℕ). set y (512 * q + i) (getD (part c (512 * p) 512) i 0)) e ∙ copied-more c (512 * q) (part c (512 * p) 512) i (omega arith) (rw long hi)
+  where
+    long : length (part c (512 * p) 512) ≡ 512
+    long = length-part c (512 * p) 512 hp
+
+    apart : (t : Bool) → ltb (512 * p + i) (512 * q) ≡ t → (512 * p + i < 512 * q) ⊎ (512 * q + i ≤ 512 * p + i)
+    apart true h = inl (ltb-true (512 * p + i) (512 * q) h)
+    apart false h = inr (omega (arith, ltb-false (512 * p + i) (512 * q) h))
+
+    byte : getD x (512 * p + i) 0 ≡ getD (part c (512 * p) 512) i 0
+    byte =
+        ap (λ (y : List ℕ). getD y (512 * p + i) 0) e
+        ∙ copied-other c (512 * q) (part c (512 * p) 512) i (512 * p + i) (omega (arith, long)) (omega arith) (apart (ltb (512 * p + i) (512 * q)) refl)
+        ∙ sym (part-at c (512 * p) 512 i hi)
+
+-- zeros copied, one by one
+pub cleared-more : (c x : List ℕ) (at n i : ℕ) → at + n ≤ length c → i < n → x ≡ copied c at (replicate n 0) i → set x (at + i) 0 ≡ copied c at (replicate n 0) (i + 1)
+cleared-more c x at n i h l e =
+    ap (λ (y : List ℕ). set y (at + i) 0) e
+    ∙ ap (set (copied c at (replicate n 0) i) (at + i)) (sym (getD-replicate n i 0 0 l))
+    ∙ copied-more c at (replicate n 0) i (omega arith) (rw (length-replicate {A = ℕ} n 0) l)

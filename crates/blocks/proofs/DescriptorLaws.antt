@@ -4,6 +4,7 @@ use mathlib.Core.Bool.{Bool, true, false}
 use mathlib.Core.List.{List, _++_}
 use Prim.Native.Nat.{ℕ, _+_, _*_, _≤_, _<_, _^_}
 use native.Mathlib.Omega.{arith}
+use native.Mathlib.Nat.{add-zero}
 use lib.ListN.{length, drop, length-append, length-drop}
 use lib.Seq.{take-all}
 use Rattle.blocks.specs.Pick.{same}
@@ -11,7 +12,7 @@ use Rattle.blocks.specs.Bytes.{u32At, u64At, le32, splice, part, blockAt
 use Rattle.blocks.specs.Descriptor.{mark, descriptorAt, headBytes, tailAt, descriptorBlock}
 use Rattle.blocks.specs.declared.descriptor.Descriptor.{Descriptor}
 use Rattle.blocks.proofs.ListLaws.{same-equal}
-use Rattle.blocks.proofs.ByteLaws.{put-next, u32-part, u32-within, part-within, digits, splice-start, length-part, part-part, store-length, store-other}
+use Rattle.blocks.proofs.ByteLaws.{put-next, u32-part, u32-within, part-within, digits, splice-start, length-part, part-part, store-length, store-same, store-other, store-over, put-block, length-blockAt}
 
 -- the fields, put one after the other from the start of a block
 pub head-put : (c₀ c₁ c₂ c₃ c₄ c₅ c₆ c₇ : List ℕ) (d : Descriptor) → 40 ≤ length c₀ → length (d .name) ≡ 16
@@ -112,13 +113,39 @@ unfolding descriptorBlock
 block-length c p d b h n e = ap length e ∙ length-append (headBytes d) (tailAt c p) ∙ omega (arith, n, length-part c (512 * p + 40) 472 (omega arith))
 
 -- bytes 40 to 511 of a block, and what a store of another block leaves of them
-tail-block : (c : List ℕ) (p : ℕ) → 512 * p + 512 ≤ length c → part (blockAt c p) 40 472 ≡ tailAt c p
+pub tail-block : (c : List ℕ) (p : ℕ) → 512 * p + 512 ≤ length c → part (blockAt c p) 40 472 ≡ tailAt c p
 unfolding blockAt
 tail-block c p h = part-part c (512 * p) 512 40 472 (omega arith) h
 
 pub store-tail : (c : List ℕ) (q : ℕ) (b : List ℕ) (p : ℕ) → length b ≡ 512 → 512 * q + 512 ≤ length c → 512 * p + 512 ≤ length c → (p ≡ q → ⊥) → tailAt (storeBlock c q b) p ≡ tailAt c p
 store-tail c q b p whole inside h n =
     sym (tail-block (storeBlock c q b) p (rw (store-length c q b whole inside) h)) ∙ ap (λ (x : List ℕ). part x 40 472) (store-other c q b whole inside p n) ∙ tail-block c p h
+
+-- a descriptor put into its place is a store of its block
+pub descriptor-put : (c x : List ℕ) (p : ℕ) (d : Descriptor) → 512 * p + 512 ≤ length c → length (headBytes d) ≡ 40 → x ≡ splice c (512 * p) (headBytes d) → x ≡ storeBlock c p (descriptorBlock d (tailAt c p))
+descriptor-put c x p d h n e =
+    e
+    ∙ ap (λ (at : ℕ). splice c at (headBytes d)) (sym (add-zero (512 * p)))
+    ∙ put-block c p 0 (headBytes d) h (omega arith)
+    ∙ ap (storeBlock c p) (block-made c p (blockAt c p) (splice (blockAt c p) 0 (headBytes d)) d h n refl refl)
+
+-- the same after a copy of block q
+pub descriptor-moved : (c c₁ c₂ : List ℕ) (q p : ℕ) (d : Descriptor) → 512 * q + 512 ≤ length c → 512 * p + 512 ≤ length c → length (headBytes d) ≡ 40
+    → c₁ ≡ storeBlock c p (blockAt c q) → c₂ ≡ storeBlock c₁ p (descriptorBlock d (tailAt c₁ p)) → c₂ ≡ storeBlock c p (descriptorBlock d (tailAt c q))
+descriptor-moved c c₁ c₂ q p d hq hp n e f =
+    f
+    ∙ ap (λ (t : List ℕ). storeBlock c₁ p (descriptorBlock d t)) tail
+    ∙ ap (λ (y : List ℕ). storeBlock y p (descriptorBlock d (tailAt c q))) e
+    ∙ store-over c p (blockAt c q) (descriptorBlock d (tailAt c q)) long (block-length c q d (descriptorBlock d (tailAt c q)) hq n refl) hp
+  where
+    long : length (blockAt c q) ≡ 512
+    long = length-blockAt c q hq
+
+    tail : tailAt c₁ p ≡ tailAt c q
+    tail =
+        sym (tail-block c₁ p (rw (e, store-length c p (blockAt c q) long hp) hp))
+        ∙ ap (λ (y : List ℕ). part y 40 472) (ap (λ (y : List ℕ). blockAt y p) e ∙ store-same c p (blockAt c q) long hp)
+        ∙ tail-block c q hq
 
 -- sixteen bytes that differ from a name in a 64-bit word are not that name
 pub words-apart : (c name : List ℕ) (p place k x y : ℕ) → place ≡ 512 * p + 24 + k → k + 8 ≤ 16 → x ≡ u64At c place → y ≡ u64At name k → (x ≡ y → ⊥) → false ≡ same (descriptorAt c p .name) name

@@ -1,5 +1,5 @@
 -- Laws of `same`, `allZero` and `nameLength` with i of the elements passed, as a loop over a slice asks them.
-use mathlib.Core.Path.{_≡_, refl, ap, _∙_}
+use mathlib.Core.Path.{_≡_, refl, sym, ap, _∙_}
 use mathlib.Core.Bool.{Bool, true, false, _&&_}
 use mathlib.Core.List.{List, [], _∷_}
 use Prim.Native.Nat.{ℕ, _+_, _≤_, _<_}
@@ -79,6 +79,15 @@ module _ (a : List ℕ) where
   unfolding allZero zeroFrom
   zero-end i h = rw (drop-of-length-le a h)
 
+  -- with a test carried along: all before are zero, and what is left decides
+  pub zero-next : (i : ℕ) (z r : Bool) → i < length a → r ≡ (z && eqb (getD a i 0) 0) → allZero a ≡ (z && zeroFrom a i) → allZero a ≡ (r && zeroFrom a (i + 1))
+  zero-next i true r h e q = q ∙ zero-step i h ∙ rw e
+  zero-next i false r h e q = q ∙ rw e
+
+  pub zero-last : (i : ℕ) (z : Bool) → length a ≤ i → allZero a ≡ (z && zeroFrom a i) → z ≡ allZero a
+  zero-last i true h q = sym (q ∙ zero-end i h)
+  zero-last i false h q = sym q
+
 -- i elements passed, all of them such as a name may have
 unfoldable pub nameFrom : List ℕ → ℕ → ℕ
 nameFrom a i = i + nameLength (drop i a)
@@ -99,3 +108,12 @@ module _ (a : List ℕ) where
   pub name-end : (i : ℕ) → length a ≤ i → nameFrom a i ≡ i
   unfolding nameLength nameFrom
   name-end i h = rw (drop-of-length-le a h) (omega arith)
+
+-- one more byte
+pub zero-not : (z : Bool) (b : ℕ) → (b ≡ 0 → ⊥) → false ≡ (z && eqb b 0)
+zero-not true b h = rw (ne-eqb b 0 h)
+zero-not false b h = refl
+
+pub zero-still : (z : Bool) (b : ℕ) → b ≡ 0 → z ≡ (z && eqb b 0)
+zero-still true b h = rw (eq-eqb b 0 h)
+zero-still false b h = refl

@@ -1,10 +1,12 @@
 // Bytes, 32-bit numbers and whole blocks of a lent area.
 use crate::numbers::Physical;
 ghost use mathlib.Core.Path.{_≡_};
+ghost use mathlib.Core.Bool.{_&&_};
 ghost use Prim.Native.Nat.{_+_, _*_, _≤_, _<_};
 ghost use lib.ListN.{length};
+ghost use lib.Dec.{eqb};
 ghost use Rattle.blocks.specs.Pick.{same, allZero};
-ghost use Rattle.blocks.specs.Bytes.{u32At, u64At, le32, splice, part, blockAt, storeBlock};
+ghost use Rattle.blocks.specs.Bytes.{u32At, u64At, le32, splice, part, blockAt, zeroBlock, storeBlock};
 
 fn wide(x: u8) -> u32
     ensures { λ r. ⌜ r ≡ x ⌝ }
@@ -68,22 +70,39 @@ pub fn get_bytes(area: &[u8], at: usize, out: &mut [u8])
     put_bytes(out, 0, &area[at..at + out.len()]);
 }
 
-// The bytes of block `p`.
-pub fn load_block(card: &[u8], p: Physical) -> [u8; 512]
-    requires { ⌜ 512 * p .0 + 512 ≤ length (now card) ⌝ }
-    ensures { λ r. ⌜ r ≡ blockAt (now (card .entry)) (p .0) ⌝ }
-{
-    let mut b = [0u8; 512];
-    get_bytes(card, 512 * (p.0 as usize), &mut b);
-    b
-}
-
 // Block `p` is now `block`.
 pub fn store_block(card: &mut [u8], p: Physical, block: &[u8])
     requires { ⌜ (length (now block) ≡ 512) × (512 * p .0 + 512 ≤ length (now card)) ⌝ }
     ensures { λ _. ⌜ now (card .exit) ≡ storeBlock (now (card .entry)) (p .0) (now (block .entry)) ⌝ }
 {
     put_bytes(card, 512 * (p.0 as usize), block);
+}
+
+// Block `to` is now a copy of block `from`.
+pub fn copy_block(card: &mut [u8], from: Physical, to: Physical)
+    requires { ⌜ (512 * from .0 + 512 ≤ length (now card)) × (512 * «to» .0 + 512 ≤ length (now card)) ⌝ }
+    ensures { λ _. ⌜ now (card .exit) ≡ storeBlock (now (card .entry)) («to» .0) (blockAt (now (card .entry)) (from .0)) ⌝ }
+{
+    let a = 512 * (from.0 as usize);
+    let b = 512 * (to.0 as usize);
+    let mut i = 0;
+    while i < 512 {
+        card[b + i] = card[a + i];
+        i += 1;
+    }
+}
+
+// Block `p` is now zeros.
+pub fn clear_block(card: &mut [u8], p: Physical)
+    requires { ⌜ 512 * p .0 + 512 ≤ length (now card) ⌝ }
+    ensures { λ _. ⌜ now (card .exit) ≡ storeBlock (now (card .entry)) (p .0) zeroBlock ⌝ }
+{
+    let b = 512 * (p.0 as usize);
+    let mut i = 0;
+    while i < 512 {
+        card[b + i] = 0;
+        i += 1;
+    }
 }
 
 // Whether two lists of bytes are the same.
@@ -103,16 +122,25 @@ pub fn same_bytes(a: &[u8], b: &[u8]) -> bool
     true
 }
 
-// Whether all bytes are zero.
+// Whether all bytes so far were zero and this one is.
+fn still_zero(zero: bool, b: u8) -> bool
+    ensures { λ r. ⌜ r ≡ (zero && eqb b 0) ⌝ }
+{
+    if b != 0 {
+        return false;
+    }
+    zero
+}
+
+// Whether all bytes are zero. It looks at every byte, so that the compiler can take many at a time.
 pub fn all_zero(a: &[u8]) -> bool
     ensures { λ r. ⌜ r ≡ allZero (now (a .entry)) ⌝ }
 {
+    let mut zero = true;
     let mut i = 0;
     while i < a.len() {
-        if a[i] != 0 {
-            return false;
-        }
+        zero = still_zero(zero, a[i]);
         i += 1;
     }
-    true
+    zero
 }

@@ -122,15 +122,15 @@ pub fn put_head(block: &mut [u8], d: Descriptor)
     put_name(block, 24, name);
 }
 
-// The whole block of a descriptor, with bytes 40 to 511 as they stand in block `from`.
-pub fn descriptor_block(card: &[u8], from: Physical, d: Descriptor) -> [u8; 512]
-    requires { ⌜ 512 * from .0 + 512 ≤ length (now card) ⌝ }
-    ensures { λ r. ⌜ r ≡ descriptorBlock d (tailAt (now (card .entry)) (from .0)) ⌝ }
+// The first 40 bytes of block `p` are now the mark and the descriptor.
+pub fn put_descriptor(card: &mut [u8], p: Physical, d: Descriptor)
+    requires { ⌜ 512 * p .0 + 512 ≤ length (now card) ⌝ }
+    ensures { λ _. ⌜ now (card .exit) ≡ storeBlock (now (card .entry)) (p .0) (descriptorBlock d (tailAt (now (card .entry)) (p .0))) ⌝ }
     ensures { λ _. ⌜ length (headBytes d) ≡ 40 ⌝ }
 {
-    let mut b = bytes::load_block(card, from);
-    put_head(&mut b, d);
-    b
+    let at = 512 * (p.0 as usize);
+    let end = at + 40;
+    put_head(&mut card[at..end], d);
 }
 
 // Block `p` is now the descriptor, with bytes 40 to 511 as they stand in block `from`.
@@ -138,6 +138,10 @@ pub fn store_descriptor(card: &mut [u8], from: Physical, p: Physical, d: Descrip
     requires { ⌜ (512 * from .0 + 512 ≤ length (now card)) × (512 * p .0 + 512 ≤ length (now card)) ⌝ }
     ensures { λ _. ⌜ now (card .exit) ≡ storeBlock (now (card .entry)) (p .0) (descriptorBlock d (tailAt (now (card .entry)) (from .0))) ⌝ }
 {
-    let b = descriptor_block(card, from, d);
-    bytes::store_block(card, p, &b);
+    if from.0 == p.0 {
+        put_descriptor(card, p, d);
+        return;
+    }
+    bytes::copy_block(card, from, p);
+    put_descriptor(card, p, d);
 }

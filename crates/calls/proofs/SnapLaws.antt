@@ -9,13 +9,14 @@ use lib.ListN.{length, take, getD}
 use lib.Dec.{ltb}
 use borrow.Author.Tests.{lt-ltb, le-ltb, le-leb, lt-leb, not-true, not-false}
 use Rattle.blocks.specs.Pick.{pick}
-use Rattle.blocks.specs.Bytes.{Store, store, blockCount, blockAt, storeBlock, storeAll}
+use Rattle.blocks.specs.Bytes.{Store, store, part, blockCount, blockAt, storeBlock, storeAll}
 use Rattle.blocks.specs.Name.{isName}
 use Rattle.blocks.specs.Descriptor.{costOf, descriptorAt, tailAt, descriptorBlock, renamedOf, linkedOf, reopenedOf, copying}
 use Rattle.blocks.specs.Chain.{chain, descriptors, named, descriptorsAt, regionsOf}
 use Rattle.blocks.specs.declared.descriptor.Descriptor.{Descriptor}
 use Rattle.blocks.specs.declared.chain.Regions.{Regions}
 use Rattle.blocks.proofs.ByteLaws.{store-other, store-length, length-blockAt}
+use Rattle.blocks.proofs.DescriptorLaws.{head-length, block-length, tail-block, store-tail}
 use Rattle.calls.specs.Call.{Snap, answer, accepted}
 use Rattle.calls.specs.Parts.{areaBad}
 use Rattle.calls.specs.Ladder.{firstRow, snapRows, rowsOf, answerOf}
@@ -71,18 +72,45 @@ module _ (c : List ℕ) (from to : ℕ) where
   pub copied-all : (n i : ℕ) (x : List ℕ) → x ≡ after i → i ≤ n → n ≤ i → x ≡ after n
   copied-all n i x e h k = let q : i ≡ n = omega arith in rw (← q) e
 
+-- bytes 40 to 511 of a block before them too
+tail-copied : (c : List ℕ) (from to n q : ℕ) → from + n ≤ to → 512 * (to + n) ≤ length c → q < to → 512 * q + 512 ≤ length c → tailAt (storeAll c (copying c from to n)) q ≡ tailAt c q
+tail-copied c from to n q h l m i =
+    sym (tail-block (after c from to n) q (rw (copied-length c from to n h l) i)) ∙ ap (λ (y : List ℕ). part y 40 472) (copied-other c from to n q h l m) ∙ tail-block c q i
+
 -- the copy, the new descriptor, the old one
-pub snapped : (c c₁ c₂ c₃ : List ℕ) (d o r e : Descriptor) (name : List ℕ) (k : ℕ) (opened closed : List ℕ) → k ≡ costOf d → o ≡ reopenedOf d → opened ≡ descriptorBlock o (tailAt c (d .alpha .0))
+snap-stored : (c c₁ c₂ c₃ : List ℕ) (d o r e : Descriptor) (name : List ℕ) (k : ℕ) (opened closed : List ℕ) → k ≡ costOf d → o ≡ reopenedOf d → opened ≡ descriptorBlock o (tailAt c (d .alpha .0))
     → r ≡ renamedOf d name → e ≡ linkedOf r (d .beta) → closed ≡ descriptorBlock e (tailAt c (d .alpha .0))
     → c₁ ≡ storeAll c (copying c (d .alpha .0 + 1) (d .beta .0 + 1) (k - 1)) → c₂ ≡ storeBlock c₁ (d .beta .0) opened → c₃ ≡ storeBlock c₂ (d .alpha .0) closed
     → c₃ ≡ storeAll c (snapping c d name)
 unfolding snapping storeAll
-snapped c c₁ c₂ c₃ d o r e name k opened closed k-is o-is opened-is r-is e-is closed-is p q s =
+snap-stored c c₁ c₂ c₃ d o r e name k opened closed k-is o-is opened-is r-is e-is closed-is p q s =
     s
     ∙ rw (q, p, opened-is, o-is, closed-is, e-is, r-is, k-is)
     (sym
     (stored-append c (copying c (d .alpha .0 + 1) (d .beta .0 + 1) (costOf d - 1))
     (store (d .beta .0) (descriptorBlock (reopenedOf d) (tailAt c (d .alpha .0))) ∷ store (d .alpha .0) (descriptorBlock (linkedOf (renamedOf d name) (d .beta)) (tailAt c (d .alpha .0))) ∷ [])))
+
+-- the same in place: bytes 40 to 511 of the active descriptor are as they were at each store
+module _ (c c₁ : List ℕ) (d : Descriptor) (k : ℕ) (some : 1 ≤ k) (below : d .alpha .0 + k ≤ d .beta .0) (inside : 512 * (d .beta .0 + k) ≤ length c) (copied : c₁ ≡ storeAll c (copying c (d .alpha .0 + 1) (d .beta .0 + 1) (k - 1))) where
+  length-is : length c₁ ≡ length c
+  length-is = ap length copied ∙ copied-length c (d .alpha .0 + 1) (d .beta .0 + 1) (k - 1) (omega arith) (omega arith)
+
+  tail-first : tailAt c₁ (d .alpha .0) ≡ tailAt c (d .alpha .0)
+  tail-first = ap (λ (y : List ℕ). tailAt y (d .alpha .0)) copied ∙ tail-copied c (d .alpha .0 + 1) (d .beta .0 + 1) (k - 1) (d .alpha .0) (omega arith) (omega arith) (omega arith) (omega arith)
+
+  tail-second : (o : Descriptor) → o ≡ reopenedOf d → length (d .name) ≡ 16 → tailAt (storeBlock c₁ (d .beta .0) (descriptorBlock o (tailAt c₁ (d .alpha .0)))) (d .alpha .0) ≡ tailAt c (d .alpha .0)
+  tail-second o o-is n =
+      let b : List ℕ = descriptorBlock o (tailAt c₁ (d .alpha .0)) in
+      let m : length (o .name) ≡ 16 = ap (λ (x : Descriptor). length (x .name)) o-is ∙ n in
+      let l = length-is in
+      let in-alpha : 512 * d .alpha .0 + 512 ≤ length c₁ = omega (arith, l) in
+      store-tail c₁ (d .beta .0) b (d .alpha .0) (block-length c₁ (d .alpha .0) o b in-alpha (head-length o m) refl) (omega (arith, l)) in-alpha (omega arith) ∙ tail-first
+
+  pub snapped : (c₂ c₃ : List ℕ) (o r e : Descriptor) (name : List ℕ) → length (d .name) ≡ 16 → k ≡ costOf d → o ≡ reopenedOf d → r ≡ renamedOf d name → e ≡ linkedOf r (d .beta)
+      → c₂ ≡ storeBlock c₁ (d .beta .0) (descriptorBlock o (tailAt c₁ (d .alpha .0))) → c₃ ≡ storeBlock c₂ (d .alpha .0) (descriptorBlock e (tailAt c₂ (d .alpha .0))) → c₃ ≡ storeAll c (snapping c d name)
+  snapped c₂ c₃ o r e name n k-is o-is r-is e-is q s =
+      snap-stored c c₁ c₂ c₃ d o r e name k (descriptorBlock o (tailAt c₁ (d .alpha .0))) (descriptorBlock e (tailAt c₂ (d .alpha .0))) k-is o-is (ap (descriptorBlock o) tail-first) r-is e-is
+      (ap (descriptorBlock e) (ap (λ (y : List ℕ). tailAt y (d .alpha .0)) q ∙ tail-second o o-is n)) copied q s
 
 -- the rows of a snap, in the order of the code
 module _ (c : List ℕ) (name : List ℕ) (bad : Bool) (area : bad ≡ areaBad c) where

@@ -23,9 +23,9 @@ fn copy_blocks(card: &mut [u8], from: u32, to: u32, n: u32)
 {
     let mut i: u32 = 0;
     while i < n {
-        let b = bytes::load_block(card, Physical(from + i));
-        let p = Physical(to + i);
-        bytes::store_block(card, p, &b);
+        let a = Physical(from + i);
+        let b = Physical(to + i);
+        bytes::copy_block(card, a, b);
         i += 1;
     }
 }
@@ -37,11 +37,11 @@ fn take_snapshot(card: &mut [u8], d: Descriptor, cost: u32, name: [u8; 16])
 {
     let alpha = d.alpha;
     let beta = d.beta;
-    let opened = descriptor::descriptor_block(card, alpha, d.reopened());
-    let closed = descriptor::descriptor_block(card, alpha, d.renamed(name).linked(beta));
+    let opened = d.reopened();
+    let closed = d.renamed(name).linked(beta);
     copy_blocks(card, alpha.0 + 1, beta.0 + 1, cost - 1);
-    bytes::store_block(card, beta, &opened);
-    bytes::store_block(card, alpha, &closed);
+    descriptor::store_descriptor(card, alpha, beta, opened);
+    descriptor::put_descriptor(card, alpha, closed);
 }
 
 // Freezes the active volume under the name.

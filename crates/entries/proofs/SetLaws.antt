@@ -1,23 +1,19 @@
 -- Laws of setting an entry, as the code asks them.
-use mathlib.Core.Path.{_≡_}
-use mathlib.Core.List.{List, _++_, append-assoc}
-use Prim.Native.Nat.{ℕ, _+_, _*_, _/_, _%_}
+use mathlib.Core.Path.{_≡_, refl, sym, ap, _∙_}
+use mathlib.Core.Bool.{Bool, true, false}
+use mathlib.Core.List.{List}
+use Prim.Native.Nat.{ℕ, _+_, _*_, _/_, _%_, _≤_, _<_}
 use native.Mathlib.Omega.{arith}
-use native.Mathlib.Nat.{add-assoc}
-use lib.ListN.{length, take, drop}
+use lib.ListN.{length, length-append, length-replicate}
 use lib.Dec.{eqb}
+use borrow.Author.Tests.{eq-eqb, ne-eqb}
 use Rattle.blocks.specs.Pick.{pick}
-use lib.Seq.{take-append-add, drop-append-add}
 use Rattle.blocks.specs.Bytes.{le32, splice, storeBlock, storeAll, blockAt, zeroBlock}
 use Rattle.blocks.specs.Descriptor.{headBytes, tailAt, descriptorBlock, extendedOf}
 use Rattle.blocks.specs.declared.descriptor.Descriptor.{Descriptor}
+use Rattle.blocks.proofs.ByteLaws.{length-le32, length-splice, length-part, length-blockAt, splice-past, put-block, put-stored, store-same, store-other, store-over}
+use Rattle.blocks.proofs.DescriptorLaws.{block-length, head-length, store-tail}
 use Rattle.entries.specs.Entry.{tableWith, tailWith, setInTable, setInNewTable}
-
--- a put past a head is a put into the rest
-pub splice-past : (x y : List ℕ) (n k : ℕ) (z : List ℕ) → length x ≡ n → splice (x ++ y) (n + k) z ≡ x ++ splice y k z
-unfolding splice
-splice-past x y n k z e =
-    rw (← e, add-assoc (length x) k (length z), take-append-add x y k, drop-append-add x y (k + length z), append-assoc x (take k y) z) (append-assoc x (take k y ++ z) (drop (k + length z) y))
 
 -- an entry of Phi put into a descriptor's block is put into the bytes that travel as they are
 pub phi-put : (tail : List ℕ) (d : Descriptor) (i m : ℕ) (b b′ : List ℕ) → length (headBytes d) ≡ 40 → b ≡ descriptorBlock d tail → b′ ≡ splice b (64 + 4 * i) (le32 m) → b′ ≡ descriptorBlock d (tailWith tail i m)
@@ -26,15 +22,97 @@ phi-put tail d i m b b′ n e f =
     let k : 64 + 4 * i ≡ 40 + (24 + 4 * i) = omega arith in
     rw (f, e, k) (splice-past (headBytes d) tail 40 (24 + 4 * i) (le32 m) n)
 
--- two stores, one after the other
-module _ (c c₁ c₂ : List ℕ) (d e : Descriptor) (m l : ℕ) (head table : List ℕ) where
-  pub table-set : (old : List ℕ) → e ≡ extendedOf d 1 → head ≡ descriptorBlock e (tailAt c (d .alpha .0)) → old ≡ blockAt c m → table ≡ tableWith old (l % 128) (d .beta .0)
-      → c₁ ≡ storeBlock c (d .alpha .0) head → c₂ ≡ storeBlock c₁ m table → c₂ ≡ storeAll c (setInTable c d m l)
-  unfolding storeAll setInTable
-  table-set old a b o t p q = rw (q, p, t, o, b, a)
+-- lengths of what is stored
+table-length : (b : List ℕ) (j q : ℕ) → length b ≡ 512 → j < 128 → length (tableWith b j q) ≡ 512
+unfolding tableWith
+table-length b j q n h = length-splice b (4 * j) (le32 q) (rw (length-le32 q, n) (omega arith)) ∙ n
 
-  pub new-table-set : e ≡ extendedOf d 2 → table ≡ tableWith (pick (eqb m 0) zeroBlock (blockAt c m)) (l % 128) (d .beta .0 + 1)
-      → head ≡ descriptorBlock e (tailWith (tailAt c (d .alpha .0)) (l / 128) (d .beta .0))
-      → c₁ ≡ storeBlock c (d .beta .0) table → c₂ ≡ storeBlock c₁ (d .alpha .0) head → c₂ ≡ storeAll c (setInNewTable c d m l)
-  unfolding storeAll setInNewTable
-  new-table-set a t b p q = rw (q, p, t, b, a)
+phi-length : (c : List ℕ) (p : ℕ) (d : Descriptor) (i m : ℕ) → 512 * p + 512 ≤ length c → length (headBytes d) ≡ 40 → i < 112 → length (descriptorBlock d (tailWith (tailAt c p) i m)) ≡ 512
+unfolding descriptorBlock tailWith
+phi-length c p d i m h n l =
+    let t = length-part c (512 * p + 40) 472 (omega arith) in
+    length-append (headBytes d) (splice (tailAt c p) (24 + 4 * i) (le32 m)) ∙ omega (arith, n, t, length-splice (tailAt c p) (24 + 4 * i) (le32 m) (rw (length-le32 m, t) (omega arith)))
+
+old-length : (c : List ℕ) (m : ℕ) → 512 * m + 512 ≤ length c → length (pick (eqb m 0) zeroBlock (blockAt c m)) ≡ 512
+old-length c m h = by (eqb m 0)
+  where
+    by : (t : Bool) → length (pick t zeroBlock (blockAt c m)) ≡ 512
+    by true = length-replicate {A = ℕ} 512 0
+    by false = length-blockAt c m h
+
+-- an entry put into its table block
+pub entry-put : (c x : List ℕ) (m j q : ℕ) → 512 * m + 512 ≤ length c → j < 128 → x ≡ splice c (512 * m + 4 * j) (le32 q) → x ≡ storeBlock c m (tableWith (blockAt c m) j q)
+unfolding tableWith
+entry-put c x m j q h l e = e ∙ put-block c m (4 * j) (le32 q) h (rw (length-le32 q) (omega arith))
+
+-- the same in a block that was stored before
+module _ (c c₁ c₂ : List ℕ) (p j q : ℕ) (inside : 512 * p + 512 ≤ length c) (h : j < 128) (put : c₂ ≡ storeBlock c₁ p (tableWith (blockAt c₁ p) j q)) where
+  table-put : (b : List ℕ) → length b ≡ 512 → c₁ ≡ storeBlock c p b → c₂ ≡ storeBlock c p (tableWith b j q)
+  table-put b n e =
+      put
+      ∙ ap (λ (t : List ℕ). storeBlock c₁ p (tableWith t j q)) (ap (λ (y : List ℕ). blockAt y p) e ∙ store-same c p b n inside)
+      ∙ ap (λ (y : List ℕ). storeBlock y p (tableWith b j q)) e
+      ∙ store-over c p b (tableWith b j q) n (table-length b j q n h) inside
+
+  pub table-cleared : (m : ℕ) → m ≡ 0 → c₁ ≡ storeBlock c p zeroBlock → c₂ ≡ storeBlock c p (tableWith (pick (eqb m 0) zeroBlock (blockAt c m)) j q)
+  table-cleared m z e = rw (eq-eqb m 0 z) (table-put zeroBlock (length-replicate {A = ℕ} 512 0) e)
+
+  pub table-copied : (m : ℕ) → (m ≡ 0 → ⊥) → 512 * m + 512 ≤ length c → c₁ ≡ storeBlock c p (blockAt c m) → c₂ ≡ storeBlock c p (tableWith (pick (eqb m 0) zeroBlock (blockAt c m)) j q)
+  table-copied m z l e = rw (ne-eqb m 0 z) (table-put (blockAt c m) (length-blockAt c m l) e)
+
+-- an entry of Phi put after its descriptor
+pub phi-put-in : (c c₁ c₂ : List ℕ) (p : ℕ) (d : Descriptor) (i m : ℕ) → 512 * p + 512 ≤ length c → i < 112 → length (headBytes d) ≡ 40
+    → c₁ ≡ storeBlock c p (descriptorBlock d (tailAt c p)) → c₂ ≡ splice c₁ (512 * p + (64 + 4 * i)) (le32 m) → c₂ ≡ storeBlock c p (descriptorBlock d (tailWith (tailAt c p) i m))
+phi-put-in c c₁ c₂ p d i m h l n e f =
+    f
+    ∙ ap (λ (y : List ℕ). splice y (512 * p + (64 + 4 * i)) (le32 m)) e
+    ∙ put-stored c p old (64 + 4 * i) (le32 m) (block-length c p d old h n refl) h (rw (length-le32 m) (omega arith))
+    ∙ ap (storeBlock c p) (phi-put (tailAt c p) d i m old (splice old (64 + 4 * i) (le32 m)) n refl refl)
+  where
+    old : List ℕ
+    old = descriptorBlock d (tailAt c p)
+
+-- two stores, one after the other, of what the card at entry has; of two stores of one block the second stays
+module _ (c c₂ : List ℕ) (d : Descriptor) (m l : ℕ) (in-alpha : 512 * d .alpha .0 + 512 ≤ length c) (in-m : 512 * m + 512 ≤ length c) where
+  pub table-set : (c₁ : List ℕ) (e : Descriptor) → e ≡ extendedOf d 1 → length (headBytes e) ≡ 40 → (m ≡ d .alpha .0 → ⊥) → c₁ ≡ storeBlock c (d .alpha .0) (descriptorBlock e (tailAt c (d .alpha .0)))
+      → c₂ ≡ storeBlock c₁ m (tableWith (blockAt c₁ m) (l % 128) (d .beta .0)) → c₂ ≡ storeAll c (setInTable c d m l)
+  unfolding storeAll setInTable
+  table-set c₁ e a n apart p q =
+      q
+      ∙ ap (λ (t : List ℕ). storeBlock c₁ m (tableWith t (l % 128) (d .beta .0)))
+      (ap (λ (y : List ℕ). blockAt y m) p
+      ∙ store-other c (d .alpha .0) (descriptorBlock e (tailAt c (d .alpha .0))) (block-length c (d .alpha .0) e (descriptorBlock e (tailAt c (d .alpha .0))) in-alpha n refl) in-alpha m apart)
+      ∙ ap (λ (y : List ℕ). storeBlock y m (tableWith (blockAt c m) (l % 128) (d .beta .0))) (p ∙ ap (λ (x : Descriptor). storeBlock c (d .alpha .0) (descriptorBlock x (tailAt c (d .alpha .0)))) a)
+
+  pub table-set-over : length (d .name) ≡ 16 → m ≡ d .alpha .0 → c₂ ≡ storeBlock c m (tableWith (blockAt c m) (l % 128) (d .beta .0)) → c₂ ≡ storeAll c (setInTable c d m l)
+  unfolding storeAll setInTable
+  table-set-over n same q =
+      let t : List ℕ = tableWith (blockAt c m) (l % 128) (d .beta .0) in
+      let h : List ℕ = descriptorBlock (extendedOf d 1) (tailAt c (d .alpha .0)) in
+      q
+      ∙ sym (store-over c m h t (block-length c (d .alpha .0) (extendedOf d 1) h in-alpha (head-length (extendedOf d 1) n) refl) (table-length (blockAt c m) (l % 128) (d .beta .0) (length-blockAt c m in-m) (omega arith)) in-m)
+      ∙ ap (λ (a : ℕ). storeBlock (storeBlock c a h) m t) same
+
+  module _ (in-beta : 512 * d .beta .0 + 512 ≤ length c) (small : l / 128 < 112) (e : Descriptor) (a : e ≡ extendedOf d 2) (n : length (headBytes e) ≡ 40) where
+    abbrev new : List ℕ
+    new = tableWith (pick (eqb m 0) zeroBlock (blockAt c m)) (l % 128) (d .beta .0 + 1)
+
+    new-length : length new ≡ 512
+    new-length = table-length (pick (eqb m 0) zeroBlock (blockAt c m)) (l % 128) (d .beta .0 + 1) (old-length c m in-m) (omega arith)
+
+    pub new-table-set : (c₁ : List ℕ) → (d .alpha .0 ≡ d .beta .0 → ⊥) → c₁ ≡ storeBlock c (d .beta .0) new
+        → c₂ ≡ storeBlock c₁ (d .alpha .0) (descriptorBlock e (tailWith (tailAt c₁ (d .alpha .0)) (l / 128) (d .beta .0))) → c₂ ≡ storeAll c (setInNewTable c d m l)
+    unfolding storeAll setInNewTable
+    new-table-set c₁ apart p q =
+        q
+        ∙ ap (λ (t : List ℕ). storeBlock c₁ (d .alpha .0) (descriptorBlock e (tailWith t (l / 128) (d .beta .0))))
+        (ap (λ (y : List ℕ). tailAt y (d .alpha .0)) p ∙ store-tail c (d .beta .0) new (d .alpha .0) new-length in-beta in-alpha apart)
+        ∙ rw (p, a)
+
+    pub new-table-set-over : d .beta .0 ≡ d .alpha .0 → c₂ ≡ storeBlock c (d .beta .0) (descriptorBlock e (tailWith (tailAt c (d .beta .0)) (l / 128) (d .beta .0))) → c₂ ≡ storeAll c (setInNewTable c d m l)
+    unfolding storeAll setInNewTable
+    new-table-set-over same q =
+        q
+        ∙ sym (store-over c (d .beta .0) new (descriptorBlock e (tailWith (tailAt c (d .beta .0)) (l / 128) (d .beta .0))) new-length (phi-length c (d .beta .0) e (l / 128) (d .beta .0) in-beta n small) in-beta)
+        ∙ ap (λ (b : ℕ). storeBlock (storeBlock c (d .beta .0) new) b (descriptorBlock e (tailWith (tailAt c b) (l / 128) (d .beta .0)))) same
+        ∙ rw a

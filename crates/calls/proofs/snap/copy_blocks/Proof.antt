@@ -3,7 +3,6 @@ use mathlib.Core.Path.{_≡_, refl, _∙_}
 use Prim.Native.Nat.{_≤_, _-_}
 use native.Mathlib.Omega.{arith}
 use lib.ListN.{length}
-use borrow.Author.Needs.{needs}
 use Rattle.blocks.specs.Bytes.{storeAll}
 use Rattle.blocks.specs.Descriptor.{copying}
 use Rattle.calls.proofs.SnapLaws.{copied-none, copied-more, copied-all}
@@ -19,20 +18,14 @@ abbrev μ-loop : tie.MeasureT-loop
 loop-holds : tie.Need-loop-holds Inv-loop μ-loop
 loop-holds c = (omega arith, refl, copied-none _ _ _)
 
-add-t12 : tie.Need-add-t12 Inv-loop μ-loop
-add-t12 c = omega arith
+add-t9 : tie.Need-add-t9 Inv-loop μ-loop
+add-t9 c = omega arith
 
-load-block-requires : tie.Need-load-block-requires Inv-loop μ-loop
-load-block-requires c κs = omega (arith, c .before .before .loop .inv .1)
+add-t9-2 : tie.Need-add-t9-2 Inv-loop μ-loop
+add-t9-2 c = omega arith
 
-add-t12-2 : tie.Need-add-t12-2 Inv-loop μ-loop
-add-t12-2 c = omega arith
-
-slice-aggregate-store-block : tie.Need-slice-aggregate-store-block Inv-loop μ-loop
-slice-aggregate-store-block c = search needs
-
-store-block-requires : tie.Need-store-block-requires Inv-loop μ-loop
-store-block-requires c κs = (search needs, omega (arith, c .before .before .before .before .before .loop .inv .1))
+copy-block-requires : tie.Need-copy-block-requires Inv-loop μ-loop
+copy-block-requires c κs = let l = c .before .before .loop .inv .1 in (omega (arith, l), omega (arith, l))
 
 add-i : tie.Need-add-i Inv-loop μ-loop
 add-i c = omega arith
@@ -43,12 +36,11 @@ loop-less c = omega arith
 loop-again : tie.Need-loop-again Inv-loop μ-loop
 loop-again c =
     let t = c .before .before in
-    let b = t .before .before .before in
-    let l = b .before .before .before in
+    let l = t .before .before .before in
     let s = l .before .before in (
       omega arith,
-      t .store-block .kept .0 ∙ l .loop .inv .1,
-      copied-more _ _ _ _ _ _ _ _ (omega arith) (s .pre .0) (s .pre .1) (l .loop .inv .2) (b .load-block .ensures) (t .store-block .ensures),
+      t .copy-block .kept .0 ∙ l .loop .inv .1,
+      copied-more _ _ _ _ _ _ _ _ (omega arith) (s .pre .0) (s .pre .1) (l .loop .inv .2) refl (t .copy-block .ensures),
     )
 
 same-length : tie.Need-same-length Inv-loop μ-loop
@@ -64,11 +56,9 @@ copy-blocks-spec =
     Inv-loop
     μ-loop
     loop-holds
-    add-t12
-    load-block-requires
-    add-t12-2
-    slice-aggregate-store-block
-    store-block-requires
+    add-t9
+    add-t9-2
+    copy-block-requires
     add-i
     loop-less
     loop-again

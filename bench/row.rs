@@ -1,0 +1,253 @@
+// The rows of the benchmark: a call on a prepared card.
+use crate::baseline;
+use crate::call::{name, Call, Name};
+
+#[derive(Clone, Copy, PartialEq, Eq, Debug)]
+pub enum Kind {
+    Ream,
+    ReadActive,
+    ReadMiddle,
+    Overwrite,
+    WriteOne,
+    WriteTwo,
+    Snap,
+    Revert,
+    List,
+    Check,
+}
+
+// How the card of a row was made.
+#[derive(Clone, Copy, PartialEq, Eq, Debug)]
+pub struct Setting {
+    pub layout: u32,
+    pub volume: u32,
+    pub snapshots: usize,
+    pub content: Content,
+}
+
+#[derive(Clone, Copy, PartialEq, Eq, Debug)]
+pub enum Content {
+    // all but the last block written, then four more writes in each region
+    Usual,
+    // the same without the writes in the last region
+    Bare,
+    // 65,536 blocks, all of the volume written, and the free blocks shared out among the regions
+    Fullest,
+}
+
+#[derive(Clone, Copy, PartialEq, Eq, Debug)]
+pub struct Row {
+    pub kind: Kind,
+    pub setting: Setting,
+}
+
+const KINDS: [Kind; 10] = [
+    Kind::Ream,
+    Kind::ReadActive,
+    Kind::ReadMiddle,
+    Kind::Overwrite,
+    Kind::WriteOne,
+    Kind::WriteTwo,
+    Kind::Snap,
+    Kind::Revert,
+    Kind::List,
+    Kind::Check,
+];
+
+// All rows, those with the same card beside one another.
+pub fn rows() -> Vec<Row> {
+    let mut rows = Vec::new();
+    for layout in [1, 2] {
+        for volume in [128, 14336] {
+            for snapshots in [0, 1, 16, 254, 255] {
+                for content in [Content::Usual, Content::Bare] {
+                    let setting = Setting {
+                        layout,
+                        volume,
+                        snapshots,
+                        content,
+                    };
+                    rows.extend(
+                        KINDS
+                            .iter()
+                            .map(|&kind| Row { kind, setting })
+                            .filter(is_row),
+                    );
+                }
+            }
+        }
+        let setting = Setting {
+            layout,
+            volume: 14336,
+            snapshots: 255,
+            content: Content::Fullest,
+        };
+        rows.push(Row {
+            kind: Kind::Check,
+            setting,
+        });
+    }
+    rows
+}
+
+// 254 snapshots are for the snap that takes the last one; a format does not look at the card.
+fn is_row(row: &Row) -> bool {
+    let s = row.setting;
+    let fits = match row.kind {
+        Kind::Ream => s.snapshots == 0,
+        Kind::ReadMiddle | Kind::Revert => s.snapshots > 0,
+        Kind::WriteTwo => s.layout == 2,
+        Kind::Snap => s.snapshots != 255,
+        _ => true,
+    };
+    fits && (s.content == Content::Bare) == (row.kind == Kind::WriteTwo)
+        && (s.snapshots == 254) == (row.kind == Kind::Snap && s.snapshots == 254)
+}
+
+impl Row {
+    pub fn call(&self) -> Call {
+        let s = self.setting;
+        let middle = visit(s.snapshots / 2);
+        let last = s.volume - 1;
+        match self.kind {
+            Kind::Ream => Call::Ream {
+                layout: s.layout,
+                volume: s.volume,
+                name: name("fs"),
+            },
+            Kind::ReadActive => Call::Read {
+                snapshot: None,
+                block: s.volume / 2,
+            },
+            Kind::ReadMiddle => Call::Read {
+                snapshot: Some(middle),
+                block: s.volume / 2,
+            },
+            Kind::Overwrite => Call::Write {
+                block: s.volume / 2,
+            },
+            Kind::WriteOne => Call::Write {
+                block: if s.snapshots == 0 { last } else { 1 },
+            },
+            Kind::WriteTwo => Call::Write { block: 1 },
+            Kind::Snap => Call::Snap {
+                name: name("visit-next"),
+            },
+            Kind::Revert => Call::Revert { name: middle },
+            Kind::List => Call::List,
+            Kind::Check => Call::Check,
+        }
+    }
+
+    pub fn title(&self) -> String {
+        let text = match self.kind {
+            Kind::Ream => "ream",
+            Kind::ReadActive => "read, active",
+            Kind::ReadMiddle => "read, middle snapshot",
+            Kind::Overwrite => "write, overwriting",
+            Kind::WriteOne => "write, 1 new block",
+            Kind::WriteTwo => "write, 2 new blocks",
+            Kind::Snap => "snap",
+            Kind::Revert => "revert",
+            Kind::List => "list",
+            Kind::Check if self.setting.content == Content::Fullest => "check, fullest card",
+            Kind::Check => "check",
+        };
+        text.to_string()
+    }
+
+    // The cells of a table that name the row.
+    pub fn cells(&self) -> String {
+        let s = self.setting;
+        format!(
+            "{} | {} | {} | {}",
+            self.title(),
+            s.layout,
+            s.volume,
+            s.snapshots
+        )
+    }
+
+    // Whether the call does the same on the card that it leaves.
+    pub fn repeats(&self) -> bool {
+        !matches!(
+            self.kind,
+            Kind::WriteOne | Kind::WriteTwo | Kind::Snap | Kind::Revert
+        )
+    }
+
+    // The bytes of whole blocks that a read or a write moves at least.
+    pub fn moved(&self) -> Option<usize> {
+        match self.kind {
+            Kind::ReadActive | Kind::ReadMiddle | Kind::Overwrite | Kind::WriteOne => Some(512),
+            Kind::WriteTwo => Some(1024),
+            _ => None,
+        }
+    }
+}
+
+// The name of snapshot k.
+fn visit(k: usize) -> Name {
+    name(&format!("visit-{k:03}"))
+}
+
+// The first block after the last region.
+fn beta(card: &[u8]) -> usize {
+    let field = |p: usize, at: usize| {
+        u32::from_le_bytes(card[512 * p + at..512 * p + at + 4].try_into().unwrap()) as usize
+    };
+    let mut p = 0;
+    while field(p, 20) != 0 {
+        p = field(p, 20);
+    }
+    field(p, 16)
+}
+
+// The card of a setting, with no more blocks than the calls need.
+pub fn prepare(s: &Setting) -> Vec<u8> {
+    let mut card = vec![0u8; 512 * 65536];
+    let bytes: Vec<u8> = (0..512).map(|i| (i * 5 + 1) as u8).collect();
+    let l = s.volume;
+    let c = if s.layout == 1 {
+        1 + l.div_ceil(128) as usize
+    } else {
+        1
+    };
+    assert!(baseline::ream(&mut card, s.layout, l, &name("fs")).is_ok());
+    let empty = s.content == Content::Bare && s.snapshots == 0;
+    let full = s.content == Content::Fullest;
+    for block in 0..if empty { 0 } else { l - !full as u32 } {
+        assert!(baseline::write(&mut card, block, &bytes).is_ok());
+    }
+    for k in 0..s.snapshots {
+        assert!(baseline::snap(&mut card, &visit(k)).is_ok());
+        if full {
+            // an equal share of what is left, with all later openings kept free
+            let later = s.snapshots - 1 - k;
+            let end = beta(&card) + (65536 - beta(&card) - c * later) / (later + 1);
+            let mut block = k as u32 * 131 % l;
+            while beta(&card) + 2 <= end {
+                assert!(baseline::write(&mut card, block, &bytes).is_ok());
+                block = (block + 1) % l;
+            }
+            if later == 0 && beta(&card) < 65536 {
+                // the last block of the card: a write that takes one
+                let block = (block..block + l).map(|b| b % l).find(|&block| {
+                    baseline::write(&mut card, block, &bytes).is_ok() && beta(&card) == 65536
+                });
+                assert!(block.is_some());
+            }
+        } else if s.content == Content::Usual || k + 1 < s.snapshots {
+            for block in [0, l / 4, l / 2, 3 * (l / 4)] {
+                assert!(baseline::write(&mut card, block, &bytes).is_ok());
+            }
+        }
+    }
+    if !full {
+        let end = beta(&card) + c.max(2);
+        card.truncate(512 * end);
+        card.shrink_to_fit();
+    }
+    assert!(baseline::check(&card).is_ok());
+    card
+}

@@ -1,0 +1,97 @@
+/* The stack that each call uses: a thread on a painted stack makes the call, and the lowest byte that changed is found. */
+#include "mantreuy.h"
+
+#include <pthread.h>
+#include <stdio.h>
+#include <stdlib.h>
+#include <string.h>
+
+enum { STACK = 1 << 20, BLOCKS = 4096 };
+
+static uint8_t *stack;
+static uint8_t *card;
+static uint8_t block[512];
+static uint8_t records[MANTREUY_MOST_RECORDS * MANTREUY_RECORD_SIZE];
+static uint32_t place;
+static uint32_t number;
+static uint8_t *top;
+static int which;
+static const uint8_t fs[16] = "fs";
+static const uint8_t mon[16] = "mon";
+static const uint8_t tue[16] = "tue";
+
+/* The call itself; `top` is where its frame starts. */
+static __attribute__((noinline)) void make(void)
+{
+	const size_t n = 512 * (size_t)BLOCKS;
+	top = __builtin_frame_address(0);
+	switch (which) {
+	case 0: number = mantreuy_ream(card, n, 1, 14336, fs, 16, &place); break;
+	case 1: number = mantreuy_ream(card, n, 2, 14336, fs, 16, &place); break;
+	case 2: number = mantreuy_read(card, n, 0, fs, 16, 5, block, 512, &place); break;
+	case 3: number = mantreuy_read(card, n, 1, mon, 16, 5, block, 512, &place); break;
+	case 4: number = mantreuy_write(card, n, 5, block, 512, &place); break;
+	case 5: number = mantreuy_write(card, n, 6, block, 512, &place); break;
+	case 6: number = mantreuy_write(card, n, 500, block, 512, &place); break;
+	case 7: number = mantreuy_snap(card, n, tue, 16, &place); break;
+	case 8: number = mantreuy_revert(card, n, mon, 16, &place); break;
+	case 9: number = mantreuy_list(card, n, records, sizeof records, &place); break;
+	case 10: number = mantreuy_check(card, n, &place); break;
+	default: break;
+	}
+}
+
+static void *work(void *unused)
+{
+	make();
+	return unused;
+}
+
+static const char *const titles[] = {
+	"ream, layout 1", "ream, layout 2", "read, active", "read, snapshot", "write, overwriting",
+	"write, 1 new block", "write, 2 new blocks", "snap", "revert", "list", "check",
+};
+
+static void prepare(uint32_t layout)
+{
+	uint32_t n = 0;
+	const size_t length = 512 * (size_t)BLOCKS;
+	n |= mantreuy_ream(card, length, layout, 14336, fs, 16, &place);
+	n |= mantreuy_write(card, length, 5, block, 512, &place);
+	n |= mantreuy_snap(card, length, mon, 16, &place);
+	n |= mantreuy_write(card, length, 5, block, 512, &place);
+	if (n != 0)
+		abort();
+}
+
+int main(void)
+{
+	card = calloc(BLOCKS, 512);
+	if (card == NULL || posix_memalign((void **)&stack, 4096, STACK) != 0)
+		return 1;
+	printf("| Call | Layout | Stack, bytes |\n|---|---|---|\n");
+	for (uint32_t layout = 1; layout <= 2; layout++) {
+		for (which = 0; which <= 10; which++) {
+			size_t low = 0;
+			pthread_attr_t attributes;
+			pthread_t thread;
+			if (which < 2 && (uint32_t)which + 1 != layout)
+				continue;
+			if (which == 6 && layout == 1)
+				continue;
+			prepare(layout);
+			memset(stack, 0xa5, STACK);
+			pthread_attr_init(&attributes);
+			if (pthread_attr_setstack(&attributes, stack, STACK) != 0 || pthread_create(&thread, &attributes, work, NULL) != 0)
+				return 1;
+			pthread_join(thread, NULL);
+			pthread_attr_destroy(&attributes);
+			if (number != 0)
+				return 1;
+			while (stack[low] == 0xa5)
+				low++;
+			printf("| %s | %u | %ld |\n", titles[which], (unsigned)layout, (long)(top - (stack + low)));
+		}
+	}
+	return 0;
+}

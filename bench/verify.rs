@@ -1,0 +1,321 @@
+// The library and the baseline beside one another on random cards, whole and damaged: same answers, same bytes.
+use crate::call::{make, name, Call, Lent, Name, Side};
+
+struct Random(u64);
+
+impl Random {
+    fn next(&mut self) -> u64 {
+        self.0 ^= self.0 << 13;
+        self.0 ^= self.0 >> 7;
+        self.0 ^= self.0 << 17;
+        self.0.wrapping_mul(0x2545_f491_4f6c_dd1d) >> 11
+    }
+
+    fn below(&mut self, n: usize) -> usize {
+        (self.next() % n as u64) as usize
+    }
+
+    fn one_in(&mut self, n: usize) -> bool {
+        self.below(n) == 0
+    }
+}
+
+// What came of the calls: how often each answer was given.
+struct Pair {
+    a: Vec<u8>,
+    b: Vec<u8>,
+    given: [u64; 15],
+}
+
+impl Pair {
+    fn make(&mut self, call: &Call, lent: &Lent) -> bool {
+        let (mut la, mut lb) = (lent.clone(), lent.clone());
+        let x = make(Side::Library, call, &mut self.a, &mut la);
+        let y = make(Side::Baseline, call, &mut self.b, &mut lb);
+        assert_eq!(x, y, "answers differ: {call:?}");
+        assert!(self.a == self.b, "cards differ after {call:?}");
+        assert!(la == lb, "lent bytes differ after {call:?}");
+        self.given[x.err().map_or(0, |r| r.number as usize)] += 1;
+        x.is_ok()
+    }
+}
+
+fn some_name(r: &mut Random, most: usize) -> Name {
+    let mut n = name(&format!("v{}", r.below(most)));
+    if r.one_in(20) {
+        n[r.below(16)] = r.next() as u8;
+    }
+    if r.one_in(8) {
+        n = *b"abcdefghijklmno-";
+        n[15] = b'a' + r.below(26) as u8;
+    }
+    n
+}
+
+fn some_call(r: &mut Random, volume: u32, names: usize) -> Call {
+    let block = match r.below(12) {
+        0 => volume + r.below(3) as u32,
+        1 => r.next() as u32,
+        2 => volume - 1,
+        3 => r.below(4) as u32,
+        _ => r.below(volume as usize) as u32,
+    };
+    match r.below(20) {
+        0..=6 => Call::Write { block },
+        7..=8 => Call::Read {
+            snapshot: None,
+            block,
+        },
+        9..=11 => Call::Read {
+            snapshot: Some(some_name(r, names)),
+            block,
+        },
+        12..=14 => Call::Snap {
+            name: some_name(r, names),
+        },
+        15 => Call::Revert {
+            name: some_name(r, names),
+        },
+        16..=17 => Call::List,
+        _ => Call::Check,
+    }
+}
+
+fn some_lent(r: &mut Random) -> Lent {
+    let mut lent = Lent::new();
+    lent.bytes.fill(r.next() as u8);
+    if r.one_in(30) {
+        lent.out.truncate(r.below(512));
+        lent.bytes.push(0);
+    }
+    if r.one_in(8) {
+        lent.records.truncate(r.below(28 * 9));
+    }
+    lent
+}
+
+fn get(card: &[u8], p: usize, at: usize) -> u32 {
+    let at = 512 * p + at;
+    u32::from_le_bytes(card[at..at + 4].try_into().unwrap())
+}
+
+fn put(card: &mut [u8], p: usize, at: usize, v: u32) {
+    let at = 512 * p + at;
+    card[at..at + 4].copy_from_slice(&v.to_le_bytes());
+}
+
+// The blocks of the descriptors of a sound chain.
+fn chain_of(card: &[u8]) -> Vec<usize> {
+    let mut blocks = vec![0];
+    loop {
+        match get(card, blocks[blocks.len() - 1], 20) as usize {
+            0 => return blocks,
+            next => blocks.push(next),
+        }
+    }
+}
+
+// One small change in a descriptor or an entry of a sound card; a logical block that it may touch.
+fn damage(r: &mut Random, card: &mut [u8]) -> u32 {
+    let n = card.len() / 512;
+    let chain = chain_of(card);
+    let k = if r.one_in(2) {
+        chain.len() - 1
+    } else {
+        r.below(chain.len())
+    };
+    let p = chain[k];
+    let other = chain[r.below(chain.len())];
+    let (layout, volume) = (get(card, p, 4), get(card, p, 8));
+    let (alpha, beta) = (get(card, p, 12), get(card, p, 16));
+    let group = r.below(volume.div_ceil(128) as usize);
+    let last = if r.one_in(4) {
+        128
+    } else {
+        volume.min(128) as usize
+    };
+    let j = r.below(last);
+    let l = (128 * group + j) as u32;
+    if r.one_in(3) {
+        // the descriptor
+        match r.below(9) {
+            0 => card[512 * p + r.below(64)] ^= 1 << r.below(8),
+            1 => card[512 * p + 40 + r.below(472)] ^= 1 << r.below(8),
+            2 => card.copy_within(512 * other + 24..512 * other + 40, 512 * p + 24),
+            3 => put(
+                card,
+                p,
+                16,
+                beta.wrapping_add(r.below(3) as u32).wrapping_sub(1),
+            ),
+            4 => put(card, p, 16, [n, n + 1, p, p + 1][r.below(4)] as u32),
+            5 => put(card, p, 20, [beta as usize, p, n, other][r.below(4)] as u32),
+            6 => put(card, p, 12, other as u32),
+            7 => put(card, p, 4, 3 - layout),
+            _ => put(card, p, 8, volume + 1),
+        }
+        if r.one_in(4) {
+            // a region that ends with the card, and a next there
+            put(card, p, 16, n as u32);
+            put(card, p, 20, n as u32);
+        }
+        return l;
+    }
+    let table = match layout {
+        1 => p + 1 + group,
+        _ => get(card, p, 64 + 4 * group) as usize,
+    };
+    let (holder, at) = if table == 0 || layout == 2 && r.one_in(3) {
+        let i = if r.one_in(4) { r.below(112) } else { group };
+        (p, 64 + 4 * i)
+    } else {
+        (table.min(n - 1), 4 * j)
+    };
+    let v = match r.below(9) {
+        0 => other as u32,
+        1 => other as u32 + 1,
+        2 => alpha + r.below(3) as u32,
+        3 => (beta + r.below(3) as u32).saturating_sub(1),
+        4 => get(card, holder, 4 * r.below(128)),
+        5 => r.below(n) as u32,
+        6 => r.next() as u32,
+        7 => table as u32,
+        _ => 0,
+    };
+    put(card, holder, at, v);
+    l
+}
+
+// A card on which only one rule of check is broken: an old table, named by no other descriptor, with a new block in it.
+fn old_table(given: [u64; 15]) -> [u64; 15] {
+    let area = vec![0; 512 * 16];
+    let mut pair = Pair {
+        a: area.clone(),
+        b: area,
+        given,
+    };
+    let lent = Lent::new();
+    let fs = name("fs");
+    let ream = Call::Ream {
+        layout: 2,
+        volume: 200,
+        name: fs,
+    };
+    let write = Call::Write { block: 0 };
+    let snap = Call::Snap { name: name("v0") };
+    for call in [ream, write, snap, write, Call::Check] {
+        assert!(pair.make(&call, &lent));
+    }
+    // block 2 has the snapshot's data; the active region is from 3 to 6
+    pair.a[1024..1536].fill(0);
+    put(&mut pair.a, 2, 0, 6);
+    put(&mut pair.a, 3, 16, 7);
+    put(&mut pair.a, 3, 68, 2);
+    pair.b.copy_from_slice(&pair.a);
+    assert!(!pair.make(&Call::Check, &lent));
+    pair.given
+}
+
+// Compares the two sides on `cards` random cards; the number of calls compared.
+pub fn verify(cards: u64) -> u64 {
+    let mut r = Random(0x1234_5678_9abc_def1);
+    let mut given = old_table([0; 15]);
+    for i in 0..cards {
+        let blocks = match i % 8 {
+            0 => r.below(4),
+            1 => 300 + r.below(300),
+            _ => 2 + r.below(60),
+        };
+        let mut area = vec![0u8; 512 * blocks];
+        if r.one_in(2) {
+            area.iter_mut().for_each(|b| *b = r.next() as u8);
+        }
+        if r.one_in(60) {
+            area.push(0);
+        }
+        let volume = match r.below(6) {
+            0 => 1,
+            1 => 127 + r.below(4),
+            2 => 1 + r.below(1000),
+            3 => 14336 - r.below(3),
+            4 if r.one_in(3) => 14337,
+            _ => 1 + r.below(300),
+        } as u32;
+        let layout = if r.one_in(40) {
+            r.below(4)
+        } else {
+            1 + r.below(2)
+        } as u32;
+        let names = if i % 8 == 1 { 400 } else { 12 };
+        let mut pair = Pair {
+            a: area.clone(),
+            b: area,
+            given,
+        };
+        pair.make(
+            &Call::Ream {
+                layout,
+                volume,
+                name: some_name(&mut r, 12),
+            },
+            &Lent::new(),
+        );
+        if i % 16 == 1 {
+            // a long chain, up to and past its limit
+            pair.make(
+                &Call::Ream {
+                    layout: 2,
+                    volume: 1,
+                    name: name("fs"),
+                },
+                &Lent::new(),
+            );
+            for k in 0..256 {
+                pair.make(
+                    &Call::Snap {
+                        name: name(&format!("v{k}")),
+                    },
+                    &Lent::new(),
+                );
+            }
+        }
+        for _ in 0..60 {
+            let call = some_call(&mut r, volume, names);
+            let lent = some_lent(&mut r);
+            pair.make(&call, &lent);
+            if i % 2 == 0
+                && r.one_in(3)
+                && make(Side::Library, &Call::Check, &mut pair.a, &mut lent.clone()).is_ok()
+            {
+                let whole = pair.a.clone();
+                let block = damage(&mut r, &mut pair.a);
+                pair.b.copy_from_slice(&pair.a);
+                pair.make(&Call::Check, &lent);
+                pair.make(&Call::List, &lent);
+                pair.make(
+                    &Call::Read {
+                        snapshot: None,
+                        block,
+                    },
+                    &lent,
+                );
+                for k in 0..4 {
+                    let snapshot = Some(name(&format!("v{k}")));
+                    pair.make(&Call::Read { snapshot, block }, &lent);
+                }
+                pair.make(&Call::Write { block }, &lent);
+                let call = some_call(&mut r, volume, names);
+                pair.make(&call, &lent);
+                pair.make(&Call::Check, &lent);
+                pair.a.copy_from_slice(&whole);
+                pair.b.copy_from_slice(&whole);
+            }
+        }
+        given = pair.given;
+    }
+    assert!(
+        given.iter().all(|&n| n > 0),
+        "an answer was never given: {given:?}"
+    );
+    given.iter().sum()
+}
