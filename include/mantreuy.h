@@ -5,11 +5,11 @@
  * caller lends. It holds one active volume of L logical blocks, L from 1 to
  * 14,336, and at most 255 snapshots of it. The calls format a card, read and
  * write a block, take a snapshot, go back to one, list them, and check the card.
- * Link libmantreuy.a; it needs memcpy, memmove and memset and nothing else.
+ * Link libmantreuy.a; it needs at most memcpy, memmove and memset.
  *
  * ARGUMENTS
  *
- * A buffer is a pointer and then its length in bytes. A call accepts any length
+ * A buffer is a pointer and then its length in bytes. A call takes any length
  * and any content, and answers with a refusal where they do not serve.
  *   - No pointer may be null, even where the length is 0 or the buffer is not
  *     looked at, and it must point to as many bytes as the length says.
@@ -104,7 +104,8 @@ enum {
  * held matters. Blocks from c on are not altered.
  * In layout 1 each snapshot has a whole table of n blocks, and a read or a write
  * follows one entry. In layout 2 a snapshot takes one block, table blocks are
- * made as writes need them, and a read or a write follows two entries.
+ * made as writes need them, and a read or a write follows up to two
+ * entries.
  *
  * Refusals, in this order: 1, 2, 3, 4, 5 (c > N).
  */
