@@ -22,6 +22,8 @@ mod store;
 mod table;
 #[path = "drive/twice.rs"]
 mod twice;
+#[path = "drive/values.rs"]
+mod values;
 
 use std::process::ExitCode;
 use table::Table;
@@ -31,6 +33,7 @@ drive calls SEED COUNT       random lists of calls
 drive damaged SEED COUNT     random calls on damaged cards
 drive rollback SEED COUNT    each accepted revert beside the shorter list
 drive names SEED COUNT       lists of texts made into names
+drive values SEED COUNT      the bench value of 255 snaps and one more
 ";
 
 /// One list: it counts its answers in the table, or says what differed.
@@ -60,6 +63,7 @@ fn main() -> ExitCode {
             "damaged" => Some((hurt::one, table::DAMAGED)),
             "rollback" => Some((twice::one, table::ROLLBACK)),
             "names" => Some((names::one, table::NAMES)),
+            "values" => Some((values::one, table::VALUES)),
             _ => None,
         };
         if let (Some((list, expected)), Ok(seed), Ok(count)) = (chosen, seed.parse(), count.parse())

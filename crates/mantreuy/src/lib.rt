@@ -1,5 +1,5 @@
 // The static library that C and Rust programs link: the seven calls and the padding of a name, on numbers and lent bytes.
-// Each call returns the number of its answer and stores the place; the contract of each is one equation, by the calls' `step`.
+// Each call returns the number of its answer and stores the place; its contract is one equation, by the calls' `step`, the listing's by `listingOf`.
 use blocks::descriptor;
 use blocks::name;
 use blocks::numbers::Logical;

@@ -45,6 +45,8 @@ pub const ROLLBACK: Expected = [
     &[],
 ];
 
+pub const VALUES: Expected = [&[0], &[], &[], &[0, 13], &[], &[], &[], &[]];
+
 pub const NAMES: Expected = [&[], &[], &[], &[], &[], &[], &[], &[0, 4]];
 
 #[derive(Default)]
