@@ -5,7 +5,36 @@
  * caller lends. It holds one active volume of L logical blocks, L from 1 to
  * 14,336, and at most 255 snapshots of it. The calls format a card, read and
  * write a block, take a snapshot, go back to one, list them, and check the card.
- * Link libmantreuy.a; it needs at most memcpy, memmove and memset.
+ * Link libmantreuy.a, which is built for Linux on x86-64; it needs at most
+ * memcpy, memmove and memset.
+ *
+ * WORDS
+ *
+ * Blocks of the card are numbered from 0, and so are logical blocks of the
+ * volume.
+ *   - A descriptor is a block that describes the active volume or a snapshot.
+ *     It has the layout, L, the name, and three block numbers: alpha, its own
+ *     block; beta, the first block after its region; next, the descriptor that
+ *     follows, 0 in the last.
+ *   - Its region is the blocks from alpha on, up to beta and without it. The
+ *     next region starts there. The blocks from beta of the active volume on are
+ *     free.
+ *   - The chain is the descriptors from block 0 along next: the snapshots,
+ *     oldest first, then the active volume.
+ *   - A table block has 128 entries, one for each logical block of a group. An
+ *     entry is the number of a block of the card, or 0, which is nil. A volume
+ *     has n groups, L divided by 128, rounded up.
+ *   - In layout 1 the n table blocks stand after the descriptor. In layout 2 the
+ *     descriptor has 112 entries of its own, Phi, that name the table blocks.
+ *   - The opening cost c is the blocks that a region starts with, and so what a
+ *     format and a snapshot take: 1 + n in layout 1, 1 in layout 2.
+ *   - A descriptor is sound if its bytes are as docs/SPEC.md has them; its
+ *     layout and L are those of block 0; alpha is its own block;
+ *     alpha + c <= beta <= N; next is 0, or equals beta with beta < N; no
+ *     earlier descriptor has its name; and it is among the first 256.
+ *   - An entry is in place if it is nil, or below beta of the descriptor
+ *     through which it is found and neither a descriptor of the chain nor a
+ *     layout 1 table block.
  *
  * ARGUMENTS
  *
@@ -14,30 +43,37 @@
  *   - No pointer may be null, even where the length is 0 or the buffer is not
  *     looked at, and it must point to as many bytes as the length says.
  *   - Buffers need no alignment. `place` is an ordinary uint32_t object.
- *   - The buffers of one call, and `place`, must not overlap.
+ *   - The buffers of one call, and `place`, must not overlap, even where both
+ *     are only read.
+ *   - What is only filled need not be set before the call: `out`, `records`,
+ *     *place, and `name` of mantreuy_pad_name.
  *   - No call keeps a pointer after it returns, allocates memory, blocks, reads
  *     or sets a global variable, or calls back.
- *   - While a call runs nobody else may change its buffers, nor read those that
- *     it may change: one caller at a time for each card.
+ *   - mantreuy_read, mantreuy_list and mantreuy_check do not alter the card and
+ *     may run at the same time on one card, each with its own `out`, `records`
+ *     and `place`. While mantreuy_ream, mantreuy_write, mantreuy_snap or
+ *     mantreuy_revert runs, no other call may use that card. Nobody else may
+ *     change a buffer while a call uses it, nor read one that the call may
+ *     change.
  *   - A check uses at most 69 KB of stack, any other call at most 4 KB
- *     (measured on x86-64).
+ *     (measured on x86-64, in accepted calls; 1 KB is 1,000 bytes).
  *
  * SIZES
  *
  * A block is 512 bytes. A name is 16 bytes: 1 to 16 of the bytes a-z, 0-9, '.'
  * and '-', then zero bytes up to 16; mantreuy_pad_name makes one of a text. A
  * record of a listing is 28 bytes. A length of a name buffer other than 16 is
- * no name, and is answered like sixteen zeros: with 4, where a name is looked at.
- * Stored numbers are 32 bits, lowest byte first, whatever the machine.
+ * no name, and is answered like sixteen zeros: with 4, where a name is looked
+ * at. Stored numbers are 32 bits, lowest byte first, whatever the machine.
  *
  * ANSWERS
  *
- * A call returns the number of its answer, and stores the place of the answer in
- * *place. Accepted is number 0, place 0. Any other number is a refusal, and then
- * no byte of the card or of another buffer is altered; only *place is stored.
- * The place is 0 unless it is stated below; it is the number of a block of the
- * card, counted from 0. Where several refusals apply, the one that stands first
- * in the list of the call is given.
+ * A call returns the number of its answer, and stores the place of the answer
+ * in *place. Accepted is number 0, place 0. Any other number is a refusal, and
+ * then no byte of the card or of another buffer is altered; only *place is
+ * stored. The place is 0 unless it is stated below; it is the number of a block
+ * of the card. Where several refusals apply, the one that stands first in the
+ * list of the call is given.
  *
  *    1  MANTREUY_BAD_AREA        the card's length is no multiple of 512, or N is
  *                                outside 2..65,536
@@ -45,25 +81,39 @@
  *    3  MANTREUY_BAD_VOLUME      L is outside 1..14,336
  *    4  MANTREUY_BAD_NAME        the name given is no name
  *    5  MANTREUY_CARD_TOO_SMALL  the opening cost c is greater than N
- *    6  MANTREUY_UNSOUND_CHAIN   a descriptor of the card is unsound; place: its
- *                                block. A card that was never formatted gives
- *                                this, as a rule with place 0
+ *    6  MANTREUY_UNSOUND_CHAIN   a descriptor of the chain is unsound; place: the
+ *                                block of the first such one. A card that was
+ *                                never formatted gives this, as a rule with
+ *                                place 0
  *    7  MANTREUY_NO_SNAPSHOT     no snapshot has the name. The active volume's
  *                                own name is not the name of a snapshot
  *    8  MANTREUY_BAD_BLOCK       the logical block number is not below L
  *    9  MANTREUY_BAD_LENGTH      the block lent is not 512 bytes
- *   10  MANTREUY_BAD_ENTRY       a table entry that the call follows is not in
- *                                place or, in a check, is against a rule of the
- *                                check; place: the block that holds the entry
- *   11  MANTREUY_NO_ROOM         beta plus the blocks that the call needs exceeds
- *                                N; beta is the first block after the active
- *                                region, and all blocks from it on are free
+ *   10  MANTREUY_BAD_ENTRY       an entry that the call follows is not in place
+ *                                or, in a check, is against a rule of the check;
+ *                                place: the block that holds the entry
+ *   11  MANTREUY_NO_ROOM         beta of the active volume plus the blocks that
+ *                                the call needs exceeds N
  *   12  MANTREUY_NAME_IN_USE     a snapshot or the active volume has the name
  *   13  MANTREUY_TOO_MANY        there are 255 snapshots already
  *   14  MANTREUY_SHORT_LIST      the list is shorter than the chain
  *
- * The opening cost c, in blocks, of a format and of a snapshot is 1 in layout 2.
- * In layout 1 it is 1 + n, where n is L divided by 128, rounded up.
+ * No other number is returned.
+ *
+ * WHAT CHANGES
+ *
+ * The card is memory; bringing it to a medium is the caller's part. An accepted
+ * call alters no other blocks of the card than these:
+ *   ream    blocks 0 to c - 1
+ *   write   the block of the data; where it takes new blocks also the active
+ *           descriptor and a table block. All of them are in the active region
+ *           as it is after the call
+ *   snap    the active descriptor, and the c blocks from its beta on
+ *   revert  the descriptor of the snapshot, the active one after the call
+ * read, list and check alter none. What is said here holds once the call has
+ * returned. Of a card whose memory is lost or copied out in the middle of a
+ * call, or of a medium that has got only some of these blocks, nothing is
+ * promised.
  */
 #ifndef MANTREUY_H
 #define MANTREUY_H
@@ -78,8 +128,14 @@ extern "C" {
 #define MANTREUY_BLOCK_SIZE 512
 #define MANTREUY_NAME_SIZE 16
 #define MANTREUY_RECORD_SIZE 28
-#define MANTREUY_MOST_RECORDS 256 /* 255 snapshots and the active volume */
 
+#define MANTREUY_FEWEST_BLOCKS 2   /* N */
+#define MANTREUY_MOST_BLOCKS 65536 /* N; such a card has 33,554,432 bytes */
+#define MANTREUY_MOST_VOLUME 14336 /* L */
+#define MANTREUY_MOST_SNAPSHOTS 255
+#define MANTREUY_MOST_RECORDS 256 /* the snapshots and the active volume */
+
+/* the numbers of the answers */
 enum {
 	MANTREUY_ACCEPTED = 0,
 	MANTREUY_BAD_AREA = 1,
@@ -99,13 +155,12 @@ enum {
 };
 
 /*
- * Formats the card: one active volume of `volume` logical blocks under the name,
- * every one of which reads as zeros, and no snapshot. Nothing of what the card
- * held matters. Blocks from c on are not altered.
+ * Formats the card: one active volume of `volume` logical blocks, every one of
+ * which reads as zeros, and no snapshot. `name` becomes the active volume's own
+ * name. Nothing of what the card held matters. Blocks from c on are not altered.
  * In layout 1 each snapshot has a whole table of n blocks, and a read or a write
  * follows one entry. In layout 2 a snapshot takes one block, table blocks are
- * made as writes need them, and a read or a write follows up to two
- * entries.
+ * made as writes need them, and a read or a write follows up to two entries.
  *
  * Refusals, in this order: 1, 2, 3, 4, 5 (c > N).
  */
@@ -114,9 +169,10 @@ uint32_t mantreuy_ream(uint8_t *card, size_t card_length, uint32_t layout, uint3
 
 /*
  * Reads logical block `block` into `out`, which must be 512 bytes long: of the
- * active volume where `snapshot` is 0, and then the name is not looked at; of the
- * snapshot that has the name where `snapshot` is any other number. A block that
- * was never written reads as zeros. The card is not altered.
+ * active volume where `snapshot` is 0; of the snapshot that has the name where
+ * `snapshot` is any other number. Where it is 0 the name is not looked at: any
+ * pointer that is not null will do, with length 0. A block that the volume or
+ * the snapshot has no content for reads as zeros. The card is not altered.
  *
  * Refusals, in this order: 1; 4 (only where `snapshot` is not 0); 9; 6; 7 (only
  * where `snapshot` is not 0); 8; 10. `out` is then not altered.
@@ -127,10 +183,11 @@ uint32_t mantreuy_read(const uint8_t *card, size_t card_length, uint32_t snapsho
 
 /*
  * Writes `bytes`, which must be 512 bytes long, as logical block `block` of the
- * active volume. No snapshot changes. It takes 0, 1 or 2 new blocks of the card:
- * none where the content that it replaces was written since the newest snapshot;
- * in layout 2 two where its table block is new as well; otherwise one. Zeros are
- * written like any other bytes.
+ * active volume. No snapshot changes. On a card that passes check it takes 0, 1
+ * or 2 new blocks: none where the content that it replaces was written since
+ * the newest snapshot, or since the format where there is none; in layout 2 two
+ * where it is the first write to its group of 128 logical blocks since then;
+ * otherwise one. Zeros are written like any other bytes.
  *
  * Refusals, in this order: 1; 9; 6; 8; 10; 11 (beta plus the new blocks > N).
  */
@@ -138,8 +195,8 @@ uint32_t mantreuy_write(uint8_t *card, size_t card_length, uint32_t block,
                         const uint8_t *bytes, size_t bytes_length, uint32_t *place);
 
 /*
- * Freezes the active volume as a snapshot under the name. The active volume keeps
- * its own name and its content. It takes c new blocks of the card.
+ * Freezes the active volume as a snapshot under the name. The active volume
+ * keeps its own name and its content. It takes c new blocks of the card.
  *
  * Refusals, in this order: 1; 4; 6; 12; 13; 11 (beta + c > N).
  */
@@ -148,8 +205,9 @@ uint32_t mantreuy_snap(uint8_t *card, size_t card_length,
 
 /*
  * Makes the content of the snapshot that has the name that of the active volume.
- * This snapshot and all later ones are gone, and the blocks that came after it
- * are free again; their bytes are not wiped. The active name stays.
+ * This snapshot and all later ones are gone, and their names may be given again.
+ * The blocks that came after it are free again; their bytes are not wiped. The
+ * active name stays.
  *
  * Refusals, in this order: 1; 4; 6; 7.
  */
@@ -163,9 +221,10 @@ uint32_t mantreuy_revert(uint8_t *card, size_t card_length,
  *   28 * i + 16  alpha, the block of its descriptor, 4 bytes
  *   28 * i + 20  beta, the first block after its region, 4 bytes
  *   28 * i + 24  next, the block of the next descriptor, 4 bytes
- * each number with its lowest byte first. next is 0 in the last record, that of
- * the active volume, and in no other. Bytes after the last record are not altered,
- * nor is the card. MANTREUY_MOST_RECORDS records are always enough.
+ * each number with its lowest byte first. next is 0 in the record of the
+ * active volume and in no other; N minus its beta is the number of free blocks.
+ * Bytes of `records` after the last record that was filled are not
+ * altered, nor is the card. MANTREUY_MOST_RECORDS records are always enough.
  *
  * Refusals, in this order: 1; 6; 14 (fewer records than descriptors). `records`
  * is then not altered.
@@ -174,9 +233,20 @@ uint32_t mantreuy_list(const uint8_t *card, size_t card_length,
                        uint8_t *records, size_t records_length, uint32_t *place);
 
 /*
- * Checks the whole card: 0 where no rule is broken, or the first fault. On a card
- * that passes, every accepted call leaves one that passes. The card is not
- * altered. The content of blocks is not checked: there is no checksum.
+ * Checks the whole card: 0 where it passes, or the first fault. The chain must
+ * be sound, and of the entries of each descriptor it asks:
+ *   - every entry is in place;
+ *   - entries past n in Phi, and past L in the last table block, are nil;
+ *   - no block is named twice within one descriptor, Phi and tables together;
+ *   - in layout 2, where an entry of a table block is at or above alpha, so is
+ *     the table block.
+ * Descriptors are taken in chain order, their entries rising: in layout 2 each
+ * entry of Phi, then those of the table block that it names. Of a block named
+ * twice, the later naming is at fault.
+ * On a card that passes, every accepted call leaves one that passes. The card
+ * is not altered. The content of blocks is not checked: there is no checksum.
+ * Every entry of every descriptor is visited, so with many snapshots a check
+ * takes far longer than the other calls.
  *
  * Refusals, in this order: 1; 6; 10.
  */
@@ -184,9 +254,10 @@ uint32_t mantreuy_check(const uint8_t *card, size_t card_length, uint32_t *place
 
 /*
  * Makes a name of a text: where the text is 1 to 16 of the bytes of a name and
- * `name` is 16 bytes long, `name` is then the text and zero bytes after it, and 0
- * is returned. Otherwise 4 is returned, and `name` is not altered. text_length
- * does not count a closing zero byte of a C string. There is no place.
+ * `name` is 16 bytes long, `name` is then the text and zero bytes after it, and
+ * 0 is returned. Otherwise 4 is returned, and `name` is not altered.
+ * text_length does not count a closing zero byte of a C string. There is no
+ * place.
  */
 uint32_t mantreuy_pad_name(const uint8_t *text, size_t text_length,
                            uint8_t *name, size_t name_length);

@@ -8,14 +8,16 @@ use native.Mathlib.Omega.{arith}
 use lib.ListN.{length, take, drop, getD, set, replicate, length-append, length-take, length-set, drop-of-length-le}
 use lib.Seq.{drop-cons, take-suc, getD-take, take-set-le, getD-set-same, getD-set-other, set-at, append-snoc}
 use lib.Dec.{eqb, ltb, leb}
-use borrow.Author.Tests.{ne-eqb, eqb-true, ltb-true, ltb-false, leb-true, not-true, not-false}
+use borrow.Author.Tests.{ne-eqb, eqb-true, eqb-false, ltb-true, ltb-false, leb-true, not-true, not-false}
 use Rattle.blocks.specs.Pick.{pick, same}
 use Rattle.blocks.specs.Bytes.{blockCount}
 use Rattle.blocks.specs.Descriptor.{physical, tableCount, cost, costOf, descriptorAt}
-use Rattle.blocks.specs.Chain.{formOk, regionOk, named, sound, Unsound, Sound, descriptorsAt, chainFrom, chain, ends, startsOf, regionsOf}
+use Rattle.blocks.specs.Name.{keyOf}
+use Rattle.blocks.specs.Chain.{Keyed, activeOf, formOk, regionOk, named, sound, Unsound, Sound, descriptorsAt, chainFrom, chain, ends, startsOf, regionsOf}
 use Rattle.blocks.specs.declared.descriptor.Descriptor.{Descriptor}
 use Rattle.blocks.specs.declared.chain.Regions.{Regions}
 use Rattle.blocks.proofs.Tests.{and-left, and-right}
+use Rattle.blocks.proofs.ListLaws.{same-equal}
 
 -- whether one of the blocks from index j up to index k holds a descriptor with the name
 unfoldable pub namedFrom : List ℕ → List ℕ → ℕ → List ℕ → ℕ → Bool
@@ -40,6 +42,29 @@ module _ (c starts : List ℕ) (k : ℕ) (name : List ℕ) where
   pub named-end : (j : ℕ) → k ≤ j → namedFrom c starts k name j ≡ false
   unfolding namedFrom named descriptorsAt
   named-end j h = rw (drop-of-length-le (take k starts) {i = j} (simp length-take (omega arith)))
+
+-- names passed: where the key of a name has no flag, none of them is that name
+key-apart : (keys : List Bool) (a name : List ℕ) → getD keys (keyOf a) false ≡ true → getD keys (keyOf name) false ≡ false → (b : Bool) → same a name ≡ b → b ≡ false
+key-apart keys a name f g true e =
+    let q = same-equal a name e in
+    sym f ∙ ap (λ (n : List ℕ). getD keys (keyOf n) false) q ∙ g
+key-apart keys a name f g false e = refl
+
+module _ (c starts : List ℕ) (k : ℕ) (keys : List Bool) (keyed : Keyed c starts k keys) (long : k ≤ length starts) (name : List ℕ) where
+  none-from-key : getD keys (keyOf name) false ≡ false → (left : ℕ) (j : ℕ) → j + left ≡ k → namedFrom c starts k name j ≡ false
+  none-from-key g zero j e = named-end c starts k name j (omega arith)
+  none-from-key g (suc left) j e =
+      named-more c starts k name j (omega arith) long (same (descriptorAt c (getD starts j 0) .name) name) refl
+      (key-apart keys (descriptorAt c (getD starts j 0) .name) name (keyed .each j (omega arith)) g (same (descriptorAt c (getD starts j 0) .name) name) refl)
+      ∙ none-from-key g left (j + 1) (omega arith)
+
+  pub key-fresh : (key : ℕ) → key ≡ keyOf name → not (getD keys key false) ≡ true → false ≡ named (descriptorsAt c (take k starts)) name
+  key-fresh key e h =
+      let g : getD keys (keyOf name) false ≡ false = ap (λ (x : ℕ). getD keys x false) (sym e) ∙ not-true (getD keys key false) h in
+      sym (named-start c starts k name ∙ none-from-key g k 0 (omega arith))
+
+pub keyed-none : (c starts : List ℕ) → Keyed c starts 0 (replicate 2048 false)
+keyed-none c starts = record { long = refl; each = λ j h. absurd (omega arith) }
 
 -- descriptors of one more block, and how many there are
 pub descriptors-snoc : (c : List ℕ) (ps : List ℕ) (p : ℕ) → descriptorsAt c (ps ++ (p ∷ [])) ≡ descriptorsAt c ps ++ (descriptorAt c p ∷ [])
@@ -147,8 +172,16 @@ pub walk-none : (c : List ℕ) → length c / 512 ≡ 0 → (r : Regions) → r 
 unfolding chain blockCount
 walk-none c h r e = e ∙ sym (ap regionsOf (none-from c (length c / 512) 255 h refl))
 
-regions-equal : (a b : ℕ) (x y : List ℕ) → a ≡ b → x ≡ y → _≡_ {A = Regions} (record { sound = true; place = physical 0; count = a; starts = x }) (record { sound = true; place = physical 0; count = b; starts = y })
-regions-equal a b x y p q = rw (p, q)
+regions-equal : (d e : Descriptor) (a b : ℕ) (x y : List ℕ) → d ≡ e → a ≡ b → x ≡ y
+    → _≡_ {A = Regions} (record { sound = true; place = physical 0; active = d; count = a; starts = x }) (record { sound = true; place = physical 0; active = e; count = b; starts = y })
+regions-equal d e a b x y o p q = rw (o, p, q)
+
+-- the last of a list
+pub active-snoc : (ds : List Descriptor) (d : Descriptor) → activeOf (ds ++ (d ∷ [])) ≡ d
+unfolding activeOf
+active-snoc [] d = refl
+active-snoc (e ∷ []) d = refl
+active-snoc (e ∷ f ∷ ds) d = active-snoc (f ∷ ds) d
 
 -- where a walk stands after k sound descriptors: block p is next, and starts holds the regions so far
 pub record Walked (c starts : List ℕ) (p k : ℕ) : Type 0 where
@@ -170,6 +203,26 @@ walked-none c h =
       so-far = refl;
       rest = refl;
     }
+
+-- one more name passed
+pub keyed-more : (c starts : List ℕ) (p k : ℕ) (w : Walked c starts p k) (keys : List Bool) → Keyed c starts k keys → (d : Descriptor) → d ≡ descriptorAt c p → (key : ℕ) → key ≡ keyOf (d .name) → key < 2048
+    → (beta : ℕ) → Keyed c (set starts (k + 1) beta) (k + 1) (set keys key true)
+keyed-more c starts p k w keys keyed d is key key-is low beta = record { long = length-set keys key true ∙ keyed .long; each = λ j h. each-by j h (ltb j k) refl }
+  where
+    kept : (x : ℕ) → (t : Bool) → eqb x key ≡ t → getD keys x false ≡ true → getD (set keys key true) x false ≡ true
+    kept x true e h = rw (eqb-true x key e) (getD-set-same keys key true false (omega (arith, keyed .long)))
+    kept x false e h = getD-set-other keys key x true false (eqb-false x key e) ∙ h
+
+    start-at : (j : ℕ) → j < k + 1 → getD (set starts (k + 1) beta) j 0 ≡ getD starts j 0
+    start-at j h = getD-set-other starts (k + 1) j beta 0 (omega arith)
+
+    each-by : (j : ℕ) → j < k + 1 → (t : Bool) → ltb j k ≡ t → getD (set keys key true) (keyOf (descriptorAt c (getD (set starts (k + 1) beta) j 0) .name)) false ≡ true
+    each-by j h true e = rw (start-at j h) (kept (keyOf (descriptorAt c (getD starts j 0) .name)) (eqb (keyOf (descriptorAt c (getD starts j 0) .name)) key) refl (keyed .each j (ltb-true j k e)))
+    each-by j h false e =
+        let q : j ≡ k = omega (arith, ltb-false j k e) in
+        let at : descriptorAt c (getD (set starts (k + 1) beta) j 0) ≡ d = ap (descriptorAt c) (start-at j h ∙ ap (λ (x : ℕ). getD starts x 0) q ∙ w .here) ∙ sym is in
+        ap (λ (x : Descriptor). getD (set keys key true) (keyOf (x .name)) false) at ∙ ap (λ (x : ℕ). getD (set keys key true) x false) (sym key-is)
+        ∙ getD-set-same keys key true false (omega (arith, keyed .long))
 
 module _ (c starts : List ℕ) (p k : ℕ) (w : Walked c starts p k) where
   abbrev ds : List Descriptor
@@ -232,12 +285,12 @@ module _ (c starts : List ℕ) (p k : ℕ) (w : Walked c starts p k) where
             starts-more : starts′ ≡ startsOf (ds ++ (d ∷ []))
             starts-more = ap (λ (l : List ℕ). set l (k + 1) (d .beta .0)) (w .so-far) ∙ starts-snoc ds d k length-ds more
 
-            pub walk-end : d .next .0 ≡ 0 → _≡_ {A = Regions} (record { sound = true; place = physical 0; count = k + 1; starts = starts′ }) (regionsOf (chain c))
+            pub walk-end : d .next .0 ≡ 0 → _≡_ {A = Regions} (record { sound = true; place = physical 0; active = d; count = k + 1; starts = starts′ }) (regionsOf (chain c))
             unfolding regionsOf
             walk-end z =
                 let l : length (ds ++ (d ∷ [])) ≡ k + 1 = length-append ds (d ∷ []) ∙ ap (λ (x : ℕ). x + 1) length-ds in
                 let last : pick (eqb (d .next .0) 0) (Sound (ds ++ (d ∷ []))) (chainFrom c (256 - (k + 1)) (ds ++ (d ∷ [])) (d .next .0)) ≡ Sound (ds ++ (d ∷ [])) = rw z in
-                regions-equal (k + 1) (length (ds ++ (d ∷ []))) starts′ (startsOf (ds ++ (d ∷ []))) (sym l) starts-more ∙ sym (ap regionsOf (walk-on ∙ last))
+                regions-equal d (activeOf (ds ++ (d ∷ []))) (k + 1) (length (ds ++ (d ∷ []))) starts′ (startsOf (ds ++ (d ∷ []))) (sym (active-snoc ds d)) (sym l) starts-more ∙ sym (ap regionsOf (walk-on ∙ last))
 
             -- the next descriptor's block is on the card
             pub walked-next : (d .next .0 ≡ 0 → ⊥) → 512 * d .next .0 + 512 ≤ length c

@@ -2,20 +2,22 @@
 use mathlib.Core.Path.{_≡_, refl, sym, ap, _∙_, subst}
 use mathlib.Core.Bool.{Bool, true, false, not, _&&_}
 use mathlib.Core.List.{List, [], _∷_, _++_}
-use Prim.Native.Nat.{ℕ, zero, suc, _+_, _-_, _≤_, _<_}
+use Prim.Native.Nat.{ℕ, zero, suc, _+_, _*_, _-_, _/_, _≤_, _<_}
+use native.Mathlib.Numerals.{add-one}
 use native.Mathlib.Omega.{arith}
 use lib.ListN.{length, take, getD, replicate, List·getD-append, length-append, length-replicate}
 use lib.Seq.{append-snoc, take-append-le}
 use lib.Dec.{eqb}
-use borrow.Author.Tests.{eqb-true, eqb-false}
+use borrow.Author.Tests.{eq-eqb, ne-eqb, eqb-true, eqb-false}
 use Rattle.blocks.specs.Pick.{pick}
-use Rattle.blocks.specs.Bytes.{blockCount}
+use Rattle.blocks.specs.Bytes.{part, blockCount}
 use Rattle.blocks.specs.Descriptor.{physical, costOf, noDescriptor, descriptorAt}
-use Rattle.blocks.specs.Chain.{formOk, regionOk, named, sound, Chain, Unsound, Sound, descriptorsAt, chainFrom, chain, descriptors, ends, startsOf, regionsOf}
+use Rattle.blocks.specs.Chain.{activeOf, formOk, regionOk, named, sound, Chain, Unsound, Sound, descriptorsAt, chainFrom, chain, descriptors, ends, startsOf, regionsOf}
+use Rattle.blocks.specs.declared.numbers.Physical.{Physical}
 use Rattle.blocks.specs.declared.descriptor.Descriptor.{Descriptor}
 use Rattle.blocks.specs.declared.chain.Regions.{Regions}
 use Rattle.blocks.proofs.Tests.{and-left, and-right}
-use Rattle.blocks.proofs.ChainLaws.{region-layout, region-volume, region-alpha, region-long, region-end, region-next, length-ends}
+use Rattle.blocks.proofs.ChainLaws.{region-layout, region-volume, region-alpha, region-long, region-end, region-next, length-ends, cost-least}
 
 -- the descriptors from block p on, after the earlier ones
 pub data Linked (c : List ℕ) : List Descriptor → ℕ → List Descriptor → Type 0 where
@@ -159,11 +161,12 @@ module _ {c : List ℕ} where
       rw (region-start-suc p d ds k, region-start-suc p d ds (suc k), ← (sound-next c es p d is ok z)) (linked-at rest k (omega arith))
 
 -- the regions of a chain without fault are those of its descriptors
-pub regions-sound : (ch : Chain) (n : ℕ) (starts : List ℕ) → regionsOf ch ≡ record { sound = true; place = physical 0; count = n; starts = starts }
-    → (ch ≡ Sound (descriptors ch)) × (n ≡ length (descriptors ch)) × (starts ≡ startsOf (descriptors ch))
+pub regions-sound : (ch : Chain) (active : Descriptor) (n : ℕ) (starts : List ℕ) → regionsOf ch ≡ record { sound = true; place = physical 0; active = active; count = n; starts = starts }
+    → (ch ≡ Sound (descriptors ch)) × (n ≡ length (descriptors ch)) × (starts ≡ startsOf (descriptors ch)) × (active ≡ activeOf (descriptors ch))
 unfolding regionsOf descriptors
-regions-sound (Unsound p) n starts e = let f : false ≡ true = ap (λ (r : Regions). r .sound) e in let y : _≡_ {A = ℕ} 0 1 = cc in absurd (omega arith)
-regions-sound (Sound ds) n starts e = (refl, ap (λ (r : Regions). r .count) (sym e), ap (λ (r : Regions). r .starts) (sym e))
+regions-sound (Unsound p) active n starts e = let f : false ≡ true = ap (λ (r : Regions). r .sound) e in let y : _≡_ {A = ℕ} 0 1 = cc in absurd (omega arith)
+regions-sound (Sound ds) active n starts e =
+    (refl, ap (λ (r : Regions). r .count) (sym e), ap (λ (r : Regions). r .starts) (sym e), ap (λ (r : Regions). r .active) (sym e))
 
 -- the descriptors in the first blocks of the regions are the first of the chain
 module _ {c : List ℕ} where
@@ -182,6 +185,86 @@ module _ {c : List ℕ} where
   pub linked-some : {es : List Descriptor} {p : ℕ} {ds : List Descriptor} → Linked c es p ds → 0 < length ds
   linked-some (last is ok z) = omega arith
   linked-some (more is ok z rest) = omega arith
+
+-- the last of a list
+pub active-last : (d : Descriptor) (ds : List Descriptor) → activeOf (d ∷ ds) ≡ getD (d ∷ ds) (length ds) noDescriptor
+unfolding activeOf
+active-last d [] = refl
+active-last d (e ∷ ds) = active-last e ds
+
+pub active-at : (ds : List Descriptor) → 0 < length ds → activeOf ds ≡ getD ds (length ds - 1) noDescriptor
+active-at [] h = absurd (omega arith)
+active-at (d ∷ ds) h = let e : suc (length ds) - 1 ≡ length ds = omega arith in active-last d ds ∙ rw e
+
+-- the next of the k-th descriptor: nil for the last, else where the next region starts
+next-by : (d : Descriptor) (p : ℕ) (ds : List Descriptor) (k x : ℕ) (t : Bool) → eqb (suc k) (length ds) ≡ t → x ≡ pick t 0 (regionStart (d .beta .0) ds (suc k))
+    → x ≡ pick (eqb (suc (suc k)) (length (d ∷ ds))) 0 (regionStart p (d ∷ ds) (suc (suc k)))
+next-by d p ds k x true e h = let q = eqb-true (suc k) (length ds) e in rw (eq-eqb (suc (suc k)) (suc (length ds)) (omega arith)) h
+next-by d p ds k x false e h = let q = eqb-false (suc k) (length ds) e in rw (ne-eqb (suc (suc k)) (suc (length ds)) (λ z. q (omega arith)), region-start-suc p d ds (suc k)) h
+
+module _ {c : List ℕ} where
+  pub linked-next : {es : List Descriptor} {p : ℕ} {ds : List Descriptor} → Linked c es p ds → (k : ℕ) → k < length ds
+      → getD ds k noDescriptor .next .0 ≡ pick (eqb (suc k) (length ds)) 0 (regionStart p ds (suc k))
+  linked-next (last is ok z) zero l = z
+  linked-next (last is ok z) (suc k) l = absurd (omega arith)
+  linked-next (more {es = es} {p = p} {d = d} {ds = ds} is ok z rest) zero l =
+      rw (ne-eqb 1 (suc (length ds)) (omega (arith, linked-some rest)), region-start-suc p d ds 0, region-start-zero (d .beta .0) ds) (sound-next c es p d is ok z)
+  linked-next (more {es = es} {p = p} {d = d} {ds = ds} is ok z rest) (suc k) l =
+      next-by d p ds k (getD ds k noDescriptor .next .0) (eqb (suc k) (length ds)) refl
+      (subst (λ (b : ℕ). getD ds k noDescriptor .next .0 ≡ pick (eqb (suc k) (length ds)) 0 (regionStart b ds (suc k))) (sound-next c es p d is ok z) (linked-next rest k (omega arith)))
+
+-- a descriptor of a sound chain, by what the walk found
+descriptor-equal : (d : Descriptor) (layout volume : ℕ) (alpha beta next : Physical) → d .layout ≡ layout → d .volume ≡ volume → d .alpha ≡ alpha → d .beta ≡ beta → d .next ≡ next
+    → (name : List ℕ) → d .name ≡ name → d ≡ record { layout = layout; volume = volume; alpha = alpha; beta = beta; next = next; name = name }
+descriptor-equal d layout volume alpha beta next p q r s t name u = rw (← p, ← q, ← r, ← s, ← t, ← u) refl
+
+module _ (c : List ℕ) (active : Descriptor) (n : ℕ) (starts : List ℕ) (whole : regionsOf (chain c) ≡ record { sound = true; place = physical 0; active = active; count = n; starts = starts }) where
+  abbrev ds : List Descriptor
+  ds = descriptors (chain c)
+
+  regions-are : (chain c ≡ Sound ds) × (n ≡ length ds) × (starts ≡ startsOf ds) × (active ≡ activeOf ds)
+  regions-are = regions-sound (chain c) active n starts whole
+
+  linked : Linked c [] 0 ds
+  linked = chain-linked c ds (regions-are .0)
+
+  start-at : (k : ℕ) → k ≤ n → getD starts k 0 ≡ regionStart 0 ds k
+  start-at k h = rw (regions-are .2) (region-start-listed ds k (omega (arith, regions-are .1)))
+
+  region-of : (k : ℕ) → k < n → RegionAt c (getD starts k 0) (getD starts (suc k) 0) (getD ds k noDescriptor)
+  region-of k h = rw (start-at k (omega arith), start-at (suc k) (omega arith)) (linked-at linked k (omega (arith, regions-are .1)))
+
+  active-region : RegionAt c (getD starts (length ds - 1) 0) (getD starts (suc (length ds - 1)) 0) active
+  active-region = subst (λ (d : Descriptor). RegionAt c (getD starts (length ds - 1) 0) (getD starts (suc (length ds - 1)) 0) d) (sym (active-at ds (linked-some linked)) ∙ sym (regions-are .3)) (region-of (length ds - 1) (omega (arith, linked-some linked, regions-are .1)))
+
+  pub found-inside : (k : ℕ) → k < n → (k + 1 < length starts) × (512 * getD starts k 0 + 512 ≤ length c)
+  unfolding blockCount
+  found-inside k h =
+      let r = region-of k h in
+      let e : getD starts (suc k) 0 ≤ length c / 512 = at-end c _ _ (getD ds k noDescriptor) r in
+      (omega (arith, regions-are .1, starts-long ds, ap length (regions-are .2)), omega (arith, at-long c _ _ (getD ds k noDescriptor) r, cost-least (getD ds k noDescriptor .layout) (getD ds k noDescriptor .volume)))
+
+  name-at : (p : ℕ) → descriptorAt c p .name ≡ part c (512 * p + 24) 16
+  unfolding descriptorAt
+  name-at p = refl
+
+  pub found-descriptor : (k : ℕ) → k < n → (name : List ℕ) → name ≡ part c (512 * getD starts k 0 + 24) 16 → (next : Physical) → next ≡ physical (pick (eqb (k + 1) n) 0 (getD starts (k + 1) 0))
+      → record { layout = active .layout; volume = active .volume; alpha = physical (getD starts k 0); beta = physical (getD starts (k + 1) 0); next = next; name = name } ≡ descriptorAt c (getD starts k 0)
+  found-descriptor k h name named next links =
+      let d = getD ds k noDescriptor in
+      let r = region-of k h in
+      let a = active-region in
+      let first = descriptorAt c 0 in
+      let k-next : d .next .0 ≡ pick (eqb (k + 1) n) 0 (getD starts (k + 1) 0) = linked-next linked k (omega (arith, regions-are .1)) ∙ rw (add-one, regions-are .1, start-at (suc k) (omega arith)) in
+      sym (descriptor-equal d _ _ _ _ _
+      (region-layout first (blockCount c) _ d (r .region) ∙ sym (region-layout first (blockCount c) _ active (a .region)))
+      (region-volume first (blockCount c) _ d (r .region) ∙ sym (region-volume first (blockCount c) _ active (a .region)))
+      (ap physical (at-alpha c _ _ d r))
+      (ap physical (rw add-one (r .beta)))
+      (ap physical k-next ∙ sym links)
+      name
+      (ap (λ (x : Descriptor). x .name) (r .is) ∙ name-at (getD starts k 0) ∙ sym named))
+      ∙ r .is
 
 -- a sound chain has at most 256 descriptors, so that its starts fill 257 places
 few-by : (c : List ℕ) (f : ℕ) (es ds : List Descriptor) (d : Descriptor) (p : ℕ) (s z : Bool) (rest : Chain) → (rest ≡ Sound ds → length ds ≤ length (es ++ (d ∷ [])) + f)

@@ -5,8 +5,8 @@ use Prim.Native.Nat.{ℕ, zero, suc, _+_, _*_, _-_, _/_}
 use lib.ListN.{replicate}
 use lib.Dec.{eqb}
 use Rattle.blocks.specs.Pick.{pick, allZero}
-use Rattle.blocks.specs.Bytes.{blockSize, part, u32At, le32, blockAt, Store, store}
-use Rattle.blocks.specs.Name.{noName}
+use Rattle.blocks.specs.Bytes.{blockSize, zeroBlock, part, u32At, le32, blockAt, Store, store}
+use Rattle.blocks.specs.Name.{nameSize, noName}
 use Rattle.blocks.specs.declared.numbers.Physical.{Physical}
 use Rattle.blocks.specs.declared.descriptor.Descriptor.{Descriptor}
 
@@ -54,7 +54,7 @@ descriptorAt c p =
       alpha = physical (u32At c (blockSize * p + 12));
       beta = physical (u32At c (blockSize * p + 16));
       next = physical (u32At c (blockSize * p + 20));
-      name = part c (blockSize * p + 24) 16;
+      name = part c (blockSize * p + 24) nameSize;
     }
 
 -- bytes 0 to 39 of its block
@@ -105,7 +105,7 @@ noDescriptor = firstOf 0 0 noName
 -- stores of zeros to the n blocks from block p, rising
 unfoldable pub clearing : ℕ → ℕ → List Store
 clearing p zero = []
-clearing p (suc n) = store p (replicate blockSize 0) ∷ clearing (suc p) n
+clearing p (suc n) = store p zeroBlock ∷ clearing (suc p) n
 
 -- stores of copies of the n blocks from block from to those from block p, rising
 unfoldable pub copying : List ℕ → ℕ → ℕ → ℕ → List Store

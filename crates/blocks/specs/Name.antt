@@ -1,10 +1,11 @@
 -- Names: sixteen bytes, 1 to 16 of `a-z`, `0-9`, `.`, `-`, then zero bytes; and how a text becomes such sixteen bytes.
 use mathlib.Core.Bool.{Bool, _&&_, _||_}
 use mathlib.Core.List.{List, [], _∷_, _++_}
-use Prim.Native.Nat.{ℕ, zero, suc, _-_}
+use Prim.Native.Nat.{ℕ, zero, suc, _+_, _-_, _%_}
 use lib.ListN.{length, drop, replicate}
 use lib.Dec.{eqb, ltb, leb}
 use Rattle.blocks.specs.Pick.{pick, allZero}
+use Rattle.blocks.specs.Bytes.{u64At}
 
 -- bytes in a name
 abbrev pub nameSize : ℕ
@@ -34,3 +35,10 @@ isText t = ltb 0 (length t) && leb (length t) nameSize && eqb (nameLength t) (le
 -- any text as sixteen bytes: the text and zeros after it, or sixteen zeros where it is too long, empty or has another byte in it
 unfoldable pub padded : List ℕ → List ℕ
 padded t = pick (isText t) (t ++ replicate (nameSize - length t) 0) noName
+
+-- a number for sixteen bytes, one of keyCount, by which the walk in code tells most names apart
+abbrev pub keyCount : ℕ
+keyCount = 2048
+
+unfoldable pub keyOf : List ℕ → ℕ
+keyOf n = (u64At n 0 % 2039 + u64At n 8 % 2029) % keyCount

@@ -5,18 +5,21 @@ use crate::descriptor::Descriptor;
 use crate::name;
 use crate::numbers::Physical;
 ghost use mathlib.Core.Path.{_≡_};
+ghost use mathlib.Core.Bool.{true};
 ghost use Prim.Native.Nat.{ℕ, _+_, _*_, _≤_, _<_};
 ghost use lib.ListN.{length, take, getD};
-ghost use Rattle.blocks.specs.Pick.{same};
+ghost use lib.Dec.{eqb};
+ghost use Rattle.blocks.specs.Pick.{pick, same};
 ghost use Rattle.blocks.specs.Bytes.{part};
-ghost use Rattle.blocks.specs.Descriptor.{mark, descriptorAt, reservedOk};
-ghost use Rattle.blocks.specs.Chain.{formOk, regionOk, named, descriptorsAt, chain, regionsOf, Unsound};
+ghost use Rattle.blocks.specs.Descriptor.{physical, mark, descriptorAt, reservedOk};
+ghost use Rattle.blocks.specs.Chain.{formOk, regionOk, named, descriptorsAt, chain, regionsOf, Unsound, Keyed};
 
-// What a walk along the chain finds. Where every descriptor is sound, region k of the chain runs from block `starts[k]`
-// up to `starts[k + 1]`, for k below `count`; otherwise `place` is the block of the unsound descriptor.
+// What a walk along the chain finds. Where every descriptor is sound, `active` is the last, and region k of the chain runs
+// from block `starts[k]` up to `starts[k + 1]`, for k below `count`; otherwise `place` is the block of the unsound descriptor.
 pub struct Regions {
     pub sound: bool,
     pub place: Physical,
+    pub active: Descriptor,
     pub count: usize,
     pub starts: [u32; 257],
 }
@@ -138,12 +141,32 @@ pub fn is_named(card: &[u8], starts: &[u32], k: usize, name: [u8; 16]) -> bool
     false
 }
 
+// The same, where `keys` has a flag for the key of each of their names: a key without one is of no name among them.
+pub fn is_repeated(card: &[u8], starts: &[u32], k: usize, keys: &[bool], name: [u8; 16]) -> bool
+    requires { ⌜ Keyed (now card) (now starts) k (now keys) × (k ≤ length (now starts)) × ((j : ℕ) → j < k → 512 * getD (now starts) j 0 + 512 ≤ length (now card)) ⌝ }
+    ensures { λ r. ⌜ r ≡ named (descriptorsAt (now (card .entry)) (take k (now (starts .entry)))) name ⌝ }
+{
+    let key = name::key(name);
+    if !keys[key] {
+        return false;
+    }
+    is_named(card, starts, k, name)
+}
+
 fn unsound(p: u32) -> Regions
     ensures { λ r. ⌜ r ≡ regionsOf (Unsound p) ⌝ }
 {
     Regions {
         sound: false,
         place: Physical(p),
+        active: Descriptor {
+            layout: 0,
+            volume: 0,
+            alpha: Physical(0),
+            beta: Physical(1),
+            next: Physical(0),
+            name: [0u8; 16],
+        },
         count: 0,
         starts: [0u32; 257],
     }
@@ -160,6 +183,7 @@ pub fn walk_chain(card: &[u8]) -> Regions
     let first = descriptor::read_descriptor(card, Physical(0));
     let mut d = first;
     let mut starts = [0u32; 257];
+    let mut keys = [false; 2048];
     let mut p: u32 = 0;
     let mut k: usize = 0;
     while k < 256 {
@@ -170,9 +194,10 @@ pub fn walk_chain(card: &[u8]) -> Regions
             return unsound(p);
         }
         let name = d.name;
-        if is_named(card, &starts, k, name) {
+        if is_repeated(card, &starts, k, &keys, name) {
             return unsound(p);
         }
+        keys[name::key(name)] = true;
         let beta = d.beta.0;
         let next = d.next.0;
         k += 1;
@@ -181,6 +206,7 @@ pub fn walk_chain(card: &[u8]) -> Regions
             return Regions {
                 sound: true,
                 place: Physical(0),
+                active: d,
                 count: k,
                 starts,
             };
@@ -189,4 +215,40 @@ pub fn walk_chain(card: &[u8]) -> Regions
         d = descriptor::read_descriptor(card, Physical(p));
     }
     unsound(p)
+}
+
+// The next of region `k` of `count`, which ends at block `end`.
+fn next_of(end: u32, k: usize, count: usize) -> Physical
+    requires { ⌜ k < count ⌝ }
+    ensures { λ r. ⌜ r ≡ physical (pick (eqb (k + 1) count) 0 end) ⌝ }
+{
+    if k + 1 == count {
+        return Physical(0);
+    }
+    Physical(end)
+}
+
+// The descriptor of region `k`, by what the walk found: of its bytes the name alone is read again.
+pub fn descriptor_of(
+    card: &[u8],
+    active: Descriptor,
+    starts: &[u32],
+    count: usize,
+    k: usize,
+) -> Descriptor
+    requires { ⌜ (regionsOf (chain (now card)) ≡ record { sound = true; place = physical 0; active = active; count = count; starts = now starts }) × (k < count) ⌝ }
+    ensures { λ r. ⌜ r ≡ descriptorAt (now (card .entry)) (getD (now (starts .entry)) k 0) ⌝ }
+{
+    let start = starts[k];
+    let end = starts[k + 1];
+    let mut name = [0u8; 16];
+    bytes::get_bytes(card, 512 * (start as usize) + 24, &mut name);
+    Descriptor {
+        layout: active.layout,
+        volume: active.volume,
+        alpha: Physical(start),
+        beta: Physical(end),
+        next: next_of(end, k, count),
+        name,
+    }
 }

@@ -1,10 +1,9 @@
 // Names: sixteen bytes by value, judged, compared and made of a text.
 use crate::bytes;
 ghost use mathlib.Core.Path.{_≡_};
-ghost use Prim.Native.Nat.{_≤_};
+ghost use Prim.Native.Nat.{_≤_, _<_};
 ghost use lib.ListN.{length};
-ghost use Rattle.blocks.specs.Pick.{same};
-ghost use Rattle.blocks.specs.Name.{nameByte, nameLength, isName, padded};
+ghost use Rattle.blocks.specs.Name.{nameByte, nameLength, isName, padded, keyCount, keyOf};
 
 // Whether a name may have the byte.
 pub fn is_name_byte(b: u8) -> bool
@@ -64,13 +63,6 @@ pub fn is_name(name: [u8; 16]) -> bool
     are_name(&name)
 }
 
-// Whether two names are the same.
-pub fn same_name(a: [u8; 16], b: [u8; 16]) -> bool
-    ensures { λ r. ⌜ r ≡ same a b ⌝ }
-{
-    bytes::same_bytes(&a, &b)
-}
-
 // Any text as sixteen bytes: padded with zeros, or sixteen zeros where it is no name.
 pub fn pad_name(text: &[u8]) -> [u8; 16]
     ensures { λ r. ⌜ r ≡ padded (now (text .entry)) ⌝ }
@@ -87,4 +79,14 @@ pub fn pad_name(text: &[u8]) -> [u8; 16]
     }
     bytes::put_bytes(&mut name, 0, text);
     name
+}
+
+// A number for sixteen bytes: bytes that have different numbers differ.
+pub fn key(name: [u8; 16]) -> usize
+    ensures { λ r. ⌜ r ≡ keyOf name ⌝ }
+    ensures { λ r. ⌜ r < keyCount ⌝ }
+{
+    let first = bytes::get_u64(&name, 0) % 2039;
+    let second = bytes::get_u64(&name, 8) % 2029;
+    ((first + second) % 2048) as usize
 }

@@ -10,30 +10,21 @@ use lib.Dec.{eqb, ltb}
 use borrow.Author.Tests.{eqb-true, ltb-false}
 use Rattle.blocks.specs.Bytes.{blockCount}
 use Rattle.blocks.specs.Descriptor.{physical, noDescriptor, descriptorAt}
-use Rattle.blocks.specs.Chain.{Chain, Unsound, Sound, chain, chainSound, chainPlace, descriptors, descriptorsAt, startsOf, regionsOf}
+use Rattle.blocks.specs.Chain.{Chain, Unsound, Sound, chain, chainSound, chainPlace, descriptors, descriptorsAt, startsOf, regionsOf, activeOf}
 use Rattle.blocks.specs.declared.descriptor.Descriptor.{Descriptor}
 use Rattle.blocks.specs.declared.chain.Regions.{Regions}
 use Rattle.blocks.proofs.ChainLaws.{region-volume}
-use Rattle.blocks.proofs.LinkedLaws.{Linked, chain-linked, regions-sound, starts-take, linked-some, chain-few, starts-full, at-alpha}
+use Rattle.blocks.proofs.LinkedLaws.{Linked, chain-linked, regions-sound, starts-take, linked-some, chain-few, starts-full, at-alpha, active-at}
 use Rattle.entries.specs.Through.{Through}
 use Rattle.entries.proofs.RegionLaws.{through-at, through-region, through-rising}
 use Rattle.entries.proofs.EntryLaws.{through-alpha}
-use Rattle.calls.specs.Parts.{areaBad, activeOf, snapshotsOf}
+use Rattle.calls.specs.Parts.{areaBad, snapshotsOf}
 
--- the last of a list, and the others
-pub active-last : (d : Descriptor) (ds : List Descriptor) → activeOf (d ∷ ds) ≡ getD (d ∷ ds) (length ds) noDescriptor
-unfolding activeOf
-active-last d [] = refl
-active-last d (e ∷ ds) = active-last e ds
-
+-- all but the last of a list
 pub snapshots-take : (d : Descriptor) (ds : List Descriptor) → snapshotsOf (d ∷ ds) ≡ take (length ds) (d ∷ ds)
 unfolding snapshotsOf
 snapshots-take d [] = refl
 snapshots-take d (e ∷ ds) = ap (λ (xs : List Descriptor). d ∷ xs) (snapshots-take e ds)
-
-pub active-at : (ds : List Descriptor) → 0 < length ds → activeOf ds ≡ getD ds (length ds - 1) noDescriptor
-active-at [] h = absurd (omega arith)
-active-at (d ∷ ds) h = let e : suc (length ds) - 1 ≡ length ds = omega arith in active-last d ds ∙ rw e
 
 pub snapshots-at : (ds : List Descriptor) → 0 < length ds → snapshotsOf ds ≡ take (length ds - 1) ds
 snapshots-at [] h = absurd (omega arith)
@@ -49,7 +40,7 @@ regions-fault (Sound ds) r e h =
     absurd (omega arith)
 
 pub regions-whole : (ch : Chain) (r : Regions) → r ≡ regionsOf ch → r .sound ≡ true
-    → (chainSound ch ≡ true) × (regionsOf ch ≡ record { sound = true; place = physical 0; count = r .count; starts = r .starts })
+    → (chainSound ch ≡ true) × (regionsOf ch ≡ record { sound = true; place = physical 0; active = r .active; count = r .count; starts = r .starts })
 unfolding regionsOf chainSound
 regions-whole (Sound ds) r e h = (refl, rw e)
 regions-whole (Unsound p) r e h =
@@ -93,8 +84,8 @@ module _ (c : List ℕ) (r : Regions) (is : r ≡ regionsOf (chain c)) where
     abbrev ds : List Descriptor
     ds = descriptors (chain c)
 
-    regions-are : (chain c ≡ Sound ds) × (r .count ≡ length ds) × (r .starts ≡ startsOf ds)
-    regions-are = regions-sound (chain c) (r .count) (r .starts) (regions-whole (chain c) r is ok .1)
+    regions-are : (chain c ≡ Sound ds) × (r .count ≡ length ds) × (r .starts ≡ startsOf ds) × (r .active ≡ activeOf ds)
+    regions-are = regions-sound (chain c) (r .active) (r .count) (r .starts) (regions-whole (chain c) r is ok .1)
 
     linked : Linked c [] 0 ds
     linked = chain-linked c ds (regions-are .0)
@@ -113,7 +104,7 @@ module _ (c : List ℕ) (r : Regions) (is : r ≡ regionsOf (chain c)) where
 
     -- the descriptor of region k, and where its blocks stand
     pub card-through : (k : ℕ) → k < r .count → (d : Descriptor) → d ≡ descriptorAt c (getD (r .starts) k 0) → Through c (r .starts) (r .count) d
-    card-through k h d e = record { small = card-small c area; regions = regions-whole (chain c) r is ok .1; index = k; inside = h; is = e }
+    card-through k h d e = record { small = card-small c area; active = r .active; regions = regions-whole (chain c) r is ok .1; index = k; inside = h; is = e }
 
     pub card-at : (k : ℕ) → k < r .count → getD ds k noDescriptor ≡ descriptorAt c (getD (r .starts) k 0)
     card-at k h = through-at c (r .starts) (r .count) _ (card-through k h (descriptorAt c (getD (r .starts) k 0)) refl) k h .is
@@ -131,21 +122,17 @@ module _ (c : List ℕ) (r : Regions) (is : r ≡ regionsOf (chain c)) where
     card-long = let d = descriptorAt c (getD (r .starts) 0 0) in omega (arith, through-rising c (r .starts) (r .count) d (card-through 0 card-some d refl) .long)
 
     -- the active descriptor is the last, the snapshots are those before it
-    pub card-active : (d : Descriptor) → d ≡ descriptorAt c (getD (r .starts) (r .count - 1) 0) → d ≡ activeOf ds
-    card-active d e =
-        e ∙ sym (card-at (r .count - 1) (omega (arith, card-some)))
-        ∙ ap (λ (n : ℕ). getD ds (n - 1) noDescriptor) card-count
-        ∙ sym (active-at ds (linked-some linked))
+    pub card-found : r .active ≡ activeOf ds
+    card-found = regions-are .3
 
-    -- L is one for all descriptors
-    pub card-volume : (k : ℕ) → k < r .count → (d : Descriptor) → d ≡ descriptorAt c (getD (r .starts) k 0) → d .volume ≡ activeOf ds .volume
-    card-volume k h d e =
-        let last = descriptorAt c (getD (r .starts) (r .count - 1) 0) in
-        let one = through-region c (r .starts) (r .count) d (card-through k h d e) in
-        let other = through-region c (r .starts) (r .count) last (card-through (r .count - 1) (omega (arith, card-some)) last refl) in
-        region-volume (descriptorAt c 0) (blockCount c) _ d (one .region)
-        ∙ sym (region-volume (descriptorAt c 0) (blockCount c) _ last (other .region))
-        ∙ ap (λ (x : Descriptor). x .volume) (card-active last refl)
+    pub card-whole : regionsOf (chain c) ≡ record { sound = true; place = physical 0; active = r .active; count = r .count; starts = r .starts }
+    card-whole = regions-whole (chain c) r is ok .1
+
+    pub card-active : r .active ≡ descriptorAt c (getD (r .starts) (r .count - 1) 0)
+    card-active =
+        card-found ∙ active-at ds (linked-some linked)
+        ∙ ap (λ (n : ℕ). getD ds (n - 1) noDescriptor) (sym card-count)
+        ∙ card-at (r .count - 1) (omega (arith, card-some))
 
     pub card-snapshots : descriptorsAt c (take (r .count - 1) (r .starts)) ≡ snapshotsOf ds
     card-snapshots =

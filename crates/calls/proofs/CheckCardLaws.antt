@@ -1,14 +1,14 @@
 -- Laws of the check of a card, as the code asks them.
 use mathlib.Core.Path.{_≡_, refl, sym, _∙_}
 use mathlib.Core.Bool.{Bool, true, false, not}
-use mathlib.Core.List.{List}
-use Prim.Native.Nat.{ℕ, _+_, _*_, _≤_, _<_}
+use mathlib.Core.List.{List, []}
+use Prim.Native.Nat.{ℕ, _+_, _*_, _-_, _≤_, _<_}
 use native.Mathlib.Numerals.{add-one}
 use native.Mathlib.Omega.{arith}
 use lib.ListN.{length, drop, getD, drop-of-length-le}
 use lib.Seq.{drop-cons}
 use borrow.Author.Tests.{not-true, not-false}
-use Rattle.blocks.specs.Descriptor.{physical, noDescriptor, descriptorAt}
+use Rattle.blocks.specs.Descriptor.{physical, noDescriptor, costOf, descriptorAt}
 use Rattle.blocks.specs.Chain.{chain, descriptors, regionsOf}
 use Rattle.blocks.specs.declared.numbers.Physical.{Physical}
 use Rattle.blocks.specs.declared.descriptor.Descriptor.{Descriptor}
@@ -17,31 +17,49 @@ use Rattle.entries.specs.Through.{Through}
 use Rattle.entries.specs.Naming.{checkOne}
 use Rattle.entries.specs.declared.check.Verdict.{Verdict}
 use Rattle.entries.specs.declared.check.Verdict.the-variants.{Passed, Fault}
+use Rattle.entries.specs.Marks.{openingsFlagged, nextTurn, nextFlags, Marks, CheckReady}
+use Rattle.entries.proofs.OpeningLaws.{openings-ask, openings-marked, turn-marked}
 use Rattle.calls.specs.Call.{Check, answer, accepted}
 use Rattle.calls.specs.Parts.{areaBad}
 use Rattle.calls.specs.Check.{orElse, checkAll, checkCard, isFault, faultHolder}
 use Rattle.calls.specs.Ladder.{firstRow, checkRows, rowsOf, answerOf}
-use Rattle.calls.proofs.CardLaws.{card-fault, card-sound, card-count, card-at, card-inside, card-long, card-through}
+use Rattle.calls.proofs.CardLaws.{card-few, card-some, card-fault, card-sound, card-count, card-at, card-active, card-through}
 
 -- the verdict with k of the descriptors passed
 unfoldable pub checkFrom : List ℕ → ℕ → Verdict
 checkFrom c k = checkAll c (descriptors (chain c)) (drop k (descriptors (chain c)))
 
-module _ (c starts : List ℕ) (count : ℕ) (area : areaBad c ≡ false) (whole : regionsOf (chain c) ≡ record { sound = true; place = physical 0; count = count; starts = starts }) where
+module _ (c starts : List ℕ) (count : ℕ) (active : Descriptor) (area : areaBad c ≡ false) (whole : regionsOf (chain c) ≡ record { sound = true; place = physical 0; active = active; count = count; starts = starts }) where
   abbrev ds : List Descriptor
   ds = descriptors (chain c)
 
   abbrev regions : Regions
-  regions = record { sound = true; place = physical 0; count = count; starts = starts }
+  regions = record { sound = true; place = physical 0; active = active; count = count; starts = starts }
 
-  pub chain-inside : (k : ℕ) → k < count → 512 * getD starts k 0 + 512 ≤ length c
-  chain-inside k h = card-inside c regions (sym whole) area refl k h
-
-  pub chain-long : count ≤ length starts
-  chain-long = card-long c regions (sym whole) area refl
+  pub chain-few : count ≤ 256
+  chain-few = card-few c regions (sym whole) area refl
 
   pub chain-through : (k : ℕ) → k < count → (d : Descriptor) → d ≡ descriptorAt c (getD starts k 0) → Through c starts count d
   chain-through k h d e = card-through c regions (sym whole) area refl k h d e
+
+  -- the active descriptor, whose opening is as long as every other
+  active-through : Through c starts count active
+  active-through = chain-through (count - 1) (omega (arith, card-some c regions (sym whole) area refl)) active (card-active c regions (sym whole) area refl)
+
+  -- the flags: those of the openings at the start, and what is asked of them in each turn
+  module _ (cost : ℕ) (cost-is : cost ≡ costOf active) where
+    pub chain-ask : (n : ℕ) → length c ≤ 512 * n → (count ≤ length starts) × ((k : ℕ) → k < count → getD starts k 0 + cost ≤ n)
+    chain-ask = openings-ask c starts count active active-through cost cost-is
+
+    pub chain-marked : (seen : List ℕ) → length c ≤ 512 * length seen → ((v : ℕ) → getD seen v 0 ≡ 0) → (seen′ : List ℕ) → seen′ ≡ openingsFlagged seen starts cost count → Marks ds 1 seen′ []
+    chain-marked seen long clear = openings-marked c starts count active active-through seen long clear cost cost-is
+
+    pub chain-next : (turn : ℕ) (seen : List ℕ) → length c ≤ 512 * length seen → (v : Verdict) → (v ≡ Passed → turn < 255 → Marks ds (turn + 1) seen []) → v ≡ Passed
+        → (turn′ : ℕ) (seen′ : List ℕ) → (turn′ ≡ nextTurn turn) × (seen′ ≡ nextFlags seen starts cost count turn) → Marks ds turn′ seen′ []
+    chain-next turn seen long v marks e = turn-marked c starts count active active-through cost cost-is turn seen long (marks e)
+
+  pub chain-ready : (k : ℕ) → k < count → (d : Descriptor) → d ≡ descriptorAt c (getD starts k 0) → (turn : ℕ) (seen : List ℕ) → length c ≤ 512 * length seen → Marks ds turn seen [] → CheckReady c d turn seen
+  chain-ready k h d e turn seen long marks = record { starts = starts; count = count; through = chain-through k h d e; flags = long; marks = marks }
 
   pub check-start : checkCard c ≡ checkFrom c 0
   unfolding checkCard checkFrom

@@ -9,29 +9,30 @@ use lib.Seq.{length-take-le}
 use lib.Dec.{eqb}
 use borrow.Author.Tests.{eq-eqb, ne-eqb, lt-ltb, le-ltb, le-leb, lt-leb, eqb-true, eqb-false, not-true, not-false}
 use Rattle.blocks.specs.Pick.{pick, same}
-use Rattle.blocks.specs.Bytes.{blockAt, zeroBlock, splice, storeAll}
+use Rattle.blocks.specs.Bytes.{blockCount, blockAt, zeroBlock, splice, storeAll}
 use Rattle.blocks.specs.Name.{isName}
 use Rattle.blocks.specs.Descriptor.{descriptorAt}
-use Rattle.blocks.specs.Chain.{chain, descriptors, named, descriptorsAt, regionsOf}
+use Rattle.blocks.specs.Chain.{chain, descriptors, named, descriptorsAt, regionsOf, activeOf}
 use Rattle.blocks.specs.declared.numbers.Physical.{Physical}
 use Rattle.blocks.specs.declared.descriptor.Descriptor.{Descriptor}
 use Rattle.blocks.specs.declared.chain.Regions.{Regions}
 use Rattle.blocks.proofs.ByteLaws.{splice-whole}
-use Rattle.blocks.proofs.ChainLaws.{length-descriptors}
+use Rattle.blocks.proofs.ChainLaws.{length-descriptors, region-volume}
 use Rattle.entries.specs.Entry.{find}
+use Rattle.entries.proofs.RegionLaws.{through-region}
 use Rattle.entries.specs.declared.find.Found.{Found}
 use Rattle.entries.specs.declared.find.Found.the-variants.{Misplaced, Entry}
 use Rattle.calls.specs.declared.answer.Answer.{Answer}
 use Rattle.calls.specs.declared.answer.Target.{Target}
 use Rattle.calls.specs.declared.answer.Target.the-variants.{Active, Snapshot}
 use Rattle.calls.specs.Call.{Call, Read, Block, answer, accepted}
-use Rattle.calls.specs.Parts.{areaBad, activeOf, snapshotsOf, indexOf, isSnapshot, targetOf, targetIndex, isMisplaced, holderOf, blockFound}
+use Rattle.calls.specs.Parts.{areaBad, snapshotsOf, indexOf, isSnapshot, targetOf, targetIndex, isMisplaced, holderOf, blockFound}
 use Rattle.calls.specs.Ladder.{firstRow, readRows, rowsOf, answerOf}
 use Rattle.calls.specs.Effect.{Delivered, delivered, lentOf, filledOf, storesOf}
 use Rattle.calls.specs.Step.{Done, step}
 use Rattle.calls.proofs.NamedLaws.{named-index, with-name-index}
 use Rattle.calls.proofs.StepLaws.{step-refused, step-accepted}
-use Rattle.calls.proofs.CardLaws.{card-fault, card-sound, card-some, card-snapshots, card-snapshot-count, card-snapshot, card-active, card-volume}
+use Rattle.calls.proofs.CardLaws.{card-fault, card-sound, card-some, card-snapshots, card-snapshot-count, card-snapshot, card-found, card-active, card-through}
 
 -- the index of what is read
 pub snapshots-counted : (c starts : List ℕ) (n : ℕ) → n ≤ length starts → length (descriptorsAt c (take n starts)) ≡ n
@@ -147,7 +148,7 @@ module _ (c : List ℕ) (target : Target) (name : List ℕ) (l : ℕ) (block : L
           unfolding targetOf targetIndex
           place-of Active e n =
               let q : k ≡ r .count - 1 = omega (arith, card-snapshot-count c r walked good ok) in
-              (omega (arith, card-some c r walked good ok), rw q (sym (card-active c r walked good ok (descriptorAt c (getD (r .starts) (r .count - 1) 0)) refl)))
+              (omega (arith, card-some c r walked good ok), rw q (sym (card-found c r walked good ok) ∙ card-active c r walked good ok))
           place-of Snapshot e n =
               let f = found-index (snapshotsOf ds) name (λ h. n (e ∙ h ∙ count-is)) in
               let q : k ≡ indexOf (snapshotsOf ds) name = e ∙ f .1 in
@@ -157,25 +158,31 @@ module _ (c : List ℕ) (target : Target) (name : List ℕ) (l : ℕ) (block : L
           pub index-inside : (k ≡ r .count → ⊥) → k < r .count
           index-inside n = place-of target index-is n .0
 
-          module _ (some : k ≡ r .count → ⊥) (d : Descriptor) (d-is : d ≡ descriptorAt c (getD (r .starts) k 0)) where
-            target-is : targetOf ds target name ≡ d
-            target-is = place-of target index-is some .1 ∙ sym d-is
+          module _ (some : k ≡ r .count → ⊥) where
+            active-is : activeOf ds ≡ r .active
+            active-is = sym (card-found c r walked good ok)
 
-            volume-is : activeOf ds .volume ≡ d .volume
-            volume-is = sym (card-volume c r walked good ok k (index-inside some) d d-is)
-
-            pub read-8 : d .volume ≤ l → answerOf call c ≡ answer 8 0
+            pub read-8 : r .active .volume ≤ l → answerOf call c ≡ answer 8 0
             unfolding answerOf rowsOf readRows firstRow
-            read-8 h = rw (← area, card, ← unnamed, called, eq-eqb (length block) 512 long, card-sound c r walked ok, missing, ne-eqb k (r .count) some, volume-is, le-leb (d .volume) l h)
+            read-8 h = rw (← area, card, ← unnamed, called, eq-eqb (length block) 512 long, card-sound c r walked ok, missing, ne-eqb k (r .count) some, active-is, le-leb (r .active .volume) l h)
 
-            module _ (below : l < d .volume) where
+            module _ (below : l < r .active .volume) (d : Descriptor) (d-is : d ≡ descriptorAt c (getD (r .starts) k 0)) where
+              target-is : targetOf ds target name ≡ d
+              target-is = place-of target index-is some .1 ∙ sym d-is
+
+              pub read-below : l < d .volume
+              read-below =
+                  let one = through-region c (r .starts) (r .count) d (card-through c r walked good ok k (index-inside some) d d-is) in
+                  let other = through-region c (r .starts) (r .count) (r .active) (card-through c r walked good ok (r .count - 1) (omega (arith, card-some c r walked good ok)) (r .active) (card-active c r walked good ok)) in
+                  omega (arith, region-volume (descriptorAt c 0) (blockCount c) _ d (one .region), region-volume (descriptorAt c 0) (blockCount c) _ (r .active) (other .region))
+
               abbrev found : Found
               found = find c ds d l
 
               rest : answerOf call c ≡ pick (isMisplaced found) (answer 10 (holderOf found)) accepted
               unfolding answerOf rowsOf readRows firstRow
               rest =
-                  rw (← area, card, ← unnamed, called, eq-eqb (length block) 512 long, card-sound c r walked ok, missing, ne-eqb k (r .count) some, volume-is, lt-leb (d .volume) l below, target-is)
+                  rw (← area, card, ← unnamed, called, eq-eqb (length block) 512 long, card-sound c r walked ok, missing, ne-eqb k (r .count) some, active-is, lt-leb (r .active .volume) l below, target-is)
 
               done-by : (t : Bool) → isMisplaced found ≡ t → (a : Answer) (out : List ℕ)
                   → _≡_ {A = Delivered} (record { answer = a; block = out }) (pick t (record { answer = answer 10 (holderOf found); block = block }) (record { answer = accepted; block = blockFound c found }))

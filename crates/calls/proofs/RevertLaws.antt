@@ -10,16 +10,16 @@ use borrow.Author.Tests.{lt-ltb, le-ltb, not-true, not-false}
 use Rattle.blocks.specs.Bytes.{storeBlock, storeAll}
 use Rattle.blocks.specs.Name.{isName}
 use Rattle.blocks.specs.Descriptor.{physical, descriptorAt, tailAt, descriptorBlock, renamedOf, linkedOf}
-use Rattle.blocks.specs.Chain.{chain, descriptors, named, descriptorsAt, regionsOf}
+use Rattle.blocks.specs.Chain.{chain, descriptors, named, descriptorsAt, regionsOf, activeOf}
 use Rattle.blocks.specs.declared.descriptor.Descriptor.{Descriptor}
 use Rattle.blocks.specs.declared.chain.Regions.{Regions}
 use Rattle.calls.specs.Call.{Revert, answer, accepted}
-use Rattle.calls.specs.Parts.{areaBad, activeOf, snapshotsOf, withName, indexOf}
+use Rattle.calls.specs.Parts.{areaBad, snapshotsOf, withName, indexOf}
 use Rattle.calls.specs.Ladder.{firstRow, revertRows, rowsOf, answerOf}
 use Rattle.calls.specs.Effect.{reverting, storesOf}
 use Rattle.calls.proofs.NamedLaws.{named-index, with-name-index}
 use Rattle.calls.proofs.StepLaws.{stored-one}
-use Rattle.calls.proofs.CardLaws.{card-fault, card-sound, card-snapshots, card-snapshot-count, card-snapshot, card-alpha, card-at, card-active}
+use Rattle.calls.proofs.CardLaws.{card-fault, card-sound, card-snapshots, card-snapshot-count, card-snapshot, card-alpha, card-at, card-found}
 
 -- the rows of a revert, in the order of the code
 module _ (c : List ℕ) (name : List ℕ) (bad : Bool) (area : bad ≡ areaBad c) where
@@ -66,11 +66,14 @@ module _ (c : List ℕ) (name : List ℕ) (bad : Bool) (area : bad ≡ areaBad c
           alpha-is : descriptorAt c (getD (r .starts) k 0) .alpha .0 ≡ getD (r .starts) k 0
           alpha-is = ap (λ (d : Descriptor). d .alpha .0) (sym (card-at c r walked good ok k (omega arith))) ∙ card-alpha c r walked good ok k (omega arith)
 
-          active-is : activeOf (descriptors (chain c)) ≡ descriptorAt c (getD (r .starts) (r .count - 1) 0)
-          active-is = sym (card-active c r walked good ok (descriptorAt c (getD (r .starts) (r .count - 1) 0)) refl)
+          active-is : activeOf (descriptors (chain c)) ≡ r .active
+          active-is = sym (card-found c r walked good ok)
 
-          pub reverted : (c′ : List ℕ)
-              → c′ ≡ storeBlock c (getD (r .starts) k 0) (descriptorBlock (linkedOf (renamedOf (descriptorAt c (getD (r .starts) k 0)) (descriptorAt c (getD (r .starts) (r .count - 1) 0) .name)) (physical 0)) (tailAt c (getD (r .starts) k 0)))
+          pub reverted : (d : Descriptor) → d ≡ descriptorAt c (getD (r .starts) k 0) → (c′ : List ℕ)
+              → c′ ≡ storeBlock c (getD (r .starts) k 0) (descriptorBlock (linkedOf (renamedOf d (r .active .name)) (physical 0)) (tailAt c (getD (r .starts) k 0)))
               → c′ ≡ storeAll c (storesOf (Revert name) c)
           unfolding storesOf reverting
-          reverted c′ e = e ∙ sym (rw (snapshot-is, active-is, alpha-is) (stored-one c (getD (r .starts) k 0) (descriptorBlock (linkedOf (renamedOf (descriptorAt c (getD (r .starts) k 0)) (descriptorAt c (getD (r .starts) (r .count - 1) 0) .name)) (physical 0)) (tailAt c (getD (r .starts) k 0)))))
+          reverted d d-is c′ e =
+              e
+              ∙ rw d-is
+              (sym (rw (snapshot-is, active-is, alpha-is) (stored-one c (getD (r .starts) k 0) (descriptorBlock (linkedOf (renamedOf (descriptorAt c (getD (r .starts) k 0)) (r .active .name)) (physical 0)) (tailAt c (getD (r .starts) k 0))))))

@@ -22,7 +22,7 @@ use Rattle.calls.specs.Parts.{areaBad}
 use Rattle.calls.specs.Ladder.{firstRow, snapRows, rowsOf, answerOf}
 use Rattle.calls.specs.Effect.{snapping, storesOf}
 use Rattle.calls.proofs.StepLaws.{stored-append, stored-one}
-use Rattle.calls.proofs.CardLaws.{card-fault, card-sound, card-some, card-all, card-snapshot-count, card-active}
+use Rattle.calls.proofs.CardLaws.{card-fault, card-sound, card-some, card-all, card-snapshot-count, card-found}
 
 -- copies of blocks that stand before where they go
 copying-snoc : (c : List ℕ) (from to n : ℕ) → copying c from to (suc n) ≡ copying c from to n ++ (store (to + n) (blockAt c (from + n)) ∷ [])
@@ -147,11 +147,14 @@ module _ (c : List ℕ) (name : List ℕ) (bad : Bool) (area : bad ≡ areaBad c
           unfolding answerOf rowsOf snapRows firstRow
           snap-13 h = rw (← area, card, ← called, is-name, card-sound c r walked ok, used-is, unused, card-snapshot-count c r walked good ok, le-leb 255 (r .count - 1) (omega arith))
 
-          module _ (few : r .count ≤ 255) (d : Descriptor) (d-is : d ≡ descriptorAt c (getD (r .starts) (r .count - 1) 0)) (k : ℕ) (cost-is : k ≡ costOf d) where
+          module _ (few : r .count ≤ 255) (k : ℕ) (cost-is : k ≡ costOf (r .active)) where
+            abbrev d : Descriptor
+            d = r .active
+
             rest : answerOf (Snap name) c ≡ pick (ltb (blockCount c) (d .beta .0 + costOf d)) (answer 11 0) accepted
             unfolding answerOf rowsOf snapRows firstRow
             rest =
-                rw (← area, card, ← called, is-name, card-sound c r walked ok, used-is, unused, card-snapshot-count c r walked good ok, lt-leb 255 (r .count - 1) (omega (arith, card-some c r walked good ok)), card-active c r walked good ok d d-is)
+                rw (← area, card, ← called, is-name, card-sound c r walked ok, used-is, unused, card-snapshot-count c r walked good ok, lt-leb 255 (r .count - 1) (omega (arith, card-some c r walked good ok)), ← (card-found c r walked good ok))
 
             pub snap-11 : length c / 512 < d .beta .0 + k → answerOf (Snap name) c ≡ answer 11 0
             unfolding blockCount
@@ -163,4 +166,4 @@ module _ (c : List ℕ) (name : List ℕ) (bad : Bool) (area : bad ≡ areaBad c
 
             pub snap-stores : (c′ : List ℕ) → c′ ≡ storeAll c (snapping c d name) → c′ ≡ storeAll c (storesOf (Snap name) c)
             unfolding storesOf
-            snap-stores c′ e = e ∙ ap (λ (x : Descriptor). storeAll c (snapping c x name)) (card-active c r walked good ok d d-is)
+            snap-stores c′ e = e ∙ ap (λ (x : Descriptor). storeAll c (snapping c x name)) (card-found c r walked good ok)

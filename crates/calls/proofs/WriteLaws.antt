@@ -10,7 +10,7 @@ use borrow.Author.Tests.{eq-eqb, ne-eqb, lt-ltb, le-ltb, le-leb, lt-leb, eqb-fal
 use Rattle.blocks.specs.Pick.{pick}
 use Rattle.blocks.specs.Bytes.{store, blockCount, blockAt, storeBlock, storeAll}
 use Rattle.blocks.specs.Descriptor.{descriptorAt, tailAt}
-use Rattle.blocks.specs.Chain.{chain, descriptors, regionsOf}
+use Rattle.blocks.specs.Chain.{chain, descriptors, regionsOf, activeOf}
 use Rattle.blocks.specs.declared.numbers.Physical.{Physical}
 use Rattle.blocks.specs.declared.descriptor.Descriptor.{Descriptor}
 use Rattle.blocks.specs.declared.chain.Regions.{Regions}
@@ -24,12 +24,12 @@ use Rattle.entries.specs.declared.find.Found.the-variants.{Misplaced, Entry}
 use Rattle.entries.proofs.EntryLaws.{through-beta, through-end, through-volume, found-table, found-entry}
 use Rattle.calls.specs.declared.answer.Answer.{Answer}
 use Rattle.calls.specs.Call.{Call, Write, Block, answer, accepted}
-use Rattle.calls.specs.Parts.{areaBad, activeOf, isMisplaced, holderOf}
+use Rattle.calls.specs.Parts.{areaBad, isMisplaced, holderOf}
 use Rattle.calls.specs.Ladder.{firstRow, writeRows, rowsOf, answerOf}
 use Rattle.calls.specs.Effect.{Written, written, WriteReady, lentOf, filledOf, storesOf}
 use Rattle.calls.specs.Step.{Done, step}
 use Rattle.calls.proofs.StepLaws.{step-refused, step-accepted}
-use Rattle.calls.proofs.CardLaws.{card-fault, card-sound, card-some, card-active, card-through, card-small}
+use Rattle.calls.proofs.CardLaws.{card-fault, card-sound, card-some, card-found, card-active, card-through, card-small}
 
 -- need, where a set entry is not overwritten, says whether the table block is new
 new-by : (s t : Bool) (n : ℕ) → n ≡ pick s 0 (pick t 2 1) → (n ≡ 0 → ⊥) → t ≡ eqb n 2
@@ -125,7 +125,10 @@ module _ (c : List ℕ) (l : ℕ) (block : List ℕ) (bad : Bool) (area : bad �
       unfolding answerOf rowsOf writeRows firstRow
       write-6 h = let f = card-fault c r walked (not-true (r .sound) h) in rw (← area, card, eq-eqb (length block) 512 long, f .0, f .1)
 
-      module _ (whole : not (r .sound) ≡ false) (d : Descriptor) (d-is : d ≡ descriptorAt c (getD (r .starts) (r .count - 1) 0)) where
+      module _ (whole : not (r .sound) ≡ false) where
+        abbrev d : Descriptor
+        d = r .active
+
         abbrev ds : List Descriptor
         ds = descriptors (chain c)
 
@@ -136,14 +139,14 @@ module _ (c : List ℕ) (l : ℕ) (block : List ℕ) (bad : Bool) (area : bad �
         ok = not-false (r .sound) whole
 
         active-is : activeOf ds ≡ d
-        active-is = sym (card-active c r walked good ok d d-is)
+        active-is = sym (card-found c r walked good ok)
+
+        pub write-through : Through c (r .starts) (r .count) d
+        write-through = card-through c r walked good ok (r .count - 1) (omega (arith, card-some c r walked good ok)) d (card-active c r walked good ok)
 
         pub write-8 : d .volume ≤ l → answerOf call c ≡ answer 8 0
         unfolding answerOf rowsOf writeRows firstRow
         write-8 h = rw (← area, card, eq-eqb (length block) 512 long, card-sound c r walked ok, active-is, le-leb (d .volume) l h)
-
-        through : Through c (r .starts) (r .count) d
-        through = card-through c r walked good ok (r .count - 1) (omega (arith, card-some c r walked good ok)) d d-is
 
         module _ (below : l < d .volume) (f : Found) (found-is : f ≡ find c ds d l) where
           rest : answerOf call c ≡ pick (isMisplaced f) (answer 10 (holderOf f)) (pick (ltb (blockCount c) (d .beta .0 + need (d .alpha .0) f)) (answer 11 0) accepted)
@@ -158,11 +161,11 @@ module _ (c : List ℕ) (l : ℕ) (block : List ℕ) (bad : Bool) (area : bad �
           write-ready m p e =
               record {
                 small = card-small c good;
-                region = omega (arith, through-beta c (r .starts) (r .count) d through, cost-least (d .layout) (d .volume));
-                upto = through-end c (r .starts) (r .count) d through;
-                table = found-table c (r .starts) (r .count) d through l below f found-is m p e;
-                entry = found-entry c (r .starts) (r .count) d through l f found-is m p e;
-                number = omega (arith, through-volume c (r .starts) (r .count) d through);
+                region = omega (arith, through-beta c (r .starts) (r .count) d write-through, cost-least (d .layout) (d .volume));
+                upto = through-end c (r .starts) (r .count) d write-through;
+                table = found-table c (r .starts) (r .count) d write-through l below f found-is m p e;
+                entry = found-entry c (r .starts) (r .count) d write-through l f found-is m p e;
+                number = omega (arith, through-volume c (r .starts) (r .count) d write-through);
                 whole = long;
               }
 

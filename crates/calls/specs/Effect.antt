@@ -8,12 +8,13 @@ use lib.Dec.{ltb}
 use Rattle.blocks.specs.Bytes.{blockSize, Store, store, blockCount, storeAll}
 use Rattle.blocks.specs.Descriptor.{physical, mostVolume, costOf, tailAt, descriptorBlock, renamedOf, linkedOf, reopenedOf, copying, opening}
 use Rattle.blocks.specs.declared.descriptor.Descriptor.{Descriptor}
+use Rattle.blocks.specs.Chain.{activeOf}
 use Rattle.entries.specs.Entry.{need, writing}
 use Rattle.entries.specs.declared.find.Found.{Found}
 use Rattle.calls.specs.declared.answer.Answer.{Answer}
 use Rattle.calls.specs.declared.answer.Record.{Record}
 use Rattle.calls.specs.Call.{Call, Ream, Read, Write, Snap, Revert, Listing, Check, Lent, None, Block, Records, answer, accepted}
-use Rattle.calls.specs.Parts.{descriptorsOf, activeOf, snapshotsOf, withName, targetOf, foundThrough, isMisplaced, holderOf, blockFound}
+use Rattle.calls.specs.Parts.{descriptorsOf, snapshotsOf, withName, targetOf, foundThrough, isMisplaced, holderOf, blockFound}
 
 -- a snapshot of the active descriptor d: the copy at beta, tables first and rising, then the old descriptor under the visit's name, linked to the copy
 unfoldable pub snapping : List ℕ → Descriptor → List ℕ → List Store

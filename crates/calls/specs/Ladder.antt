@@ -8,13 +8,13 @@ use Rattle.blocks.specs.Pick.{pick}
 use Rattle.blocks.specs.Bytes.{blockSize, blockCount}
 use Rattle.blocks.specs.Name.{isName}
 use Rattle.blocks.specs.Descriptor.{cost, costOf, mostVolume}
-use Rattle.blocks.specs.Chain.{chain, chainSound, chainPlace, named}
+use Rattle.blocks.specs.Chain.{chain, chainSound, chainPlace, named, activeOf}
 use Rattle.entries.specs.Entry.{need}
 use Rattle.calls.specs.declared.answer.Answer.{Answer}
 use Rattle.calls.specs.declared.answer.Target.{Target}
 use Rattle.calls.specs.declared.answer.Record.{Record}
 use Rattle.calls.specs.Call.{Call, Ream, Read, Write, Snap, Revert, Listing, Check, answer, accepted}
-use Rattle.calls.specs.Parts.{areaBad, descriptorsOf, activeOf, snapshotsOf, targetOf, isSnapshot, foundThrough, isMisplaced, holderOf, mostSnapshots}
+use Rattle.calls.specs.Parts.{areaBad, descriptorsOf, snapshotsOf, targetOf, isSnapshot, foundThrough, isMisplaced, holderOf, mostSnapshots}
 use Rattle.calls.specs.Check.{checkCard, isFault, faultHolder}
 
 -- a row: its condition, the number that it gives and the place

@@ -7,7 +7,7 @@ use lib.Dec.{eqb, ltb}
 use Rattle.blocks.specs.Pick.{pick, same}
 use Rattle.blocks.specs.Bytes.{blockSize, blockCount, blockAt, zeroBlock}
 use Rattle.blocks.specs.Descriptor.{noDescriptor}
-use Rattle.blocks.specs.Chain.{chain, descriptors}
+use Rattle.blocks.specs.Chain.{chain, descriptors, activeOf}
 use Rattle.blocks.specs.declared.descriptor.Descriptor.{Descriptor}
 use Rattle.entries.specs.Entry.{find}
 use Rattle.entries.specs.declared.find.Found.{Found}
@@ -32,13 +32,7 @@ areaBad c = not (eqb (length c % blockSize) 0) || ltb (blockCount c) fewestBlock
 abbrev pub descriptorsOf : List ℕ → List Descriptor
 descriptorsOf c = descriptors (chain c)
 
--- the last descriptor is active
-unfoldable pub activeOf : List Descriptor → Descriptor
-activeOf [] = noDescriptor
-activeOf (d ∷ []) = d
-activeOf (d ∷ e ∷ ds) = activeOf (e ∷ ds)
-
--- the others are snapshots
+-- the last descriptor is active, the others are snapshots
 unfoldable pub snapshotsOf : List Descriptor → List Descriptor
 snapshotsOf [] = []
 snapshotsOf (d ∷ []) = []

@@ -3,11 +3,13 @@ use crate::answer::Answer;
 use crate::area;
 use blocks::chain;
 use blocks::descriptor;
-use blocks::numbers::Physical;
+use blocks::descriptor::Descriptor;
 use entries::check as rules;
 use entries::check::Verdict;
 ghost use mathlib.Core.Path.{_≡_};
 ghost use mathlib.Core.Bool.{true, false};
+ghost use Prim.Native.Nat.{ℕ, _*_, _≤_};
+ghost use lib.ListN.{length, getD};
 ghost use Rattle.blocks.specs.Descriptor.{physical};
 ghost use Rattle.blocks.specs.Chain.{chain as chainOf, regionsOf};
 ghost use Rattle.calls.specs.Call.{Check, None};
@@ -15,22 +17,60 @@ ghost use Rattle.calls.specs.Parts.{areaBad};
 ghost use Rattle.calls.specs.Check.{checkCard};
 ghost use Rattle.calls.specs.Step.{step};
 
-// The verdict on the descriptors of a sound chain, in chain order.
-fn check_chain(card: &[u8], starts: &[u32], count: usize) -> Verdict
-    requires { ⌜ (areaBad (now card) ≡ false) × (regionsOf (chainOf (now card)) ≡ record { sound = true; place = physical 0; count = count; starts = now starts }) ⌝ }
+// The verdict on the descriptors of a sound chain, in chain order. `seen` is zero, with a byte for each block of the card or more.
+fn check_chain(
+    card: &[u8],
+    active: Descriptor,
+    starts: &[u32],
+    count: usize,
+    seen: &mut [u8],
+) -> Verdict
+    requires { ⌜ (areaBad (now card) ≡ false) × (regionsOf (chainOf (now card)) ≡ record { sound = true; place = physical 0; active = active; count = count; starts = now starts }) × ((v : ℕ) → getD (now seen) v 0 ≡ 0) × (length (now card) ≤ 512 * length (now seen)) ⌝ }
     ensures { λ r. ⌜ r ≡ checkCard (now (card .entry)) ⌝ }
 {
+    let cost = descriptor::opening_cost(active.layout, active.volume) as usize;
+    rules::mark_openings(seen, starts, count, cost);
+    let mut turn = 1;
     let mut k = 0;
     while k < count {
-        let p = starts[k];
-        let d = descriptor::read_descriptor(card, Physical(p));
-        let v = rules::check_one(card, starts, count, d);
+        let d = chain::descriptor_of(card, active, starts, count, k);
+        let v = rules::check_one(card, d, seen, turn);
         if let Verdict::Fault(h) = v {
             return Verdict::Fault(h);
         }
+        turn = rules::next_turn(seen, starts, count, cost, turn);
         k += 1;
     }
     Verdict::Passed
+}
+
+// The same, of a card of at most 2,048 blocks.
+fn check_small(card: &[u8], active: Descriptor, starts: &[u32], count: usize) -> Verdict
+    requires { ⌜ (areaBad (now card) ≡ false) × (regionsOf (chainOf (now card)) ≡ record { sound = true; place = physical 0; active = active; count = count; starts = now starts }) × (length (now card) ≤ 1048576) ⌝ }
+    ensures { λ r. ⌜ r ≡ checkCard (now (card .entry)) ⌝ }
+{
+    let mut seen = [0u8; 2048];
+    check_chain(card, active, starts, count, &mut seen)
+}
+
+// The same, of any card.
+fn check_large(card: &[u8], active: Descriptor, starts: &[u32], count: usize) -> Verdict
+    requires { ⌜ (areaBad (now card) ≡ false) × (regionsOf (chainOf (now card)) ≡ record { sound = true; place = physical 0; active = active; count = count; starts = now starts }) ⌝ }
+    ensures { λ r. ⌜ r ≡ checkCard (now (card .entry)) ⌝ }
+{
+    let mut seen = [0u8; 65536];
+    check_chain(card, active, starts, count, &mut seen)
+}
+
+// The same, with as few flags as the card needs: on a small card to clear more would be most of the work.
+fn check_regions(card: &[u8], active: Descriptor, starts: &[u32], count: usize) -> Verdict
+    requires { ⌜ (areaBad (now card) ≡ false) × (regionsOf (chainOf (now card)) ≡ record { sound = true; place = physical 0; active = active; count = count; starts = now starts }) ⌝ }
+    ensures { λ r. ⌜ r ≡ checkCard (now (card .entry)) ⌝ }
+{
+    if card.len() <= 1048576 {
+        return check_small(card, active, starts, count);
+    }
+    check_large(card, active, starts, count)
 }
 
 // Checks the card.
@@ -46,11 +86,12 @@ pub fn check(card: &[u8]) -> Answer
     let found = chain::walk_chain(card);
     let count = found.count;
     let starts = found.starts;
+    let active = found.active;
     if !found.sound {
         let place = found.place.0;
         return Answer { number: 6, place };
     }
-    match check_chain(card, &starts, count) {
+    match check_regions(card, active, &starts, count) {
         Verdict::Passed => Answer {
             number: 0,
             place: 0,

@@ -4,7 +4,6 @@ use crate::answer::Target;
 use crate::area;
 use blocks::bytes;
 use blocks::chain;
-use blocks::descriptor;
 use blocks::descriptor::Descriptor;
 use blocks::name;
 use blocks::numbers::Logical;
@@ -126,6 +125,7 @@ pub fn read(card: &[u8], target: Target, name: [u8; 16], l: Logical, out: &mut [
     let found = chain::walk_chain(card);
     let count = found.count;
     let starts = found.starts;
+    let active = found.active;
     if !found.sound {
         let place = found.place.0;
         return Answer { number: 6, place };
@@ -137,12 +137,12 @@ pub fn read(card: &[u8], target: Target, name: [u8; 16], l: Logical, out: &mut [
             place: 0,
         };
     }
-    let d = descriptor::read_descriptor(card, Physical(starts[k]));
-    if d.volume <= l.0 {
+    if active.volume <= l.0 {
         return Answer {
             number: 8,
             place: 0,
         };
     }
+    let d = chain::descriptor_of(card, active, &starts, count, k);
     deliver(card, &starts, count, d, l, out)
 }

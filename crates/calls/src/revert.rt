@@ -3,26 +3,23 @@ use crate::answer::Answer;
 use crate::area;
 use blocks::chain;
 use blocks::descriptor;
+use blocks::descriptor::Descriptor;
 use blocks::name;
 use blocks::numbers::Physical;
 ghost use mathlib.Core.Path.{_≡_};
 ghost use Prim.Native.Nat.{_+_, _*_, _≤_, _<_};
 ghost use lib.ListN.{length};
 ghost use Rattle.blocks.specs.Bytes.{storeBlock};
-ghost use Rattle.blocks.specs.Descriptor.{physical, descriptorAt, tailAt, descriptorBlock, renamedOf, linkedOf};
+ghost use Rattle.blocks.specs.Descriptor.{physical, tailAt, descriptorBlock, renamedOf, linkedOf};
 ghost use Rattle.calls.specs.Call.{Revert, None};
 ghost use Rattle.calls.specs.Step.{step};
 
-// The descriptor in block `p` becomes the active one: it gets the name of the one in block `active`, and a nil next.
-fn make_active(card: &mut [u8], p: Physical, active: Physical)
-    requires { ⌜ (512 * p .0 + 512 ≤ length (now card)) × (512 * active .0 + 512 ≤ length (now card)) ⌝ }
-    ensures { λ _. ⌜ now (card .exit) ≡ storeBlock (now (card .entry)) (p .0) (descriptorBlock (linkedOf (renamedOf (descriptorAt (now (card .entry)) (p .0)) (descriptorAt (now (card .entry)) (active .0) .name)) (physical 0)) (tailAt (now (card .entry)) (p .0))) ⌝ }
+// The descriptor `d` in block `p` becomes the active one: it gets the active name, and a nil next.
+fn make_active(card: &mut [u8], p: Physical, d: Descriptor, name: [u8; 16])
+    requires { ⌜ 512 * p .0 + 512 ≤ length (now card) ⌝ }
+    ensures { λ _. ⌜ now (card .exit) ≡ storeBlock (now (card .entry)) (p .0) (descriptorBlock (linkedOf (renamedOf d name) (physical 0)) (tailAt (now (card .entry)) (p .0))) ⌝ }
 {
-    let d = descriptor::read_descriptor(card, p);
-    let a = descriptor::read_descriptor(card, active);
-    let name = a.name;
-    let e = d.renamed(name).linked(Physical(0));
-    descriptor::store_descriptor(card, p, p, e);
+    descriptor::put_descriptor(card, p, d.renamed(name).linked(Physical(0)));
 }
 
 // Rolls the card back to the snapshot that has the name.
@@ -44,6 +41,7 @@ pub fn revert(card: &mut [u8], name: [u8; 16]) -> Answer
     let found = chain::walk_chain(card);
     let count = found.count;
     let starts = found.starts;
+    let active = found.active;
     if !found.sound {
         let place = found.place.0;
         return Answer { number: 6, place };
@@ -57,8 +55,9 @@ pub fn revert(card: &mut [u8], name: [u8; 16]) -> Answer
         };
     }
     let p = starts[k];
-    let q = starts[last];
-    make_active(card, Physical(p), Physical(q));
+    let d = chain::descriptor_of(card, active, &starts, count, k);
+    let current = active.name;
+    make_active(card, Physical(p), d, current);
     Answer {
         number: 0,
         place: 0,

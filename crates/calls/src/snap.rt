@@ -79,8 +79,7 @@ pub fn snap(card: &mut [u8], name: [u8; 16]) -> Answer
             place: 0,
         };
     }
-    let active = starts[count - 1];
-    let d = descriptor::read_descriptor(card, Physical(active));
+    let d = found.active;
     let cost = descriptor::opening_cost(d.layout, d.volume);
     let end = (d.beta.0 as usize) + (cost as usize);
     if card.len() / 512 < end {

@@ -3,7 +3,6 @@ use crate::answer::Answer;
 use crate::area;
 use blocks::bytes;
 use blocks::chain;
-use blocks::descriptor;
 use blocks::descriptor::Descriptor;
 use blocks::numbers::Logical;
 use blocks::numbers::Physical;
@@ -81,8 +80,7 @@ pub fn write(card: &mut [u8], l: Logical, block: &[u8]) -> Answer
         let place = found.place.0;
         return Answer { number: 6, place };
     }
-    let active = starts[count - 1];
-    let d = descriptor::read_descriptor(card, Physical(active));
+    let d = found.active;
     if d.volume <= l.0 {
         return Answer {
             number: 8,

@@ -8,11 +8,12 @@ use native.Mathlib.Omega.{arith}
 use lib.ListN.{length}
 use Rattle.blocks.specs.Bytes.{blockAt, Store, storeAll}
 use Rattle.blocks.specs.Descriptor.{physical, renamedOf, linkedOf, extendedOf, reopenedOf}
-use Rattle.blocks.specs.Chain.{Chain, Sound, chain, chainSound, descriptors}
+use Rattle.blocks.specs.Chain.{Chain, Sound, chain, chainSound, descriptors, activeOf}
 use Rattle.blocks.specs.declared.descriptor.Descriptor.{Descriptor}
+use Rattle.blocks.proofs.ChainLaws.{active-snoc}
 use Rattle.entries.specs.Entry.{find, need}
 use Rattle.calls.specs.Call.{Call, Ream, Read, Write, Snap, Revert, Listing, Check}
-use Rattle.calls.specs.Parts.{descriptorsOf, activeOf, snapshotsOf, withName}
+use Rattle.calls.specs.Parts.{descriptorsOf, snapshotsOf, withName}
 use Rattle.calls.specs.Ladder.{answerOf}
 use Rattle.calls.specs.Effect.{storesOf}
 use Rattle.calls.specs.Step.{step, isAccepted}
@@ -20,7 +21,7 @@ use Rattle.claims.specs.History.{betaOf, Agree, isFormat}
 use Rattle.claims.proofs.Agreement.{agree-below, agree-chain, agree-answer}
 use Rattle.claims.proofs.StoreLists.{Whole, isStored, stored-length, stored-both, stored-anyway, blocks-taken}
 use Rattle.claims.proofs.Frame.{stores-inside}
-use Rattle.claims.proofs.ChainAfter.{before, active-snoc, active-append, reverted-chain}
+use Rattle.claims.proofs.ChainAfter.{before, active-append, reverted-chain}
 use Rattle.claims.proofs.SnappedChain.{snapped-chain}
 use Rattle.claims.proofs.SameStores.{v-below, same-revert, same-snap, snap-covered, same-write, found-is, write-covered}
 use Rattle.claims.proofs.WrittenChain.{written-chain}

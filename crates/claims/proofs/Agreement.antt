@@ -11,26 +11,26 @@ use borrow.Author.Tests.{eq-eqb, ltb-true, leb-false, not-false}
 use Rattle.blocks.specs.Pick.{pick}
 use Rattle.blocks.specs.Bytes.{part, blockCount, blockAt, storeAll}
 use Rattle.blocks.specs.Descriptor.{tableCount, cost, costOf, noDescriptor, descriptorAt}
-use Rattle.blocks.specs.Chain.{Sound, chain, descriptors, named}
+use Rattle.blocks.specs.Chain.{Sound, chain, descriptors, named, activeOf}
 use Rattle.blocks.specs.declared.descriptor.Descriptor.{Descriptor}
 use Rattle.blocks.proofs.ByteLaws.{part-part}
 use Rattle.blocks.proofs.ChainLaws.{cost-least, region-volume}
 use Rattle.blocks.proofs.SoundLaws.{form-most}
-use Rattle.blocks.proofs.LinkedLaws.{Linked, chain-linked, chain-few, regionStart, region-start-zero, region-start-suc, linked-some, linked-end, linked-rise, linked-at, RegionAt, at-alpha, at-long}
+use Rattle.blocks.proofs.LinkedLaws.{Linked, chain-linked, chain-few, regionStart, region-start-zero, region-start-suc, linked-some, linked-end, linked-rise, linked-at, RegionAt, at-alpha, at-long, active-at}
 use Rattle.entries.specs.Entry.{find, need}
 use Rattle.entries.specs.declared.find.Found.{Found}
 use Rattle.calls.specs.declared.answer.Answer.{Answer}
 use Rattle.calls.specs.declared.answer.Target.{Target}
 use Rattle.calls.specs.declared.answer.Target.the-variants.{Active, Snapshot}
 use Rattle.calls.specs.Call.{Call, Ream, Read, Write, Snap, Revert, Listing, Check, Lent, Block, answer, accepted}
-use Rattle.calls.specs.Parts.{areaBad, descriptorsOf, activeOf, snapshotsOf, indexOf, isSnapshot, targetOf, isMisplaced, holderOf, blockFound}
+use Rattle.calls.specs.Parts.{areaBad, descriptorsOf, snapshotsOf, indexOf, isSnapshot, targetOf, isMisplaced, holderOf, blockFound}
 use Rattle.calls.specs.Check.{checkAll, checkCard}
 use Rattle.calls.specs.Ladder.{Row, row, firstRow, reamRows, readRows, writeRows, snapRows, revertRows, listRows, checkRows, rowsOf, answerOf}
 use Rattle.calls.specs.Effect.{storesOf, lentOf, filledOf}
 use Rattle.calls.specs.Step.{Done, step, isAccepted}
 use Rattle.claims.specs.History.{betaOf, Agree}
 use Rattle.calls.proofs.NamedLaws.{named-index, with-name-index}
-use Rattle.calls.proofs.CardLaws.{active-at, snapshots-at, chain-is}
+use Rattle.calls.proofs.CardLaws.{snapshots-at, chain-is}
 use Rattle.calls.proofs.RowLaws.{rows-passed}
 use Rattle.claims.proofs.Local.{Below, below-linked, linked-chain}
 use Rattle.claims.proofs.LocalEntries.{Region, local-find, local-block, local-check}

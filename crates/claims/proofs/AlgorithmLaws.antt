@@ -12,7 +12,7 @@ use Rattle.blocks.specs.Pick.{pick, same}
 use Rattle.blocks.specs.Bytes.{u32At, le32, splice, part, Store, store, blockCount, blockAt, zeroBlock, storeBlock, storeAll}
 use Rattle.blocks.specs.Name.{isName}
 use Rattle.blocks.specs.Descriptor.{physical, mark, tableCount, cost, costOf, noDescriptor, descriptorAt, headBytes, tailAt, descriptorBlock, renamedOf, linkedOf, extendedOf, reopenedOf, copying, reservedOk, phiOk}
-use Rattle.blocks.specs.Chain.{formOk, chain, chainSound, named, regionsOf}
+use Rattle.blocks.specs.Chain.{formOk, chain, chainSound, named, regionsOf, activeOf}
 use Rattle.blocks.specs.declared.descriptor.Descriptor.{Descriptor}
 use Rattle.blocks.specs.declared.chain.Regions.{Regions}
 use Rattle.blocks.proofs.Tests.{and-left, and-right}
@@ -30,7 +30,7 @@ use Rattle.entries.proofs.RegionLaws.{through-region, through-count, through-me
 use Rattle.entries.proofs.EntryLaws.{through-alpha, through-beta, through-end, through-volume, found-table, found-entry}
 use Rattle.calls.specs.declared.answer.Target.{Target}
 use Rattle.calls.specs.Call.{Call, Read, Write, Snap, Revert, Block}
-use Rattle.calls.specs.Parts.{areaBad, descriptorsOf, activeOf, snapshotsOf, withName, indexOf, targetOf, foundThrough, isMisplaced, blockFound}
+use Rattle.calls.specs.Parts.{areaBad, descriptorsOf, snapshotsOf, withName, indexOf, targetOf, foundThrough, isMisplaced, blockFound}
 use Rattle.calls.specs.Ladder.{rowsOf, readRows, writeRows, snapRows, revertRows, answerOf}
 use Rattle.calls.specs.Effect.{storesOf, filledOf, snapping, reverting}
 use Rattle.claims.specs.Algorithms.{Sigma, put, putNumber, copyRange, closeRegion, openRegion, algorithm1, algorithm2, algorithm3, algorithm4, algorithm5, algorithm6}

@@ -11,14 +11,14 @@ use Rattle.blocks.specs.Pick.{pick, allZero}
 use Rattle.blocks.specs.Bytes.{part, splice, le32, blockAt, blockCount, zeroBlock, Store, store, storeBlock, storeAll}
 use Rattle.blocks.specs.Name.{nameByte, nameLength, isName}
 use Rattle.blocks.specs.Descriptor.{physical, tableSize, mark, cost, costOf, headBytes, tailAt, descriptorBlock, renamedOf, linkedOf, extendedOf, reopenedOf, firstOf, clearing, copying, opening}
-use Rattle.blocks.specs.Chain.{chain, chainSound}
+use Rattle.blocks.specs.Chain.{chain, chainSound, activeOf}
 use Rattle.blocks.specs.declared.descriptor.Descriptor.{Descriptor}
 use Rattle.blocks.proofs.Tests.{and-left, and-right}
 use Rattle.entries.specs.Entry.{need, tableIsNew, tableWith, tailWith, setInTable, setInNewTable, writing}
 use Rattle.entries.specs.declared.find.Found.{Found}
 use Rattle.entries.specs.declared.find.Found.the-variants.{Misplaced, Entry}
 use Rattle.calls.specs.Call.{Call, Ream, Read, Write, Snap, Revert, Listing, Check}
-use Rattle.calls.specs.Parts.{areaBad, descriptorsOf, activeOf, snapshotsOf, withName, foundThrough}
+use Rattle.calls.specs.Parts.{areaBad, descriptorsOf, snapshotsOf, withName, foundThrough}
 use Rattle.calls.specs.Ladder.{rowsOf, writeRows, snapRows, revertRows, answerOf}
 use Rattle.calls.specs.Effect.{snapping, reverting, storesOf}
 use Rattle.calls.specs.Step.{step, after, isAccepted}

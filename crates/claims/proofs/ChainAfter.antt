@@ -11,14 +11,14 @@ use borrow.Author.Tests.{ltb-true, not-false, ne-eqb}
 use Rattle.blocks.specs.Bytes.{part, blockCount, blockAt, store, storeAll}
 use Rattle.blocks.specs.Name.{isName}
 use Rattle.blocks.specs.Descriptor.{physical, costOf, noDescriptor, descriptorAt, tailAt, descriptorBlock, renamedOf, linkedOf, copying, reservedOk, phiOk}
-use Rattle.blocks.specs.Chain.{formOk, regionOk, named, sound, Sound, chain, chainSound}
+use Rattle.blocks.specs.Chain.{formOk, regionOk, named, sound, Sound, chain, chainSound, activeOf}
 use Rattle.blocks.specs.declared.descriptor.Descriptor.{Descriptor}
 use Rattle.blocks.proofs.DescriptorLaws.{Fits}
 use Rattle.blocks.proofs.SoundLaws.{form-most, form-layout}
 use Rattle.blocks.proofs.ChainLaws.{region-long, region-end, cost-least}
 use Rattle.blocks.proofs.LinkedLaws.{Linked, last, chain-linked, chain-few, linked-some, linked-rise, region-start-suc, region-start-zero}
 use Rattle.calls.specs.Call.{Revert}
-use Rattle.calls.specs.Parts.{areaBad, descriptorsOf, activeOf, snapshotsOf, withName, indexOf}
+use Rattle.calls.specs.Parts.{areaBad, descriptorsOf, snapshotsOf, withName, indexOf}
 use Rattle.calls.specs.Ladder.{rowsOf, revertRows, answerOf}
 use Rattle.calls.specs.Effect.{storesOf, reverting}
 use Rattle.calls.specs.Step.{isAccepted}
@@ -40,12 +40,6 @@ active-from d (e ∷ ds) = ap (λ (xs : List Descriptor). d ∷ xs) (active-from
 pub active-split : (ds : List Descriptor) → 0 < length ds → ds ≡ snapshotsOf ds ++ (activeOf ds ∷ [])
 active-split [] h = absurd (omega arith)
 active-split (d ∷ ds) h = active-from d ds
-
-pub active-snoc : (xs : List Descriptor) (e : Descriptor) → activeOf (xs ++ (e ∷ [])) ≡ e
-unfolding activeOf
-active-snoc [] e = refl
-active-snoc (x ∷ []) e = refl
-active-snoc (x ∷ y ∷ xs) e = active-snoc (y ∷ xs) e
 
 pub snapshots-snoc : (xs : List Descriptor) (e : Descriptor) → snapshotsOf (xs ++ (e ∷ [])) ≡ xs
 unfolding snapshotsOf

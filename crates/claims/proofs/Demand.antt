@@ -9,7 +9,7 @@ use Rattle.blocks.specs.declared.descriptor.Descriptor.{Descriptor}
 use Rattle.calls.specs.Call.{Call}
 use Rattle.calls.specs.Parts.{descriptorsOf, snapshotsOf}
 use Rattle.claims.specs.History.{AreBytes, Standing, Position, Nowhere, At, latestSnap, without, formattable, formatted}
-use Rattle.claims.specs.Claims.{Matched, Forgets, RevertedAt, RollbackClaim, SnapshotClaim, Demand3}
+use Rattle.claims.specs.Claims.{Matched, LastSnap, Forgets, RevertedAt, RollbackClaim, SnapshotClaim, Demand3}
 use Rattle.calls.proofs.RowLaws.{no}
 use Rattle.claims.proofs.Runs.{standing-take}
 use Rattle.claims.proofs.Latest.{latest-nowhere, latest-at}
@@ -22,9 +22,10 @@ forgets-by : (s : List ℕ) (ks : List Call) → AreBytes s → chainSound (chai
 unfolding Forgets
 forgets-by s ks bytes ok standing k v reverted Nowhere e =
     let u = latest-nowhere v s (take k ks) e in
-    (s-named s ks ok standing k v reverted u, s-accepted s ks ok standing k v reverted u, forgets-start s ks ok standing k v reverted u)
+    (u, s-named s ks ok standing k v reverted u, s-accepted s ks ok standing k v reverted u, forgets-start s ks ok standing k v reverted u)
 forgets-by s ks bytes ok standing k v reverted (At i) e =
-    forgets-snap s ks ok standing k v reverted i (latest-at v s (take k ks) i e) (bytes-run (take i ks) s bytes (standing-take s ks i standing))
+    let l = latest-at v s (take k ks) i e in
+    (l, forgets-snap s ks ok standing k v reverted i l (bytes-run (take i ks) s bytes (standing-take s ks i standing)))
 
 pub rollback-claim : RollbackClaim
 unfolding RollbackClaim
@@ -43,20 +44,21 @@ module _ (area : List ℕ) (layout volume : ℕ) (name : List ℕ) (can : format
   unfolding snapshotsOf named
   none-named = ap (λ (ds : List Descriptor). named (snapshotsOf ds) v) (formatted-descriptors area layout volume name can)
 
-  snap-by : (place : Position) → latestSnap v card (take k ks) ≡ place → (i : ℕ) × (i < k) × (latestSnap v card (take k ks) ≡ At i)
+  snap-by : (place : Position) → latestSnap v card (take k ks) ≡ place → (i : ℕ) × (i < k) × (latestSnap v card (take k ks) ≡ At i) × LastSnap v card (take k ks) i
   snap-by Nowhere e = no (sym none-named ∙ s-named card ks card-sound standing k v reverted (latest-nowhere v card (take k ks) e))
-  snap-by (At i) e = (i, earlier card ks card-sound standing k v reverted i (latest-at v card (take k ks) i e), e)
+  snap-by (At i) e = let l = latest-at v card (take k ks) i e in (i, earlier card ks card-sound standing k v reverted i l, e, l)
 
-  found : (i : ℕ) × (i < k) × (latestSnap v card (take k ks) ≡ At i)
+  found : (i : ℕ) × (i < k) × (latestSnap v card (take k ks) ≡ At i) × LastSnap v card (take k ks) i
   found = snap-by (latestSnap v card (take k ks)) refl
 
-  whole : AreBytes area → (i : ℕ) × (i < k) × (latestSnap v card (take k ks) ≡ At i) × Matched card ks (suc k) (without ks i k) i
+  whole : AreBytes area → (i : ℕ) × (i < k) × (latestSnap v card (take k ks) ≡ At i) × LastSnap v card (take k ks) i × Matched card ks (suc k) (without ks i k) i
   whole bytes =
       let f = found in (
         f .0,
         f .1,
         f .2,
-        forgets-snap card ks card-sound standing k v reverted (f .0) (latest-at v card (take k ks) (f .0) (f .2))
+        f .3,
+        forgets-snap card ks card-sound standing k v reverted (f .0) (f .3)
             (bytes-run (take (f .0) ks) card (bytes-format area layout volume name bytes can) (standing-take card ks (f .0) standing)),
       )
 

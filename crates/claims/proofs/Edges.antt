@@ -1,10 +1,102 @@
--- The edges of 01's rules: what the definitions compute is what the table says.
-use mathlib.Core.Path.{_≡_, refl}
-use mathlib.Core.List.{map}
-use Rattle.claims.specs.Bench.{expected, computed, showing, blockOf}
-use Rattle.claims.specs.Edges.{chainEdges, entryEdges, roomEdges, orderEdges, edges}
+-- The edges of 01's rules: what the definitions compute is what the table says, group by group and as a whole; and the largest area.
+use mathlib.Core.Path.{_≡_, refl, sym, ap, _∙_}
+use mathlib.Core.Bool.{true, false}
+use mathlib.Core.List.{List, _++_, map, map-append}
+use Prim.Native.Nat.{ℕ}
+use lib.ListN.{length}
+use Rattle.blocks.specs.Bytes.{blockCount}
+use Rattle.calls.specs.Call.{Call, Ream, Read, Write, Snap, Revert, Listing, Check, answer}
+use Rattle.calls.specs.Parts.{areaBad}
+use Rattle.calls.specs.Ladder.{firstRow, reamRows, readRows, writeRows, snapRows, revertRows, listRows, checkRows, rowsOf, answerOf}
+use Rattle.claims.specs.Bench.{Value, Result, expected, computed, showing, blockOf}
+use Rattle.claims.specs.Edges.{areaEdges, nameEdges, formEdges, chainEdges, entryEdges, openingEdges, tableEdges, faultEdges, roomEdges, orderEdges, edges, SizeEdges}
 use Rattle.claims.proofs.Running.{running}
 
+-- the values of a list are as the table says; so are those of two lists
+record AsSaid (vs : List Value) : Type 0 where
+  as-said : map computed vs ≡ map expected vs
+
+infixl 20 _and_
+_and_ : {xs ys : List Value} → AsSaid xs → AsSaid ys → AsSaid (xs ++ ys)
+_and_ {xs = xs} {ys = ys} e f =
+    record {
+      as-said =
+          map-append computed xs ys
+          ∙ ap (λ (rs : List Result). rs ++ map computed ys) (e .as-said)
+          ∙ ap (λ (rs : List Result). map expected xs ++ rs) (f .as-said)
+          ∙ sym (map-append expected xs ys);
+    }
+
+area-edges : AsSaid areaEdges
+unfolding running areaEdges expected computed showing blockOf
+area-edges = record { as-said = refl }
+
+name-edges : AsSaid nameEdges
+unfolding running nameEdges expected computed showing blockOf
+name-edges = record { as-said = refl }
+
+form-edges : AsSaid formEdges
+unfolding running formEdges expected computed showing blockOf
+form-edges = record { as-said = refl }
+
+chain-edges : AsSaid chainEdges
+unfolding running chainEdges expected computed showing blockOf
+chain-edges = record { as-said = refl }
+
+entry-edges : AsSaid entryEdges
+unfolding running entryEdges expected computed showing blockOf
+entry-edges = record { as-said = refl }
+
+opening-edges : AsSaid openingEdges
+unfolding running openingEdges expected computed showing blockOf
+opening-edges = record { as-said = refl }
+
+table-edges : AsSaid tableEdges
+unfolding running tableEdges expected computed showing blockOf
+table-edges = record { as-said = refl }
+
+fault-edges : AsSaid faultEdges
+unfolding running faultEdges expected computed showing blockOf
+fault-edges = record { as-said = refl }
+
+room-edges : AsSaid roomEdges
+unfolding running roomEdges expected computed showing blockOf
+room-edges = record { as-said = refl }
+
+order-edges : AsSaid orderEdges
+unfolding running orderEdges expected computed showing blockOf
+order-edges = record { as-said = refl }
+
+whole : AsSaid edges
+unfolding edges
+whole = area-edges and name-edges and form-edges and chain-edges and entry-edges and opening-edges and table-edges and fault-edges and room-edges and order-edges
+
 pub edge-values : map computed edges ≡ map expected edges
-unfolding running edges chainEdges entryEdges roomEdges orderEdges expected computed showing blockOf
-edge-values = refl
+edge-values = whole .as-said
+
+-- the first row of every call
+area-first : (c : List ℕ) → areaBad c ≡ true → (k : Call) → answerOf k c ≡ answer 1 0
+unfolding answerOf rowsOf firstRow reamRows readRows writeRows snapRows revertRows listRows checkRows
+area-first c bad (Ream layout volume name) = rw bad refl
+area-first c bad (Read target name l block) = rw bad refl
+area-first c bad (Write l block) = rw bad refl
+area-first c bad (Snap name) = rw bad refl
+area-first c bad (Revert name) = rw bad refl
+area-first c bad (Listing records) = rw bad refl
+area-first c bad Check = rw bad refl
+
+area-most : (c : List ℕ) → length c ≡ 33554432 → areaBad c ≡ false
+unfolding areaBad blockCount
+area-most c e = rw e refl
+
+area-over : (c : List ℕ) → length c ≡ 33554944 → areaBad c ≡ true
+unfolding areaBad blockCount
+area-over c e = rw e refl
+
+layout-first : (c : List ℕ) → areaBad c ≡ false → (volume : ℕ) (name : List ℕ) → answerOf (Ream 3 volume name) c ≡ answer 2 0
+unfolding answerOf rowsOf firstRow reamRows
+layout-first c good volume name = rw good refl
+
+pub size-edges : SizeEdges
+unfolding SizeEdges
+size-edges c = (λ e. layout-first c (area-most c e), λ e. area-first c (area-over c e))

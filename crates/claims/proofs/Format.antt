@@ -14,7 +14,7 @@ use Rattle.blocks.specs.Pick.{pick, allZero}
 use Rattle.blocks.specs.Bytes.{part, u32At, splice, store, blockCount, blockAt, zeroBlock, storeBlock, storeAll}
 use Rattle.blocks.specs.Name.{isName}
 use Rattle.blocks.specs.Descriptor.{physical, mark, tableCount, cost, firstOf, noDescriptor, descriptorAt, descriptorBlock, reservedOk, phiOk, clearing, opening}
-use Rattle.blocks.specs.Chain.{formOk, named, sound, Sound, chain, chainSound, descriptors}
+use Rattle.blocks.specs.Chain.{formOk, named, sound, Sound, chain, chainSound, descriptors, activeOf}
 use Rattle.blocks.specs.declared.numbers.Physical.{Physical}
 use Rattle.blocks.specs.declared.descriptor.Descriptor.{Descriptor}
 use Rattle.blocks.proofs.Tests.{and-left, and-right}
@@ -28,7 +28,7 @@ use Rattle.entries.specs.InPlace.{inPlace}
 use Rattle.entries.specs.Entry.{entryAt, phiAt, tableOf, entryFound, find}
 use Rattle.entries.specs.Rules.{entryOf, PhiRules, TableRules, Rules}
 use Rattle.entries.specs.declared.find.Found.the-variants.{Misplaced, Entry}
-use Rattle.calls.specs.Parts.{areaBad, descriptorsOf, activeOf, snapshotsOf, blockFound}
+use Rattle.calls.specs.Parts.{areaBad, descriptorsOf, snapshotsOf, blockFound}
 use Rattle.calls.specs.Check.{Passes}
 use Rattle.claims.specs.History.{formattable, formatted}
 use Rattle.claims.specs.Ledger.{cellsFrom, volumeOf, volumesOf, ledgerOf}

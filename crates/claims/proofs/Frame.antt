@@ -1,6 +1,6 @@
 -- What calls leave alone: no call alters the card's length, quiet calls alter no byte of it, and lent memory is only filled by a read or a listing.
 -- What a listing fills: the descriptors' own records, and the records after them as they were.
-use mathlib.Core.Path.{_≡_, refl, sym, _∙_}
+use mathlib.Core.Path.{_≡_, refl, sym, _∙_, subst}
 use mathlib.Core.Bool.{Bool, true, false, not, _&&_}
 use mathlib.Core.List.{List, [], _∷_}
 use Prim.Native.Nat.{ℕ, zero, suc, _+_, _*_, _-_, _/_, _%_, _≤_, _<_}
@@ -12,7 +12,7 @@ use Rattle.blocks.specs.Pick.{pick}
 use Rattle.blocks.specs.Bytes.{le32, store, blockCount, blockAt, zeroBlock, storeAll}
 use Rattle.blocks.specs.Name.{isName}
 use Rattle.blocks.specs.Descriptor.{physical, cost, costOf, noDescriptor, descriptorAt, firstOf, headBytes, tailAt, descriptorBlock, renamedOf, linkedOf, extendedOf, reopenedOf, clearing, copying, opening}
-use Rattle.blocks.specs.Chain.{Chain, Sound, Unsound, chain, chainSound, named, regionsOf}
+use Rattle.blocks.specs.Chain.{Chain, Sound, Unsound, chain, chainSound, named, regionsOf, activeOf}
 use Rattle.blocks.specs.declared.numbers.Physical.{Physical}
 use Rattle.blocks.specs.declared.descriptor.Descriptor.{Descriptor}
 use Rattle.blocks.specs.declared.chain.Regions.{Regions}
@@ -27,13 +27,13 @@ use Rattle.entries.specs.declared.find.Found.the-variants.{Misplaced, Entry}
 use Rattle.entries.proofs.EntryLaws.{through-alpha, through-beta}
 use Rattle.calls.specs.declared.answer.Record.{Record}
 use Rattle.calls.specs.Call.{Call, Ream, Read, Write, Snap, Revert, Listing, Check, Records, accepted}
-use Rattle.calls.specs.Parts.{areaBad, descriptorsOf, activeOf, snapshotsOf, withName, indexOf, foundThrough}
+use Rattle.calls.specs.Parts.{areaBad, descriptorsOf, snapshotsOf, withName, indexOf, foundThrough}
 use Rattle.calls.specs.Ladder.{reamRows, writeRows, snapRows, revertRows, listRows, rowsOf, answerOf}
 use Rattle.calls.specs.Effect.{WriteReady, snapping, reverting, storesOf, recordOf, listed, lentOf, filledOf}
 use Rattle.calls.specs.Step.{step, isAccepted}
 use Rattle.claims.specs.Claims.{ListClaim, isQuiet, fills, FrameClaim}
 use Rattle.calls.proofs.NamedLaws.{named-index, with-name-index}
-use Rattle.calls.proofs.CardLaws.{card-some, card-active, card-through, card-inside, card-snapshot, card-snapshot-count}
+use Rattle.calls.proofs.CardLaws.{card-some, card-found, card-active, card-through, card-inside, card-snapshot, card-snapshot-count}
 use Rattle.calls.proofs.WriteLaws.{put-inside, write-ready}
 use Rattle.calls.proofs.RowLaws.{no, rows-passed}
 use Rattle.claims.proofs.StoreLists.{Whole, none, also, whole-append, stored-length}
@@ -196,8 +196,11 @@ module _ (c : List ℕ) (area : areaBad c ≡ false) (sound : chainSound (chain 
   some : 0 < r .count
   some = card-some c r refl area ok
 
+  found-is : r .active ≡ active
+  found-is = card-found c r refl area ok
+
   active-is : active ≡ descriptorAt c (getD (r .starts) (r .count - 1) 0)
-  active-is = sym (card-active c r refl area ok (descriptorAt c (getD (r .starts) (r .count - 1) 0)) refl)
+  active-is = sym found-is ∙ card-active c r refl area ok
 
   pub active-through : Through c (r .starts) (r .count) active
   active-through = card-through c r refl area ok (r .count - 1) (omega (arith, some)) active active-is
@@ -232,9 +235,10 @@ module _ (c : List ℕ) (area : areaBad c ≡ false) (sound : chainSound (chain 
     unfolding writing blockCount
     write-by (Misplaced h) is room = none
     write-by (Entry m p) is room =
-        entry-inside c active m p l block
-        (write-ready c l block (areaBad c) refl area long r refl (rw ok) active active-is below (Entry m p) is m p refl)
-        active-name room
+        let low = subst (λ (d : Descriptor). l < d .volume) (sym found-is) below in
+        let same = subst (λ (d : Descriptor). Entry m p ≡ find c (descriptorsOf c) d l) (sym found-is) is in
+        let ready = write-ready c l block (areaBad c) refl area long r refl (rw ok) low (Entry m p) same m p refl in
+        entry-inside c active m p l block (subst (λ (d : Descriptor). WriteReady c d (m .0) (p .0) l block) found-is ready) active-name room
 
     write-inside : active .beta .0 + need (active .alpha .0) (foundThrough c active l) ≤ blockCount c → Whole (length c) (writing c active (foundThrough c active l) l block)
     write-inside room = write-by (foundThrough c active l) refl room

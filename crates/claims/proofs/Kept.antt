@@ -13,15 +13,16 @@ use borrow.Author.Tests.{ne-eqb, leb-true, leb-false, ltb-false, not-false}
 use Rattle.blocks.specs.Pick.{pick}
 use Rattle.blocks.specs.Bytes.{blockAt, store, storeAll}
 use Rattle.blocks.specs.Descriptor.{physical, renamedOf, linkedOf, extendedOf, reopenedOf}
-use Rattle.blocks.specs.Chain.{Sound, chain, chainSound, descriptors, named}
+use Rattle.blocks.specs.Chain.{Sound, chain, chainSound, descriptors, named, activeOf}
 use Rattle.blocks.specs.declared.descriptor.Descriptor.{Descriptor}
 use Rattle.blocks.proofs.Tests.{and-right}
 use Rattle.blocks.proofs.LinkedLaws.{Linked, last, more, sound-next}
+use Rattle.blocks.proofs.ChainLaws.{active-snoc}
 use Rattle.entries.specs.Entry.{tableIsNew, need, setInTable, setInNewTable, writing}
 use Rattle.entries.specs.declared.find.Found.{Found}
 use Rattle.entries.specs.declared.find.Found.the-variants.{Misplaced, Entry}
 use Rattle.calls.specs.Call.{Call, Ream, Read, Write, Snap, Revert, Listing, Check}
-use Rattle.calls.specs.Parts.{areaBad, descriptorsOf, activeOf, snapshotsOf, withName, indexOf, foundThrough}
+use Rattle.calls.specs.Parts.{areaBad, descriptorsOf, snapshotsOf, withName, indexOf, foundThrough}
 use Rattle.calls.specs.Ladder.{rowsOf, writeRows, answerOf}
 use Rattle.calls.specs.Effect.{storesOf, reverting}
 use Rattle.calls.specs.Step.{step, isAccepted}
@@ -31,7 +32,7 @@ use Rattle.claims.proofs.Relinked.{later-alpha}
 use Rattle.claims.proofs.Changed.{named-left, member-from, member-fresh}
 use Rattle.claims.proofs.StoreLists.{isStored, stored-length, stored-other}
 use Rattle.claims.proofs.Frame.{stores-inside}
-use Rattle.claims.proofs.ChainAfter.{before, behind, active-split, active-snoc, snapshots-snoc, active-last, link-low, one-stored, revert-split, reverted-chain}
+use Rattle.claims.proofs.ChainAfter.{before, behind, active-split, snapshots-snoc, active-last, link-low, one-stored, revert-split, reverted-chain}
 use Rattle.claims.proofs.SnappedChain.{snap-rows, snap-above, snapped-chain}
 use Rattle.claims.proofs.WrittenChain.{written-chain}
 

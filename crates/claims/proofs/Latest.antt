@@ -10,15 +10,16 @@ use lib.Seq.{append-snoc}
 use Rattle.blocks.specs.Pick.{pick, same}
 use Rattle.blocks.specs.Bytes.{storeAll}
 use Rattle.blocks.specs.Descriptor.{renamedOf, linkedOf, reopenedOf}
-use Rattle.blocks.specs.Chain.{Sound, chain, named}
+use Rattle.blocks.specs.Chain.{Sound, chain, named, activeOf}
 use Rattle.blocks.specs.declared.descriptor.Descriptor.{Descriptor}
 use Rattle.blocks.proofs.ListLaws.{same-equal}
 use Rattle.calls.specs.Call.{Call, Ream, Read, Write, Snap, Revert, Listing, Check}
-use Rattle.calls.specs.Parts.{descriptorsOf, activeOf, snapshotsOf, indexOf}
+use Rattle.calls.specs.Parts.{descriptorsOf, snapshotsOf, indexOf}
 use Rattle.calls.specs.Ladder.{answerOf}
 use Rattle.calls.specs.Effect.{storesOf}
 use Rattle.calls.specs.Step.{step, after, isAccepted}
 use Rattle.claims.specs.History.{isFormat, Standing, none, more, isSnapOf, Position, Nowhere, At, latestFrom, latestSnap}
+use Rattle.claims.specs.Claims.{Unsnapped, end, then, LastSnap}
 use Rattle.calls.proofs.RowLaws.{no}
 use Rattle.claims.proofs.Changed.{named-append, named-left}
 use Rattle.claims.proofs.ChainAfter.{before, snapshots-snoc, reverted-chain}
@@ -76,12 +77,7 @@ module _ (n t : List ℕ) (gone : named (snapshotsOf (descriptorsOf t)) n ≡ fa
   gone-step : (k : Call) → isFormat k t ≡ false → (isSnapOf n k && isAccepted (answerOf k t)) ≡ false → named (snapshotsOf (descriptorsOf (step k t .card))) n ≡ false
   gone-step k f o = step-by k (isAccepted (answerOf k t)) refl f o
 
--- a run without an accepted snap of the name
-pub data Unsnapped (n : List ℕ) : List ℕ → List Call → Type 0 where
-  end : {c : List ℕ} → Unsnapped n c []
-  then : {c : List ℕ} {k : Call} {ks : List Call} → (isSnapOf n k && isAccepted (answerOf k c)) ≡ false → Unsnapped n (step k c .card) ks → Unsnapped n c (k ∷ ks)
-
--- no snapshot of the name comes to be in such a run
+-- no snapshot of the name comes to be in a run without an accepted snap of it
 pub gone-run : (n : List ℕ) (ks : List Call) (t : List ℕ) → named (snapshotsOf (descriptorsOf t)) n ≡ false → Standing t ks → Unsnapped n t ks → named (snapshotsOf (descriptorsOf (after ks t))) n ≡ false
 unfolding after
 gone-run n [] t g s u = g
@@ -104,13 +100,6 @@ module _ (s : List ℕ) (xs : List Descriptor) (v : Descriptor) (a : List ℕ) w
   stands-run (k ∷ ks) t h (more f b rest) (then o u) =
       let g = standing-length t (step k t .card) (sym (step-length k t)) ks rest in
       run-by k ks t g u (λ x. stands-run ks (step k t .card) x g u) (stands-step s xs v a t h k f)
-
--- the latest accepted snap, by its position
-pub record LastSnap (n c : List ℕ) (ks : List Call) (j : ℕ) : Type 0 where
-  pub inside : j < length ks
-  pub is : isSnapOf n (getD ks j Check) ≡ true
-  pub accepted-there : isAccepted (answerOf (getD ks j Check) (after (take j ks) c)) ≡ true
-  pub later : Unsnapped n (after (take (suc j) ks) c) (drop (suc j) ks)
 
 at-is : {i j : ℕ} → At i ≡ At j → i ≡ j
 at-is e = cc

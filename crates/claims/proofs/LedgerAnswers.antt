@@ -11,12 +11,12 @@ use borrow.Author.Tests.{eq-eqb, ne-eqb, eqb-true, eqb-false, ltb-true, ltb-fals
 use Rattle.blocks.specs.Pick.{pick, same}
 use Rattle.blocks.specs.Bytes.{blockCount}
 use Rattle.blocks.specs.Descriptor.{physical, tableCount, noDescriptor, descriptorAt}
-use Rattle.blocks.specs.Chain.{chain, named}
+use Rattle.blocks.specs.Chain.{chain, named, activeOf}
 use Rattle.blocks.specs.declared.descriptor.Descriptor.{Descriptor}
 use Rattle.blocks.proofs.Tests.{and-left, and-right}
 use Rattle.blocks.proofs.ChainLaws.{region-volume}
 use Rattle.blocks.proofs.SoundLaws.{form-layout}
-use Rattle.blocks.proofs.LinkedLaws.{Linked, chain-linked, regionStart, linked-some, linked-end, linked-at, RegionAt}
+use Rattle.blocks.proofs.LinkedLaws.{Linked, chain-linked, regionStart, linked-some, linked-end, linked-at, RegionAt, active-at}
 use Rattle.entries.specs.InPlace.{inPlace}
 use Rattle.entries.specs.Entry.{entryAt, phiAt, tableOf, entryFound, find}
 use Rattle.entries.specs.Rules.{entryOf}
@@ -26,7 +26,7 @@ use Rattle.calls.specs.declared.answer.Target.{Target}
 use Rattle.calls.specs.declared.answer.Target.the-variants.{Active, Snapshot}
 use Rattle.calls.specs.declared.answer.Record.{Record}
 use Rattle.calls.specs.Call.{Call, Ream, Read, Write, Snap, Revert, Listing, Check, Block, Records, answer}
-use Rattle.calls.specs.Parts.{descriptorsOf, activeOf, snapshotsOf, withName, isSnapshot, targetOf, foundThrough, isMisplaced, blockFound}
+use Rattle.calls.specs.Parts.{descriptorsOf, snapshotsOf, withName, isSnapshot, targetOf, foundThrough, isMisplaced, blockFound}
 use Rattle.calls.specs.Check.{Passes}
 use Rattle.calls.specs.Ladder.{Row, row, firstRow, reamRows, readRows, writeRows, snapRows, revertRows, listRows, rowsOf, answerOf}
 use Rattle.calls.specs.Effect.{filledOf}
@@ -34,7 +34,7 @@ use Rattle.calls.specs.Step.{step, isAccepted}
 use Rattle.claims.specs.History.{betaOf}
 use Rattle.claims.specs.Ledger.{Volume, Ledger, hasVolume, volumeNamed, ledgerRows, ledgerNumber, volumeRead, cellRead, namesFrom, ledgerNames, cellsFrom, volumeOf, volumesOf, ledgerOf}
 use Rattle.claims.specs.Claims.{blocksNeeded, isReam, recordNames, CheckClaim, ListClaim}
-use Rattle.calls.proofs.CardLaws.{active-at, chain-is}
+use Rattle.calls.proofs.CardLaws.{chain-is}
 use Rattle.calls.proofs.RowLaws.{no, rows-passed}
 use Rattle.claims.proofs.Agreement.{end-active, target-member, active-target}
 use Rattle.claims.proofs.Changed.{named-append}

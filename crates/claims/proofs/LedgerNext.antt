@@ -12,12 +12,13 @@ use Rattle.blocks.specs.Bytes.{u32At, part, blockCount, blockAt, zeroBlock, sto
 use Rattle.blocks.specs.Descriptor.{physical, tableCount, noDescriptor, tailAt, descriptorBlock, linkedOf, renamedOf}
 use Rattle.blocks.specs.declared.numbers.Physical.{Physical}
 use Rattle.blocks.specs.declared.descriptor.Descriptor.{Descriptor}
+use Rattle.blocks.specs.Chain.{activeOf}
 use Rattle.entries.specs.InPlace.{inPlace, isDescriptor, isTable}
 use Rattle.entries.specs.Entry.{entryAt, phiAt, tableOf, entryFound, find}
 use Rattle.entries.specs.declared.find.Found.{Found}
 use Rattle.entries.specs.declared.find.Found.the-variants.{Misplaced, Entry}
 use Rattle.entries.proofs.EntryLaws.{placed-below, find-placed}
-use Rattle.calls.specs.Parts.{descriptorsOf, activeOf, snapshotsOf, withName, indexOf, foundThrough, isMisplaced, blockFound}
+use Rattle.calls.specs.Parts.{descriptorsOf, snapshotsOf, withName, indexOf, foundThrough, isMisplaced, blockFound}
 use Rattle.claims.specs.Ledger.{Volume, volumesBefore, volumeNamed, ledgerStep, cellsFrom, volumeOf, volumesOf, ledgerOf}
 use Rattle.calls.specs.Call.{Revert}
 use Rattle.calls.specs.Check.{Passes}
@@ -29,7 +30,7 @@ use Rattle.blocks.proofs.LinkedLaws.{linked-at, linked-rise, at-alpha}
 use Rattle.claims.proofs.LocalEntries.{Region}
 use Rattle.claims.proofs.Agreement.{agree-region}
 use Rattle.claims.proofs.StoreLists.{stored-other}
-use Rattle.claims.proofs.ChainAfter.{before, behind, active-snoc, snapshots-snoc, link-inside, one-stored, revert-rows, revert-split, reverted-chain, fits, block, same-long, whole}
+use Rattle.claims.proofs.ChainAfter.{before, behind, snapshots-snoc, link-inside, one-stored, revert-rows, revert-split, reverted-chain, fits, block, same-long, whole}
 use Rattle.claims.proofs.Kept.{descriptors-are}
 use Rattle.claims.proofs.Room.{accepted-card}
 use Rattle.claims.proofs.SoundStep.{agree-self}
@@ -38,6 +39,7 @@ use Rattle.calls.proofs.RowLaws.{no}
 use Rattle.claims.proofs.Local.{shared-number}
 use Rattle.blocks.proofs.ByteLaws.{u32-part}
 use Rattle.blocks.proofs.DescriptorLaws.{Fits}
+use Rattle.blocks.proofs.ChainLaws.{active-snoc}
 use Rattle.claims.proofs.Stored.{stored-bytes, block-tail, tail-part, tail-long}
 
 -- the volumes before a name are those of the descriptors before it

@@ -9,21 +9,22 @@ use lib.Dec.{eqb}
 use Rattle.blocks.specs.Bytes.{blockAt, storeAll}
 use Rattle.blocks.specs.Descriptor.{physical, tableCount, noDescriptor, renamedOf, linkedOf, reopenedOf}
 use Rattle.blocks.specs.declared.descriptor.Descriptor.{Descriptor}
+use Rattle.blocks.specs.Chain.{activeOf}
 use Rattle.blocks.proofs.SoundLaws.{form-most, form-layout}
-use Rattle.blocks.proofs.ChainLaws.{cost-least}
+use Rattle.blocks.proofs.ChainLaws.{cost-least, active-snoc}
 use Rattle.blocks.proofs.LinkedLaws.{RegionAt, regionStart, linked-at, linked-rise, at-alpha, at-long}
 use Rattle.entries.specs.InPlace.{inPlace}
 use Rattle.entries.specs.Entry.{phiAt, tableOf, find}
 use Rattle.entries.specs.Rules.{entryOf, Rules}
 use Rattle.entries.proofs.EntryLaws.{placed-below}
 use Rattle.calls.specs.Call.{Snap}
-use Rattle.calls.specs.Parts.{descriptorsOf, activeOf, snapshotsOf, foundThrough, blockFound}
+use Rattle.calls.specs.Parts.{descriptorsOf, snapshotsOf, foundThrough, blockFound}
 use Rattle.calls.specs.Check.{Passes}
 use Rattle.calls.specs.Ladder.{answerOf}
 use Rattle.calls.specs.Effect.{storesOf}
 use Rattle.calls.specs.Step.{step, isAccepted}
 use Rattle.claims.specs.Ledger.{Volume, ledgerStep, volumeOf, volumesOf, ledgerOf}
-use Rattle.claims.proofs.ChainAfter.{active-snoc, snapshots-snoc}
+use Rattle.claims.proofs.ChainAfter.{snapshots-snoc}
 use Rattle.claims.proofs.SnappedChain.{snapped-chain}
 use Rattle.claims.proofs.Kept.{descriptors-are}
 use Rattle.claims.proofs.Room.{accepted-card}

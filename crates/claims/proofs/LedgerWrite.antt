@@ -12,23 +12,24 @@ use Rattle.blocks.specs.Bytes.{blockAt, zeroBlock, storeAll}
 use Rattle.blocks.specs.Descriptor.{noDescriptor, extendedOf}
 use Rattle.blocks.specs.declared.numbers.Physical.{Physical}
 use Rattle.blocks.specs.declared.descriptor.Descriptor.{Descriptor}
+use Rattle.blocks.specs.Chain.{activeOf}
 use Rattle.blocks.proofs.SoundLaws.{form-layout}
-use Rattle.blocks.proofs.LinkedLaws.{linked-at}
+use Rattle.blocks.proofs.LinkedLaws.{linked-at, active-at}
+use Rattle.blocks.proofs.ChainLaws.{active-snoc}
 use Rattle.entries.specs.Entry.{tableIsNew, need}
 use Rattle.entries.specs.declared.find.Found.{Found}
 use Rattle.entries.specs.declared.find.Found.the-variants.{Misplaced, Entry}
 use Rattle.entries.specs.Rules.{entryOf}
 use Rattle.entries.proofs.EntryLaws.{placed-below}
-use Rattle.calls.specs.Parts.{descriptorsOf, activeOf, snapshotsOf, foundThrough, isMisplaced, blockFound}
+use Rattle.calls.specs.Parts.{descriptorsOf, snapshotsOf, foundThrough, isMisplaced, blockFound}
 use Rattle.claims.specs.Ledger.{Volume, ledgerStep, cellsFrom, volumeOf, volumesOf, ledgerOf}
 use Rattle.calls.specs.Call.{Write}
 use Rattle.calls.specs.Check.{Passes}
 use Rattle.calls.specs.Ladder.{writeRows, rowsOf, answerOf}
 use Rattle.calls.specs.Effect.{storesOf}
 use Rattle.calls.specs.Step.{step, isAccepted}
-use Rattle.calls.proofs.CardLaws.{active-at}
 use Rattle.calls.proofs.RowLaws.{no, rows-passed}
-use Rattle.claims.proofs.ChainAfter.{active-split, active-snoc, snapshots-snoc}
+use Rattle.claims.proofs.ChainAfter.{active-split, snapshots-snoc}
 use Rattle.claims.proofs.WrittenChain.{written-chain}
 use Rattle.claims.proofs.Kept.{descriptors-are}
 use Rattle.claims.proofs.Room.{accepted-card}

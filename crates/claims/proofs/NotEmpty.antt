@@ -68,7 +68,7 @@ module _ (layout : ℕ) (can : formattable (area 16) layout 200 fs ≡ true) (re
   unfolding Demand3 positionOf
   matched =
       let r = demand-3 (area 16) layout 200 fs area-bytes can exampleCalls (example-standing (exampleCard layout)) 6 mon reverted in
-      subst (λ (i : ℕ). Matched (exampleCard layout) exampleCalls 7 (without exampleCalls i 6) i) (ap positionOf (sym (r .2) ∙ latest)) (r .3)
+      subst (λ (i : ℕ). Matched (exampleCard layout) exampleCalls 7 (without exampleCalls i 6) i) (ap positionOf (sym (r .2) ∙ latest)) (r .4)
 
 pub forgotten-layout-1 : Matched (exampleCard 1) exampleCalls 7 (without exampleCalls 1 6) 1
 forgotten-layout-1 = matched 1 can-layout-1 reverted-layout-1 latest-layout-1

@@ -11,7 +11,7 @@ use borrow.Author.Tests.{eq-eqb, ne-eqb, eqb-true, eqb-false, ltb-true, ltb-fals
 use Rattle.blocks.specs.Pick.{pick}
 use Rattle.blocks.specs.Bytes.{u32At, part, blockCount, blockAt, storeAll}
 use Rattle.blocks.specs.Descriptor.{physical, tableCount, cost, costOf, noDescriptor, tailAt, descriptorBlock, renamedOf, linkedOf}
-use Rattle.blocks.specs.Chain.{chain, chainSound, Sound}
+use Rattle.blocks.specs.Chain.{chain, chainSound, Sound, activeOf}
 use Rattle.blocks.specs.declared.numbers.Physical.{Physical}
 use Rattle.blocks.specs.declared.descriptor.Descriptor.{Descriptor}
 use Rattle.blocks.proofs.ByteLaws.{u32-part}
@@ -23,7 +23,7 @@ use Rattle.entries.specs.Entry.{entryAt, phiAt, tableOf}
 use Rattle.entries.specs.Rules.{entryOf, Rules}
 use Rattle.entries.proofs.EntryLaws.{placed-below}
 use Rattle.calls.specs.Call.{Revert}
-use Rattle.calls.specs.Parts.{descriptorsOf, activeOf, snapshotsOf, withName}
+use Rattle.calls.specs.Parts.{descriptorsOf, snapshotsOf, withName}
 use Rattle.calls.specs.Check.{Passes}
 use Rattle.calls.specs.Ladder.{answerOf}
 use Rattle.calls.specs.Effect.{storesOf}

@@ -13,6 +13,7 @@ use Rattle.blocks.specs.Bytes.{u32At, blockAt, Store, store, storeAll}
 use Rattle.blocks.specs.Descriptor.{physical, tableCount, cost, costOf, noDescriptor, tailAt, descriptorBlock, renamedOf, linkedOf, reopenedOf, copying}
 use Rattle.blocks.specs.declared.numbers.Physical.{Physical}
 use Rattle.blocks.specs.declared.descriptor.Descriptor.{Descriptor}
+use Rattle.blocks.specs.Chain.{activeOf}
 use Rattle.blocks.proofs.ByteLaws.{u32-part}
 use Rattle.blocks.proofs.DescriptorLaws.{Fits}
 use Rattle.blocks.proofs.SoundLaws.{form-most, form-layout}
@@ -23,7 +24,7 @@ use Rattle.entries.specs.Entry.{entryAt, phiAt, tableOf}
 use Rattle.entries.specs.Rules.{entryOf, Rules}
 use Rattle.entries.proofs.EntryLaws.{placed-below}
 use Rattle.calls.specs.Call.{Snap}
-use Rattle.calls.specs.Parts.{descriptorsOf, activeOf, snapshotsOf}
+use Rattle.calls.specs.Parts.{descriptorsOf, snapshotsOf}
 use Rattle.calls.specs.Check.{Passes}
 use Rattle.calls.specs.Ladder.{answerOf}
 use Rattle.calls.specs.Effect.{storesOf}

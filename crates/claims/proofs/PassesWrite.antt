@@ -11,9 +11,9 @@ use lib.Dec.{eqb, ltb, leb}
 use borrow.Author.Tests.{ne-eqb, eqb-true, eqb-false, ltb-true, ltb-false, lt-ltb, lt-leb}
 use Rattle.blocks.specs.Pick.{pick}
 use Rattle.blocks.specs.Bytes.{blockCount, blockAt, storeAll}
-use Rattle.blocks.specs.Chain.{Sound, chain, chainSound}
+use Rattle.blocks.specs.Chain.{Sound, chain, chainSound, activeOf}
 use Rattle.blocks.proofs.SoundLaws.{form-layout}
-use Rattle.blocks.proofs.LinkedLaws.{Linked, chain-linked, linked-some, linked-at, linked-rise, at-alpha}
+use Rattle.blocks.proofs.LinkedLaws.{Linked, chain-linked, linked-some, linked-at, linked-rise, at-alpha, active-at}
 use Rattle.blocks.specs.Descriptor.{extendedOf, tableCount, noDescriptor}
 use Rattle.blocks.specs.declared.descriptor.Descriptor.{Descriptor}
 use Rattle.entries.specs.InPlace.{isDescriptor, isTable, inPlace}
@@ -21,13 +21,13 @@ use Rattle.entries.specs.Entry.{entryAt, phiAt, tableOf, need}
 use Rattle.entries.specs.Rules.{entryOf, PhiRules, TableRules, Rules}
 use Rattle.entries.proofs.EntryLaws.{placed-below}
 use Rattle.calls.specs.Call.{Write}
-use Rattle.calls.specs.Parts.{areaBad, descriptorsOf, activeOf, snapshotsOf, foundThrough}
+use Rattle.calls.specs.Parts.{areaBad, descriptorsOf, snapshotsOf, foundThrough}
 use Rattle.calls.specs.Check.{Passes}
 use Rattle.calls.specs.Ladder.{answerOf}
 use Rattle.calls.specs.Effect.{storesOf}
 use Rattle.calls.specs.Step.{step, isAccepted}
 use Rattle.claims.specs.History.{betaOf}
-use Rattle.calls.proofs.CardLaws.{active-at, chain-is}
+use Rattle.calls.proofs.CardLaws.{chain-is}
 use Rattle.calls.proofs.RowLaws.{no}
 use Rattle.claims.proofs.Agreement.{agree-region}
 use Rattle.claims.proofs.StoreLists.{isStored, stored-length, stored-other}

@@ -12,7 +12,7 @@ use borrow.Author.Tests.{eqb-true, eqb-false, eq-eqb, ne-eqb, leb-false, lt-leb,
 use Rattle.blocks.specs.Pick.{pick}
 use Rattle.blocks.specs.Name.{isName}
 use Rattle.blocks.specs.Descriptor.{physical, descriptorAt}
-use Rattle.blocks.specs.Chain.{sound, Chain, Unsound, Sound, chainFrom, chain, chainSound, chainPlace, named}
+use Rattle.blocks.specs.Chain.{sound, Chain, Unsound, Sound, chainFrom, chain, chainSound, chainPlace, named, activeOf}
 use Rattle.blocks.specs.declared.descriptor.Descriptor.{Descriptor}
 use Rattle.blocks.proofs.Tests.{and-left, and-right}
 use Rattle.blocks.proofs.SoundLaws.{form-layout}
@@ -24,7 +24,7 @@ use Rattle.calls.specs.declared.answer.Answer.{Answer}
 use Rattle.calls.specs.declared.answer.Target.{Target}
 use Rattle.calls.specs.declared.answer.Target.the-variants.{Active}
 use Rattle.calls.specs.Call.{Call, Ream, Read, Write, Snap, Revert, Listing, Check, answer}
-use Rattle.calls.specs.Parts.{areaBad, descriptorsOf, activeOf, snapshotsOf, isSnapshot, targetOf, foundThrough, isMisplaced, holderOf}
+use Rattle.calls.specs.Parts.{areaBad, descriptorsOf, snapshotsOf, isSnapshot, targetOf, foundThrough, isMisplaced, holderOf}
 use Rattle.calls.specs.Ladder.{Row, row, areaRow, nameRow, blockRow, chainRow, volumeRow, firstRow, reamRows, readRows, writeRows, snapRows, revertRows, listRows, checkRows, rowsOf, answerOf}
 use Rattle.claims.specs.Claims.{FirstUnsound, here, past, on, Chained, last, link, comesToChain, ChainClaim, Stray, phi, named-table, own-table, PlaceClaim}
 use Rattle.calls.proofs.RowLaws.{no, fresh, fresh-never}

@@ -12,16 +12,17 @@ use Rattle.blocks.specs.Pick.{pick, same}
 use Rattle.blocks.specs.Bytes.{blockAt, store, storeAll}
 use Rattle.blocks.specs.Name.{isName}
 use Rattle.blocks.specs.Descriptor.{physical, noDescriptor, tailAt, descriptorBlock, renamedOf, linkedOf, reopenedOf}
-use Rattle.blocks.specs.Chain.{Sound, chain, chainSound, descriptors, named}
+use Rattle.blocks.specs.Chain.{Sound, chain, chainSound, descriptors, named, activeOf}
 use Rattle.blocks.specs.declared.descriptor.Descriptor.{Descriptor}
 use Rattle.blocks.proofs.ListLaws.{same-equal, same-self}
+use Rattle.blocks.proofs.ChainLaws.{active-snoc}
 use Rattle.calls.specs.Call.{Call, Snap, Revert, Check}
-use Rattle.calls.specs.Parts.{descriptorsOf, activeOf, snapshotsOf, withName, indexOf}
+use Rattle.calls.specs.Parts.{descriptorsOf, snapshotsOf, withName, indexOf}
 use Rattle.calls.specs.Ladder.{rowsOf, revertRows, answerOf}
 use Rattle.calls.specs.Effect.{storesOf, reverting}
 use Rattle.calls.specs.Step.{step, after, isAccepted}
 use Rattle.claims.specs.History.{betaOf, Agree, AreBytes, Standing, without}
-use Rattle.claims.specs.Claims.{Matched, RevertedAt}
+use Rattle.claims.specs.Claims.{Unsnapped, LastSnap, Matched, RevertedAt}
 use Rattle.calls.proofs.NamedLaws.{with-name-index}
 use Rattle.calls.proofs.RowLaws.{no, rows-passed}
 use Rattle.claims.proofs.Local.{shared-bytes}
@@ -29,12 +30,12 @@ use Rattle.calls.proofs.CardLaws.{chain-is}
 use Rattle.claims.proofs.Changed.{member-fresh, member-inside}
 use Rattle.claims.proofs.StoreLists.{Whole, stored-length, stored-both, blocks-taken}
 use Rattle.claims.proofs.Frame.{stores-inside}
-use Rattle.claims.proofs.ChainAfter.{before, behind, active-snoc, link-low, revert-rows, revert-split, reverted-chain}
+use Rattle.claims.proofs.ChainAfter.{before, behind, link-low, revert-rows, revert-split, reverted-chain}
 use Rattle.claims.proofs.SnappedChain.{snapped-chain}
 use Rattle.claims.proofs.Kept.{Stands, descriptors-are, stands-snapshots, stands-active}
 use Rattle.claims.proofs.Room.{accepted-card}
 use Rattle.claims.proofs.AgreeStep.{agree-step}
-use Rattle.claims.proofs.Latest.{Unsnapped, gone-run, stands-run, LastSnap, snap-of}
+use Rattle.claims.proofs.Latest.{gone-run, stands-run, snap-of}
 use Rattle.claims.proofs.Runs.{standing-length, standing-take, standing-drop, after-append, after-length, matched-from, without-drop, without-take}
 use Rattle.claims.proofs.Undone.{revert-passes, area-kept, undone, undone-accepted}
 

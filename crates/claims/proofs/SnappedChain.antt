@@ -12,14 +12,14 @@ use Rattle.blocks.specs.Pick.{same}
 use Rattle.blocks.specs.Bytes.{blockCount, blockAt, Store, store, storeAll}
 use Rattle.blocks.specs.Name.{isName}
 use Rattle.blocks.specs.Descriptor.{costOf, descriptorAt, tailAt, descriptorBlock, renamedOf, linkedOf, reopenedOf, copying}
-use Rattle.blocks.specs.Chain.{named, sound, Sound, chain, chainSound}
+use Rattle.blocks.specs.Chain.{named, sound, Sound, chain, chainSound, activeOf}
 use Rattle.blocks.specs.declared.descriptor.Descriptor.{Descriptor}
 use Rattle.blocks.proofs.ListLaws.{same-equal, same-self}
 use Rattle.blocks.proofs.DescriptorLaws.{Fits}
 use Rattle.blocks.proofs.ChainLaws.{cost-least}
 use Rattle.blocks.proofs.LinkedLaws.{last, more, chain-linked}
 use Rattle.calls.specs.Call.{Snap}
-use Rattle.calls.specs.Parts.{areaBad, descriptorsOf, activeOf, snapshotsOf}
+use Rattle.calls.specs.Parts.{areaBad, descriptorsOf, snapshotsOf}
 use Rattle.calls.specs.Ladder.{rowsOf, snapRows, answerOf}
 use Rattle.calls.specs.Effect.{storesOf, snapping}
 use Rattle.calls.specs.Step.{isAccepted}

@@ -11,15 +11,16 @@ use borrow.Author.Tests.{eqb-true, eqb-false, ne-eqb}
 use Rattle.blocks.specs.Pick.{same}
 use Rattle.blocks.specs.Bytes.{part, u32At, le32, blockCount, blockAt, Store, store, storeAll}
 use Rattle.blocks.specs.Descriptor.{physical, costOf, mark, descriptorAt, headBytes, tailAt, descriptorBlock, renamedOf, linkedOf, reopenedOf, copying}
-use Rattle.blocks.specs.Chain.{formOk, named, Sound, chain, chainSound, descriptors}
+use Rattle.blocks.specs.Chain.{formOk, named, Sound, chain, chainSound, descriptors, activeOf}
 use Rattle.blocks.specs.declared.descriptor.Descriptor.{Descriptor}
 use Rattle.blocks.proofs.Tests.{and-left}
 use Rattle.blocks.proofs.ByteLaws.{part-part, length-blockAt}
 use Rattle.blocks.proofs.ListLaws.{same-equal, same-self}
 use Rattle.blocks.proofs.DescriptorLaws.{head-length}
 use Rattle.blocks.specs.Name.{isName}
+use Rattle.blocks.proofs.ChainLaws.{active-snoc}
 use Rattle.calls.specs.Call.{Snap, Revert}
-use Rattle.calls.specs.Parts.{areaBad, descriptorsOf, activeOf, snapshotsOf, withName, indexOf}
+use Rattle.calls.specs.Parts.{areaBad, descriptorsOf, snapshotsOf, withName, indexOf}
 use Rattle.calls.specs.Ladder.{firstRow, rowsOf, revertRows, answerOf}
 use Rattle.calls.specs.Effect.{storesOf, reverting, snapping}
 use Rattle.calls.specs.Step.{isAccepted}
@@ -28,7 +29,7 @@ use Rattle.calls.proofs.RowLaws.{no}
 use Rattle.claims.proofs.Changed.{named-append, named-left, member-is}
 use Rattle.claims.proofs.StoreLists.{Whole, none, isStored, stored-join, stored-length, stored-other, stored-last, blocks-taken}
 use Rattle.claims.proofs.Frame.{stores-inside}
-use Rattle.claims.proofs.ChainAfter.{before, active-snoc, snapshots-snoc, sound-is, active-last, link-form, link-inside, none-stored, one-stored, copies-stored, reverted-chain}
+use Rattle.claims.proofs.ChainAfter.{before, snapshots-snoc, sound-is, active-last, link-form, link-inside, none-stored, one-stored, copies-stored, reverted-chain}
 use Rattle.claims.proofs.SnappedChain.{snap-rows, snapped-chain, next-nil, old-fits, tail-whole, old-block}
 
 -- four bytes are the bytes of the number that they make

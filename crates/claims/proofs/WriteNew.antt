@@ -11,12 +11,13 @@ use borrow.Author.Tests.{ne-eqb, eqb-true, eqb-false, ltb-true, ltb-false, leb-f
 use Rattle.blocks.specs.Pick.{pick}
 use Rattle.blocks.specs.Bytes.{u32At, le32, splice, blockCount, blockAt, zeroBlock, Store, store, storeAll}
 use Rattle.blocks.specs.Descriptor.{extendedOf, tableCount, noDescriptor, tailAt, descriptorBlock}
-use Rattle.blocks.specs.Chain.{Sound, chain}
+use Rattle.blocks.specs.Chain.{Sound, chain, activeOf}
 use Rattle.blocks.specs.declared.numbers.Physical.{Physical}
 use Rattle.blocks.specs.declared.descriptor.Descriptor.{Descriptor}
 use Rattle.blocks.proofs.ByteLaws.{u32-part, u32-in, u32-before, u32-after, length-le32, length-blockAt}
 use Rattle.blocks.proofs.DescriptorLaws.{Fits}
 use Rattle.blocks.proofs.SoundLaws.{form-layout}
+use Rattle.blocks.proofs.LinkedLaws.{active-at}
 use Rattle.entries.specs.InPlace.{inPlace}
 use Rattle.entries.specs.Entry.{entryAt, phiAt, tableOf, find, tableIsNew, need, tableWith, tailWith, setInNewTable, writing}
 use Rattle.entries.specs.Rules.{entryOf, Rules}
@@ -24,12 +25,12 @@ use Rattle.entries.specs.declared.find.Found.{Found}
 use Rattle.entries.specs.declared.find.Found.the-variants.{Entry}
 use Rattle.entries.proofs.EntryLaws.{placed-below}
 use Rattle.calls.specs.Call.{Write}
-use Rattle.calls.specs.Parts.{descriptorsOf, activeOf, snapshotsOf, foundThrough}
+use Rattle.calls.specs.Parts.{descriptorsOf, snapshotsOf, foundThrough}
 use Rattle.calls.specs.Check.{Passes}
 use Rattle.calls.specs.Ladder.{writeRows, rowsOf, answerOf}
 use Rattle.calls.specs.Effect.{storesOf}
 use Rattle.calls.specs.Step.{isAccepted}
-use Rattle.calls.proofs.CardLaws.{active-at, card-most, chain-is}
+use Rattle.calls.proofs.CardLaws.{card-most, chain-is}
 use Rattle.calls.proofs.RowLaws.{no, rows-passed}
 use Rattle.claims.proofs.Stored.{stored-bytes, block-tail, tail-long}
 use Rattle.claims.proofs.Changed.{name-long}

@@ -12,14 +12,14 @@ use borrow.Author.Tests.{eq-eqb, ne-eqb, lt-ltb, le-leb, eqb-true, eqb-false, lt
 use Rattle.blocks.specs.Pick.{pick}
 use Rattle.blocks.specs.Bytes.{u32At, le32, blockCount, blockAt, Store, store, storeAll}
 use Rattle.blocks.specs.Descriptor.{tableCount, noDescriptor, tailAt, descriptorBlock, extendedOf}
-use Rattle.blocks.specs.Chain.{Sound, chain}
+use Rattle.blocks.specs.Chain.{Sound, chain, activeOf}
 use Rattle.blocks.specs.declared.numbers.Physical.{Physical}
 use Rattle.blocks.specs.declared.descriptor.Descriptor.{Descriptor}
 use Rattle.blocks.proofs.Tests.{and-right}
 use Rattle.blocks.proofs.ByteLaws.{u32-before, u32-after, u32-in, length-le32, length-blockAt}
 use Rattle.blocks.proofs.DescriptorLaws.{Fits}
 use Rattle.blocks.proofs.SoundLaws.{form-layout}
-use Rattle.blocks.proofs.LinkedLaws.{chain-linked, linked-some}
+use Rattle.blocks.proofs.LinkedLaws.{chain-linked, linked-some, active-at}
 use Rattle.entries.specs.InPlace.{isDescriptor, isTable, inPlace}
 use Rattle.entries.specs.Entry.{entryAt, phiAt, tableOf, find, tableIsNew, need, tableWith, setInTable, writing}
 use Rattle.entries.specs.Rules.{entryOf, Rules}
@@ -27,12 +27,12 @@ use Rattle.entries.specs.declared.find.Found.{Found}
 use Rattle.entries.specs.declared.find.Found.the-variants.{Entry}
 use Rattle.entries.proofs.EntryLaws.{placed-below}
 use Rattle.calls.specs.Call.{Write}
-use Rattle.calls.specs.Parts.{descriptorsOf, activeOf, snapshotsOf, foundThrough}
+use Rattle.calls.specs.Parts.{descriptorsOf, snapshotsOf, foundThrough}
 use Rattle.calls.specs.Check.{Passes}
 use Rattle.calls.specs.Ladder.{writeRows, rowsOf, answerOf}
 use Rattle.calls.specs.Effect.{storesOf}
 use Rattle.calls.specs.Step.{isAccepted}
-use Rattle.calls.proofs.CardLaws.{active-at, card-most, chain-is}
+use Rattle.calls.proofs.CardLaws.{card-most, chain-is}
 use Rattle.calls.proofs.RowLaws.{no, rows-passed}
 use Rattle.claims.proofs.Changed.{layout-small, member-form}
 use Rattle.claims.proofs.StoreLists.{Whole, stored-length, stored-other}

@@ -12,7 +12,7 @@ use Rattle.blocks.specs.Pick.{pick}
 use Rattle.blocks.specs.Bytes.{le32, part, blockCount, blockAt, zeroBlock, Store, store, storeBlock, storeAll}
 use Rattle.blocks.specs.Name.{isName}
 use Rattle.blocks.specs.Descriptor.{physical, costOf, descriptorAt, tailAt, descriptorBlock, extendedOf, reservedOk, phiOk}
-use Rattle.blocks.specs.Chain.{formOk, regionOk, sound, Sound, chain}
+use Rattle.blocks.specs.Chain.{formOk, regionOk, sound, Sound, chain, activeOf}
 use Rattle.blocks.specs.declared.numbers.Physical.{Physical}
 use Rattle.blocks.specs.declared.descriptor.Descriptor.{Descriptor}
 use Rattle.blocks.proofs.Tests.{and-left, and-right}
@@ -27,7 +27,7 @@ use Rattle.entries.specs.declared.find.Found.{Found}
 use Rattle.entries.specs.declared.find.Found.the-variants.{Misplaced, Entry}
 use Rattle.entries.proofs.EntryLaws.{find-placed}
 use Rattle.calls.specs.Call.{Write}
-use Rattle.calls.specs.Parts.{descriptorsOf, activeOf, snapshotsOf, foundThrough, isMisplaced}
+use Rattle.calls.specs.Parts.{descriptorsOf, snapshotsOf, foundThrough, isMisplaced}
 use Rattle.calls.specs.Ladder.{writeRows, rowsOf, answerOf}
 use Rattle.calls.specs.Effect.{storesOf}
 use Rattle.calls.specs.Step.{isAccepted}

@@ -11,7 +11,7 @@ use lib.Dec.{eqb}
 use Rattle.blocks.specs.Bytes.{blockSize, blockCount, blockAt, zeroBlock}
 use Rattle.blocks.specs.Name.{isName}
 use Rattle.blocks.specs.Descriptor.{physical, noDescriptor, tableSize, tableCount, cost, costOf, firstOf, descriptorAt, descriptorBlock, renamedOf, linkedOf, extendedOf, reopenedOf}
-use Rattle.blocks.specs.Chain.{Sound, Unsound, mostDescriptors, sound, chain, chainSound, named}
+use Rattle.blocks.specs.Chain.{Sound, Unsound, sound, chain, chainSound, named, activeOf}
 use Rattle.blocks.specs.declared.descriptor.Descriptor.{Descriptor}
 use Rattle.entries.specs.InPlace.{inPlace}
 use Rattle.entries.specs.Entry.{entryAt, phiAt, need}
@@ -20,13 +20,13 @@ use Rattle.entries.specs.Rules.{Rules}
 use Rattle.calls.specs.declared.answer.Target.{Target}
 use Rattle.calls.specs.declared.answer.Record.{Record}
 use Rattle.calls.specs.Call.{Call, Ream, Read, Write, Snap, Revert, Listing, Check, Lent, None, Block, Records, Outcome, answer, accepted}
-use Rattle.calls.specs.Parts.{areaBad, descriptorsOf, activeOf, snapshotsOf, indexOf, withName, isSnapshot, targetOf, foundThrough}
+use Rattle.calls.specs.Parts.{areaBad, descriptorsOf, snapshotsOf, indexOf, withName, isSnapshot, targetOf, foundThrough}
 use Rattle.calls.specs.Check.{Passes}
 use Rattle.calls.specs.Ladder.{Row, row, rowsOf, answerOf}
 use Rattle.calls.specs.Effect.{lentOf}
 use Rattle.claims.specs.Algorithms.{Sigma, closeRegion, algorithm1, algorithm2, algorithm3, algorithm4, algorithm5, algorithm6}
 use Rattle.calls.specs.Step.{step, after, outcomes, isAccepted}
-use Rattle.claims.specs.History.{betaOf, Agree, isFormat, AreBytes, Standing, Position, Nowhere, At, latestSnap, without, formattable, formatted}
+use Rattle.claims.specs.History.{betaOf, Agree, isFormat, AreBytes, Standing, isSnapOf, Position, Nowhere, At, latestSnap, without, formattable, formatted}
 use Rattle.claims.specs.Ledger.{Ledger, ledgerStep, ledgerNumber, cellRead, ledgerNames, ledgerOf}
 
 -- Refusals, formats and room.
@@ -137,17 +137,17 @@ TableClaim =
 -- block q holds the first unsound descriptor on the way from block p, after the earlier ones of the chain: one that is not sound, or one that is not
 -- among the first 256, whatever it holds
 pub data FirstUnsound (c : List ℕ) : List Descriptor → ℕ → ℕ → Type 0 where
-  here : {earlier : List Descriptor} {p : ℕ} → length earlier < mostDescriptors → sound c earlier p ≡ false → FirstUnsound c earlier p p
-  past : {earlier : List Descriptor} {p : ℕ} → mostDescriptors ≤ length earlier → FirstUnsound c earlier p p
-  on : {earlier : List Descriptor} {p q : ℕ} → length earlier < mostDescriptors → sound c earlier p ≡ true → (descriptorAt c p .next .0 ≡ 0 → ⊥)
+  here : {earlier : List Descriptor} {p : ℕ} → length earlier < 256 → sound c earlier p ≡ false → FirstUnsound c earlier p p
+  past : {earlier : List Descriptor} {p : ℕ} → 256 ≤ length earlier → FirstUnsound c earlier p p
+  on : {earlier : List Descriptor} {p q : ℕ} → length earlier < 256 → sound c earlier p ≡ true → (descriptorAt c p .next .0 ≡ 0 → ⊥)
       → FirstUnsound c (earlier ++ (descriptorAt c p ∷ [])) (descriptorAt c p .next .0) q → FirstUnsound c earlier p q
 
 -- the descriptors from block p on, after the earlier ones of the chain: each is sound and among the first 256, each but the last names the block of
 -- the one after it, and the last has a nil next
 pub data Chained (c : List ℕ) : List Descriptor → ℕ → List Descriptor → Type 0 where
-  last : {earlier : List Descriptor} {p : ℕ} → length earlier < mostDescriptors → sound c earlier p ≡ true → descriptorAt c p .next .0 ≡ 0
+  last : {earlier : List Descriptor} {p : ℕ} → length earlier < 256 → sound c earlier p ≡ true → descriptorAt c p .next .0 ≡ 0
       → Chained c earlier p (descriptorAt c p ∷ [])
-  link : {earlier : List Descriptor} {p : ℕ} {ds : List Descriptor} → length earlier < mostDescriptors → sound c earlier p ≡ true
+  link : {earlier : List Descriptor} {p : ℕ} {ds : List Descriptor} → length earlier < 256 → sound c earlier p ≡ true
       → (descriptorAt c p .next .0 ≡ 0 → ⊥) → Chained c (earlier ++ (descriptorAt c p ∷ [])) (descriptorAt c p .next .0) ds → Chained c earlier p (descriptorAt c p ∷ ds)
 
 -- whether a call comes to the chain: the area is a card, a name that is given is one, the caller's block has 512 bytes. A ream never does
@@ -327,14 +327,26 @@ pub record Matched (s : List ℕ) (ks : List Call) (a : ℕ) (js : List Call) (b
   pub agree : (m : ℕ) → a + m ≤ length ks → Agree (after (take (a + m) ks) s) (after (take (b + m) js) s)
   pub answers : drop a (outcomes ks s) ≡ drop b (outcomes js s)
 
+-- a run from a card in which no snap of the visit v is accepted
+pub data Unsnapped (v : List ℕ) : List ℕ → List Call → Type 0 where
+  end : {c : List ℕ} → Unsnapped v c []
+  then : {c : List ℕ} {k : Call} {ks : List Call} → (isSnapOf v k && isAccepted (answerOf k c)) ≡ false → Unsnapped v (step k c .card) ks → Unsnapped v c (k ∷ ks)
+
+-- position i of a run from s holds the latest accepted snap of the visit v: it is accepted there, and no later one is
+pub record LastSnap (v s : List ℕ) (ks : List Call) (i : ℕ) : Type 0 where
+  pub inside : i < length ks
+  pub is : isSnapOf v (getD ks i Check) ≡ true
+  pub accepted-there : isAccepted (answerOf (getD ks i Check) (after (take i ks) s)) ≡ true
+  pub later : Unsnapped v (after (take (suc i) ks) s) (drop (suc i) ks)
+
 -- What a rollback to the visit v at position k comes to, given the latest accepted snap of v before it.
 -- At i: "forget the calls from that visit's latest accepted snapshot up to and including the rollback and run the shorter list from the same start";
 -- the card right after the revert is compared with the card after the calls before the forgotten ones.
--- Nowhere: v stands on the starting card; all calls before the rollback are forgotten, the rollback stays and is accepted there too.
+-- Nowhere: no snap of v is accepted before it, and v stands on the starting card; all calls before the rollback are forgotten, the rollback stays and is accepted there too.
 unfoldable pub Forgets : List ℕ → List ℕ → List Call → ℕ → Position → Type 0
-Forgets s v ks k (At i) = Matched s ks (suc k) (without ks i k) i
+Forgets s v ks k (At i) = LastSnap v s (take k ks) i × Matched s ks (suc k) (without ks i k) i
 Forgets s v ks k Nowhere =
-    (named (snapshotsOf (descriptorsOf s)) v ≡ true) × (isAccepted (answerOf (Revert v) s) ≡ true) × Matched s ks (suc k) (drop k ks) 1
+    Unsnapped v s (take k ks) × (named (snapshotsOf (descriptorsOf s)) v ≡ true) × (isAccepted (answerOf (Revert v) s) ≡ true) × Matched s ks (suc k) (drop k ks) 1
 
 -- the call at position k is a revert to v, and it is accepted there
 pub record RevertedAt (s : List ℕ) (ks : List Call) (k : ℕ) (v : List ℕ) : Type 0 where
@@ -354,7 +366,7 @@ SnapshotClaim =
     (area : List ℕ) (layout volume : ℕ) (name : List ℕ) → formattable area layout volume name ≡ true
     → (ks : List Call) → Standing (formatted area layout volume name) ks
     → (k : ℕ) (v : List ℕ) → RevertedAt (formatted area layout volume name) ks k v
-    → (i : ℕ) × (i < k) × (latestSnap v (formatted area layout volume name) (take k ks) ≡ At i)
+    → (i : ℕ) × (i < k) × (latestSnap v (formatted area layout volume name) (take k ks) ≡ At i) × LastSnap v (formatted area layout volume name) (take k ks) i
 
 -- Demand 3, whole: the list starts from all N blocks as an accepted ream left them, in either layout.
 unfoldable pub Demand3 : Type 0
@@ -362,5 +374,5 @@ Demand3 =
     (area : List ℕ) (layout volume : ℕ) (name : List ℕ) → AreBytes area → formattable area layout volume name ≡ true
     → (ks : List Call) → Standing (formatted area layout volume name) ks
     → (k : ℕ) (v : List ℕ) → RevertedAt (formatted area layout volume name) ks k v
-    → (i : ℕ) × (i < k) × (latestSnap v (formatted area layout volume name) (take k ks) ≡ At i)
+    → (i : ℕ) × (i < k) × (latestSnap v (formatted area layout volume name) (take k ks) ≡ At i) × LastSnap v (formatted area layout volume name) (take k ks) i
     × Matched (formatted area layout volume name) ks (suc k) (without ks i k) i

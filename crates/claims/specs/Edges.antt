@@ -1,42 +1,84 @@
--- Values at the edges of 01's rules, besides its bench values: cards on which one number is off by one or one byte is set, and which refusal comes first.
--- Each card is written out, block by block.
+-- Values at the edges of 01's rules, besides its bench values: areas, names and cards on which one number is off by one or one byte is set, where check
+-- finds its first fault, and which refusal comes first. Each card is written out, block by block.
+use mathlib.Core.Path.{_≡_}
 use mathlib.Core.List.{List, [], _∷_, _++_}
-use Prim.Native.Nat.{ℕ}
-use lib.ListN.{replicate}
+use Prim.Native.Nat.{ℕ, _*_}
+use lib.ListN.{length, replicate, set}
 use Rattle.blocks.specs.Bytes.{le32, zeroBlock}
-use Rattle.blocks.specs.Name.{noName}
+use Rattle.blocks.specs.Name.{padded, noName}
 use Rattle.blocks.specs.Descriptor.{physical, descriptorBlock}
 use Rattle.blocks.specs.declared.descriptor.Descriptor.{Descriptor}
 use Rattle.calls.specs.declared.answer.Target.the-variants.{Active, Snapshot}
-use Rattle.calls.specs.Call.{Call, Ream, Read, Write, Snap, Listing, Check, answer}
-use Rattle.claims.specs.Bench.{Only, Beta, Bytes, Value, area, ones, fs, mon, lent}
+use Rattle.calls.specs.Call.{Call, Ream, Read, Write, Snap, Revert, Listing, Check, answer}
+use Rattle.calls.specs.Ladder.{answerOf}
+use Rattle.calls.specs.Step.{step}
+use Rattle.claims.specs.Bench.{Only, Beta, Bytes, Value, area, ones, fs, mon, tue, lent}
 use Rattle.claims.specs.Example.{blank}
 
 -- a descriptor by its numbers
 abbrev pub descriptor : ℕ → ℕ → ℕ → ℕ → ℕ → List ℕ → Descriptor
 descriptor layout volume alpha beta next name = record { layout = layout; volume = volume; alpha = physical alpha; beta = physical beta; next = physical next; name = name }
 
--- its block, with bytes 40 to 511 zero; with one of bytes 40 to 63 set; with the first two entries of Phi
+-- its block, with bytes 40 to 511 zero; with byte 40 + i set to 1; with the first two entries of Phi
 abbrev pub bare : Descriptor → List ℕ
 bare d = descriptorBlock d (replicate 472 0)
 
-abbrev pub unclean : Descriptor → List ℕ
-unclean d = descriptorBlock d (replicate 23 0 ++ (1 ∷ []) ++ replicate 448 0)
+abbrev pub unclean : ℕ → Descriptor → List ℕ
+unclean i d = descriptorBlock d (set (replicate 472 0) i 1)
 
 abbrev pub withPhi : Descriptor → ℕ → ℕ → List ℕ
 withPhi d a b = descriptorBlock d (replicate 24 0 ++ le32 a ++ le32 b ++ replicate 440 0)
 
--- a table block with its first two entries
+-- a table block with its first two entries; with its last one
 abbrev pub table : ℕ → ℕ → List ℕ
 table a b = le32 a ++ le32 b ++ replicate 504 0
 
--- layout 2, L 1, two blocks: a descriptor with its beta and next, then zeros; three blocks: the snapshot mon, then a descriptor with its layout, L,
--- alpha and name, then zeros
+abbrev pub tableEnd : ℕ → List ℕ
+tableEnd a = replicate 508 0 ++ le32 a
+
+-- a descriptor block byte by byte: its first four bytes, layout 2, L 300, alpha 0, beta, next, the name fs, zeros, Phi's first entry
+abbrev pub literal : List ℕ → ℕ → ℕ → ℕ → List ℕ
+literal mark beta next m =
+    mark
+    ++ (2 ∷ 0 ∷ 0 ∷ 0 ∷ 44 ∷ 1 ∷ 0 ∷ 0 ∷ 0 ∷ 0 ∷ 0 ∷ 0 ∷ beta ∷ 0 ∷ 0 ∷ 0 ∷ next ∷ 0 ∷ 0 ∷ 0 ∷ 102 ∷ 115 ∷ [])
+    ++ replicate 38 0
+    ++ (m ∷ replicate 447 0)
+
+-- the bytes `snap`; a name of one byte; another name as text
+abbrev pub snap : List ℕ
+snap = 115 ∷ 110 ∷ 97 ∷ 112 ∷ []
+
+abbrev pub oneByte : ℕ → List ℕ
+oneByte b = b ∷ replicate 15 0
+
+abbrev pub wed : List ℕ
+wed = padded (119 ∷ 101 ∷ 100 ∷ [])
+
+-- one block: a descriptor that would be sound
+abbrev pub single : List ℕ
+single = bare (descriptor 2 1 0 1 0 fs)
+
+-- two blocks: a descriptor with its layout, L and name, then zeros; layout 2, L 1: a descriptor with its beta and next, then zeros
+abbrev pub first : ℕ → ℕ → List ℕ → List ℕ
+first layout volume name = bare (descriptor layout volume 0 2 0 name) ++ zeroBlock
+
 abbrev pub one : ℕ → ℕ → List ℕ
 one beta next = bare (descriptor 2 1 0 beta next fs) ++ zeroBlock
 
-abbrev pub two : ℕ → ℕ → ℕ → List ℕ → List ℕ
-two layout volume alpha name = bare (descriptor 2 1 0 1 1 mon) ++ bare (descriptor layout volume alpha 3 0 name) ++ zeroBlock
+-- three blocks: the snapshot mon, then a descriptor with its layout, L, alpha, beta and name, then zeros
+abbrev pub two : ℕ → ℕ → ℕ → ℕ → List ℕ → List ℕ
+two layout volume alpha beta name = bare (descriptor 2 1 0 1 1 mon) ++ bare (descriptor layout volume alpha beta 0 name) ++ zeroBlock
+
+-- three blocks: a descriptor with its beta and next, and one in block 1 or in block 2
+abbrev pub apart1 : ℕ → ℕ → List ℕ
+apart1 beta next = bare (descriptor 2 1 0 beta next mon) ++ bare (descriptor 2 1 1 3 0 fs) ++ zeroBlock
+
+abbrev pub apart2 : ℕ → ℕ → List ℕ
+apart2 beta next = bare (descriptor 2 1 0 beta next mon) ++ zeroBlock ++ bare (descriptor 2 1 2 3 0 fs)
+
+-- three blocks: the snapshots mon and tue, then a descriptor with its name
+abbrev pub three : List ℕ → List ℕ
+three name = bare (descriptor 2 1 0 1 1 mon) ++ bare (descriptor 2 1 1 2 2 tue) ++ bare (descriptor 2 1 2 3 0 name)
 
 -- four blocks, layout 2: Phi's first entry, then a table block with two entries, a block of ones, a block of nines
 abbrev pub four : ℕ → ℕ → ℕ → ℕ → ℕ → List ℕ
@@ -54,8 +96,47 @@ old p = bare (descriptor 2 1 0 2 2 mon) ++ table p 0 ++ withPhi (descriptor 2 1 
 abbrev pub plain : ℕ → List ℕ
 plain p = bare (descriptor 1 1 0 3 0 fs) ++ table p 0 ++ ones
 
+-- four blocks, layout 1, L 1: the active store with its beta and an empty table
+abbrev pub empty : ℕ → List ℕ
+empty beta = bare (descriptor 1 1 0 beta 0 fs) ++ zeroBlock ++ ones ++ ones
+
+-- six blocks, layout 1, L 1: the snapshot mon with its table's first entry and a block of ones, the active store from block 3 on with its table's and a
+-- block of nines
+abbrev pub pair : ℕ → ℕ → List ℕ
+pair p q = bare (descriptor 1 1 0 3 3 mon) ++ table p 0 ++ ones ++ bare (descriptor 1 1 3 6 0 fs) ++ table q 0 ++ lent
+
+-- seven blocks, layout 2, L 1: the snapshots mon and tue, the snapshot wed in block 2 with Phi's first entry, a table block with its first entry and a
+-- block of ones, the active store in block 5 with the same Phi and a block of nines
+abbrev pub chained : ℕ → ℕ → List ℕ
+chained m p =
+    bare (descriptor 2 1 0 1 1 mon)
+    ++ bare (descriptor 2 1 1 2 2 tue)
+    ++ withPhi (descriptor 2 1 2 5 5 wed) m 0
+    ++ table p 0
+    ++ ones
+    ++ withPhi (descriptor 2 1 5 7 0 fs) m 0
+    ++ lent
+
+-- four blocks, two table blocks, one with its first entry and one with its first two, a block of ones: layout 1; layout 2 with the first two entries of
+-- Phi
+abbrev pub tables1 : ℕ → ℕ → ℕ → ℕ → List ℕ
+tables1 volume p q r = bare (descriptor 1 volume 0 4 0 fs) ++ table p 0 ++ table q r ++ ones
+
+abbrev pub tables2 : ℕ → ℕ → ℕ → ℕ → ℕ → ℕ → List ℕ
+tables2 volume m n p q r = withPhi (descriptor 2 volume 0 4 0 fs) m n ++ table p 0 ++ table q r ++ ones
+
+-- three blocks, a table block and a block of ones: layout 1, the last entry of the table; layout 2, the last entry of Phi, and the first of the table
+abbrev pub lastEntry : ℕ → List ℕ
+lastEntry volume = bare (descriptor 1 volume 0 3 0 fs) ++ tableEnd 2 ++ ones
+
+abbrev pub lastPhi : ℕ → List ℕ
+lastPhi volume = unclean 468 (descriptor 2 volume 0 3 0 fs) ++ table 2 0 ++ ones
+
 abbrev pub reading : ℕ → Call
 reading l = Read Active noName l lent
+
+abbrev pub readingFrom : List ℕ → ℕ → Call
+readingFrom name l = Read Snapshot name l lent
 
 -- a value that shows nothing but number and place
 abbrev pub only : List ℕ → Call → ℕ → ℕ → Value
@@ -67,6 +148,89 @@ showingBeta card call beta = record { card = card; call = call; answer = answer 
 abbrev pub showingBlock : List ℕ → Call → List ℕ → Value
 showingBlock card call block = record { card = card; call = call; answer = answer 0 0; shown = Bytes block }
 
+unfoldable pub areaEdges : List Value
+areaEdges =
+    -- one block, with each call
+    only single (Ream 2 1 fs) 1 0
+    ∷ only single (reading 0) 1 0
+    ∷ only single (Write 0 ones) 1 0
+    ∷ only single (Snap mon) 1 0
+    ∷ only single (Revert mon) 1 0
+    ∷ only single (Listing (blank ∷ [])) 1 0
+    ∷ only single Check 1 0
+    -- no byte; one byte less than two blocks; two blocks and one byte
+    ∷ only [] (Listing []) 1 0
+    ∷ only (replicate 1023 0) (Listing []) 1 0
+    ∷ only (one 2 0 ++ (0 ∷ [])) (Listing (blank ∷ [])) 1 0
+    -- a caller's block of 511 and of 513 bytes
+    ∷ only (one 2 0) (Read Active noName 0 (replicate 511 9)) 9 0
+    ∷ only (one 2 0) (Read Active noName 0 (replicate 513 9)) 9 0
+    ∷ only (four 1 4 1 2 0) (Write 0 (replicate 511 1)) 9 0
+    ∷ only (four 1 4 1 2 0) (Write 0 (replicate 513 1)) 9 0
+    ∷ []
+
+unfoldable pub nameEdges : List Value
+nameEdges =
+    -- a byte just outside `-`, `.`, `0-9`, `a-z`
+    only (one 1 0) (Snap (oneByte 44)) 4 0
+    ∷ only (one 1 0) (Snap (oneByte 47)) 4 0
+    ∷ only (one 1 0) (Snap (oneByte 58)) 4 0
+    ∷ only (one 1 0) (Snap (oneByte 96)) 4 0
+    ∷ only (one 1 0) (Snap (oneByte 123)) 4 0
+    -- a first or last byte of these
+    ∷ showingBeta (one 1 0) (Snap (oneByte 45)) 2
+    ∷ showingBeta (one 1 0) (Snap (oneByte 46)) 2
+    ∷ showingBeta (one 1 0) (Snap (oneByte 48)) 2
+    ∷ showingBeta (one 1 0) (Snap (oneByte 57)) 2
+    ∷ showingBeta (one 1 0) (Snap (oneByte 97)) 2
+    ∷ showingBeta (one 1 0) (Snap (oneByte 122)) 2
+    -- no byte before the zeros; a byte after a zero byte, right after it and at the end
+    ∷ only (one 1 0) (Snap noName) 4 0
+    ∷ only (one 1 0) (Snap (97 ∷ 0 ∷ 97 ∷ replicate 13 0)) 4 0
+    ∷ only (one 1 0) (Snap (set (oneByte 97) 15 97)) 4 0
+    -- another byte after a letter, and after fifteen
+    ∷ only (one 1 0) (Snap (97 ∷ 47 ∷ replicate 14 0)) 4 0
+    ∷ only (one 1 0) (Snap (set (replicate 16 97) 15 47)) 4 0
+    -- sixteen letters; fifteen and seventeen bytes
+    ∷ showingBeta (one 1 0) (Snap (replicate 16 97)) 2
+    ∷ only (one 1 0) (Snap (replicate 15 97)) 4 0
+    ∷ only (one 1 0) (Snap (replicate 17 97)) 4 0
+    ∷ []
+
+unfoldable pub formEdges : List Value
+formEdges =
+    -- L 300, lowest byte first; Phi's entry and a table's entry byte by byte; beta and next, with a second descriptor
+    showingBlock (literal snap 2 0 0 ++ zeroBlock) (reading 299) zeroBlock
+    ∷ only (literal snap 2 0 0 ++ zeroBlock) (reading 300) 8 0
+    ∷ showingBlock (literal snap 3 0 1 ++ (2 ∷ replicate 511 0) ++ ones) (reading 0) ones
+    ∷ only (literal snap 1 1 0 ++ bare (descriptor 2 300 1 2 0 mon)) (Listing (blank ∷ [])) 14 0
+    -- a wrong byte in the mark
+    ∷ only (literal (114 ∷ 110 ∷ 97 ∷ 112 ∷ []) 2 0 0 ++ zeroBlock) (Listing []) 6 0
+    ∷ only (literal (115 ∷ 111 ∷ 97 ∷ 112 ∷ []) 2 0 0 ++ zeroBlock) (Listing []) 6 0
+    ∷ only (literal (115 ∷ 110 ∷ 96 ∷ 112 ∷ []) 2 0 0 ++ zeroBlock) (Listing []) 6 0
+    ∷ only (literal (115 ∷ 110 ∷ 97 ∷ 113 ∷ []) 2 0 0 ++ zeroBlock) (Listing []) 6 0
+    -- layouts 1 and 2; layouts 0 and 3
+    ∷ only (first 1 1 fs) (Listing []) 14 0
+    ∷ only (first 2 1 fs) (Listing []) 14 0
+    ∷ only (first 0 1 fs) (Listing []) 6 0
+    ∷ only (first 3 1 fs) (Listing []) 6 0
+    -- L 0, 14,336 and 14,337
+    ∷ only (first 2 0 fs) (Listing []) 6 0
+    ∷ only (first 2 14336 fs) (Listing []) 14 0
+    ∷ only (first 2 14337 fs) (Listing []) 6 0
+    -- no name; a name with another byte
+    ∷ only (first 2 1 noName) (Listing []) 6 0
+    ∷ only (first 2 1 (oneByte 47)) (Listing []) 6 0
+    -- byte 40 or 63 is set
+    ∷ only (unclean 0 (descriptor 2 1 0 2 0 fs) ++ zeroBlock) (Listing []) 6 0
+    ∷ only (unclean 23 (descriptor 2 1 0 2 0 fs) ++ zeroBlock) (Listing []) 6 0
+    -- byte 64 or 511 is set, in layout 2 and in layout 1
+    ∷ only (unclean 24 (descriptor 2 1 0 2 0 fs) ++ zeroBlock) (Listing []) 14 0
+    ∷ only (unclean 471 (descriptor 2 1 0 2 0 fs) ++ zeroBlock) (Listing []) 14 0
+    ∷ only (unclean 24 (descriptor 1 1 0 2 0 fs) ++ zeroBlock) (Listing []) 6 0
+    ∷ only (unclean 471 (descriptor 1 1 0 2 0 fs) ++ zeroBlock) (Listing []) 6 0
+    ∷ []
+
 unfoldable pub chainEdges : List Value
 chainEdges =
     -- beta = N with a nil next; next = beta, but beta is N; next is not beta
@@ -75,18 +239,42 @@ chainEdges =
     ∷ only (one 2 1) (Listing []) 6 0
     -- next = beta leads to a block of zeros
     ∷ only (one 1 1) (Listing []) 6 1
-    -- beta above N; beta below alpha + c
+    -- next leads to a descriptor: it is beta, it is below beta; it is beta, it is above beta
+    ∷ only (apart1 1 1) (Listing (blank ∷ [])) 14 0
+    ∷ only (apart1 2 1) (Listing []) 6 0
+    ∷ only (apart2 2 2) (Listing (blank ∷ [])) 14 0
+    ∷ only (apart2 1 2) (Listing []) 6 0
+    -- beta above N; beta = alpha + c, and below it
     ∷ only (one 3 0) (Listing []) 6 0
+    ∷ showingBeta (one 1 0) (Listing (blank ∷ [])) 1
     ∷ only (one 0 0) (Listing []) 6 0
-    -- one of bytes 40 to 63 is set; a byte of 64 to 511 is set in layout 1
-    ∷ only (unclean (descriptor 2 1 0 2 0 fs) ++ zeroBlock) (Listing []) 6 0
-    ∷ only (withPhi (descriptor 1 1 0 2 0 fs) 1 0 ++ zeroBlock) (Listing []) 6 0
+    -- the same in layout 1 with beta 2: c is 2, and 3
+    ∷ only (first 1 128 fs) (Listing []) 14 0
+    ∷ only (first 1 129 fs) (Listing []) 6 0
     -- the second descriptor is sound, and the list is shorter by one record; then another alpha, layout, L, and the name of the first
-    ∷ only (two 2 1 1 fs) (Listing (blank ∷ [])) 14 0
-    ∷ only (two 2 1 4294967295 fs) (Listing []) 6 1
-    ∷ only (two 1 1 1 fs) (Listing []) 6 1
-    ∷ only (two 2 2 1 fs) (Listing []) 6 1
-    ∷ only (two 2 1 1 mon) (Listing []) 6 1
+    ∷ only (two 2 1 1 3 fs) (Listing (blank ∷ [])) 14 0
+    ∷ only (two 2 1 0 3 fs) (Listing []) 6 1
+    ∷ only (two 2 1 2 3 fs) (Listing []) 6 1
+    ∷ only (two 2 1 4294967295 3 fs) (Listing []) 6 1
+    ∷ only (two 1 1 1 3 fs) (Listing []) 6 1
+    ∷ only (two 2 2 1 3 fs) (Listing []) 6 1
+    ∷ only (two 2 1 1 3 mon) (Listing []) 6 1
+    -- its beta above N; its beta = alpha + c, and below it
+    ∷ only (two 2 1 1 4 fs) (Listing []) 6 1
+    ∷ showingBeta (two 2 1 1 2 fs) (Listing (blank ∷ blank ∷ [])) 2
+    ∷ only (two 2 1 1 1 fs) (Listing []) 6 1
+    -- the third descriptor has a name of its own, that of the first, that of the second
+    ∷ only (three fs) (Listing (blank ∷ blank ∷ [])) 14 0
+    ∷ only (three mon) (Listing []) 6 2
+    ∷ only (three tue) (Listing []) 6 2
+    -- the names in use, of the first, the second and the active one; a snapshot is any but the last
+    ∷ only (three fs) (Snap mon) 12 0
+    ∷ only (three fs) (Snap tue) 12 0
+    ∷ only (three fs) (Snap fs) 12 0
+    ∷ only (three fs) (Snap wed) 11 0
+    ∷ showingBeta (three fs) (Revert mon) 1
+    ∷ showingBeta (three fs) (Revert tue) 2
+    ∷ only (three fs) (Revert fs) 7 0
     ∷ []
 
 unfoldable pub entryEdges : List Value
@@ -95,29 +283,115 @@ entryEdges =
     showingBlock (four 1 3 1 2 0) (reading 0) ones
     ∷ only (four 1 3 1 3 0) (reading 0) 10 1
     ∷ only (four 1 3 3 2 0) (reading 0) 10 0
+    -- the entry is beta - 1 in its lowest byte, and another byte is set
+    ∷ only (four 1 3 1 258 0) (reading 0) 10 1
+    ∷ only (four 1 3 1 65538 0) (reading 0) 10 1
+    ∷ only (four 1 3 1 16777218 0) (reading 0) 10 1
     -- the entry names its own table block: in place, but named twice
-    ∷ only (four 1 3 1 1 0) (reading 0) 0 0
+    ∷ showingBlock (four 1 3 1 1 0) (reading 0) (table 1 0)
     ∷ only (four 1 3 1 1 0) Check 10 1
     -- two entries name one block
     ∷ only (four 2 3 1 2 2) Check 10 1
     -- an entry past L, and one of Phi past n: no read follows them
-    ∷ only (four 1 3 1 0 2) (reading 0) 0 0
+    ∷ showingBlock (four 1 3 1 0 2) (reading 0) zeroBlock
     ∷ only (four 1 3 1 0 2) Check 10 1
-    ∷ only (withPhi (descriptor 2 1 0 2 0 fs) 0 1 ++ zeroBlock) (reading 0) 0 0
+    ∷ showingBlock (withPhi (descriptor 2 1 0 2 0 fs) 0 1 ++ zeroBlock) (reading 0) zeroBlock
     ∷ only (withPhi (descriptor 2 1 0 2 0 fs) 0 1 ++ zeroBlock) Check 10 0
-    -- Phi's entry names a descriptor, and a table's entry does; a layout 1 entry names the table block
+    -- Phi's entry names its own descriptor, and a table's entry does; a layout 1 entry names the table block
     ∷ only (snapped 1 3) (reading 0) 10 1
     ∷ only (snapped 2 1) (reading 0) 10 2
     ∷ only (plain 1) (reading 0) 10 1
     -- a data entry above alpha in a table block below it: charged to the table block by check, and overwritten by a write
     ∷ only (old 3) Check 10 1
     ∷ showingBeta (old 3) (Write 0 lent) 4
+    ∷ showingBlock (step (Write 0 lent) (old 3) .card) (reading 0) lent
+    ∷ []
+
+unfoldable pub openingEdges : List Value
+openingEdges =
+    -- layout 1: the active entry names its own data block, the snapshot's, the snapshot's table block, the active descriptor, the active table block
+    showingBlock (pair 2 5) (reading 0) lent
+    ∷ showingBlock (pair 2 2) (reading 0) ones
+    ∷ only (pair 2 1) (reading 0) 10 4
+    ∷ only (pair 2 3) (reading 0) 10 4
+    ∷ only (pair 2 4) (reading 0) 10 4
+    -- the same with writes, where there is no room
+    ∷ showingBeta (pair 2 5) (Write 0 ones) 6
+    ∷ only (pair 2 2) (Write 0 ones) 11 0
+    ∷ only (pair 2 1) (Write 0 ones) 10 4
+    ∷ only (pair 2 3) (Write 0 ones) 10 4
+    ∷ only (pair 2 4) (Write 0 ones) 10 4
+    -- the snapshot's entry names its data block, its table block, the descriptor after it, a data block after that
+    ∷ showingBlock (pair 2 0) (readingFrom mon 0) ones
+    ∷ only (pair 1 0) (readingFrom mon 0) 10 1
+    ∷ only (pair 3 0) (readingFrom mon 0) 10 1
+    ∷ only (pair 5 0) (readingFrom mon 0) 10 1
+    -- layout 2, a snapshot's entry: it names its data block, an earlier descriptor, its own, the later one, a data block after that; Phi's entry names an
+    -- earlier descriptor
+    ∷ showingBlock (chained 3 4) (readingFrom wed 0) ones
+    ∷ only (chained 3 1) (readingFrom wed 0) 10 3
+    ∷ only (chained 3 2) (readingFrom wed 0) 10 3
+    ∷ only (chained 3 5) (readingFrom wed 0) 10 3
+    ∷ only (chained 3 6) (readingFrom wed 0) 10 3
+    ∷ only (chained 1 0) (readingFrom wed 0) 10 2
+    -- the same entries through the active descriptor
+    ∷ showingBlock (chained 3 4) (reading 0) ones
+    ∷ only (chained 3 1) (reading 0) 10 3
+    ∷ only (chained 3 2) (reading 0) 10 3
+    ∷ only (chained 3 5) (reading 0) 10 3
+    ∷ showingBlock (chained 3 6) (reading 0) lent
+    ∷ only (chained 1 0) (reading 0) 10 5
+    ∷ only (chained 2 0) (reading 0) 10 5
+    -- through a snapshot whose Phi is nil
+    ∷ showingBlock (chained 3 4) (readingFrom tue 0) zeroBlock
+    ∷ []
+
+unfoldable pub tableEdges : List Value
+tableEdges =
+    -- the entry of logical block 128 stands first in the second table block, in both layouts
+    showingBlock (tables1 129 0 3 0) (reading 128) ones
+    ∷ showingBlock (tables1 129 0 3 0) (reading 0) zeroBlock
+    ∷ showingBlock (tables2 129 1 2 0 3 0) (reading 128) ones
+    ∷ showingBlock (tables2 129 1 2 0 3 0) (reading 0) zeroBlock
+    -- Phi names the later block first, so that it is the table of logical blocks 0 to 127; Phi's first entry is nil
+    ∷ showingBlock (tables2 129 2 1 0 0 3) (reading 1) ones
+    ∷ showingBlock (tables2 129 0 2 0 3 0) (reading 0) zeroBlock
+    ∷ showingBlock (tables2 129 0 2 0 3 0) (reading 128) ones
+    -- a layout 1 entry names the second table block, and one in it names the first
+    ∷ only (tables1 129 2 0 0) (reading 0) 10 1
+    ∷ only (tables1 129 0 1 0) (reading 128) 10 2
+    -- the last entry of a table block, and the last of Phi
+    ∷ showingBlock (lastEntry 128) (reading 127) ones
+    ∷ showingBlock (lastPhi 14209) (reading 14208) ones
+    ∷ []
+
+unfoldable pub faultEdges : List Value
+faultEdges =
+    -- one block named in two tables, also where Phi names the later block first; a layout 1 entry past L in the second table
+    only (tables1 129 3 3 0) Check 10 2
+    ∷ only (tables2 129 2 1 3 3 0) Check 10 1
+    ∷ only (tables1 129 0 0 3) Check 10 2
+    -- a table block named by an entry, then by Phi; by Phi, then by an entry of another table; by Phi twice
+    ∷ only (tables2 129 1 2 2 0 0) Check 10 0
+    ∷ only (tables2 129 1 2 0 1 0) Check 10 2
+    ∷ only (tables2 129 1 1 0 0 0) Check 10 0
+    -- an entry past L in the second table, the first being nil; the last entry of a table block past L; the last of Phi past n
+    ∷ only (tables2 129 0 2 0 0 3) Check 10 2
+    ∷ only (lastEntry 127) Check 10 1
+    ∷ only (lastPhi 14208) Check 10 0
+    -- an entry that names the snapshot's table block; of two faults, that of the earlier descriptor
+    ∷ only (pair 2 1) Check 10 4
+    ∷ only (pair 3 1) Check 10 1
     ∷ []
 
 unfoldable pub roomEdges : List Value
 roomEdges =
+    -- a ream of layout 0, with c = N, and with c = N + 1
+    only (area 2) (Ream 0 1 fs) 2 0
+    ∷ showingBeta (area 2) (Ream 1 128 fs) 2
+    ∷ only (area 2) (Ream 1 129 fs) 5 0
     -- need 0 at beta = N
-    showingBeta (four 1 4 1 2 0) (Write 0 ones) 4
+    ∷ showingBeta (four 1 4 1 2 0) (Write 0 ones) 4
     -- need 1 at beta = N - 1 and at N
     ∷ showingBeta (four 2 3 1 2 0) (Write 1 ones) 4
     ∷ only (four 2 4 1 2 0) (Write 1 ones) 11 0
@@ -127,31 +401,61 @@ roomEdges =
     -- a snap of c = 1 at beta = N - 1 and at N
     ∷ showingBeta (four 2 3 0 0 0) (Snap mon) 4
     ∷ only (four 2 4 0 0 0) (Snap mon) 11 0
+    -- layout 1: need 1 at beta = N - 1 and at N, a snap of c = 2 at beta = N - 2 and at N - 1
+    ∷ showingBeta (empty 3) (Write 0 ones) 4
+    ∷ only (empty 4) (Write 0 ones) 11 0
+    ∷ showingBeta (empty 2) (Snap mon) 4
+    ∷ only (empty 3) (Snap mon) 11 0
     ∷ []
 
 unfoldable pub orderEdges : List Value
 orderEdges =
-    -- 1 before all; 2 before 3, 3 before 4
+    -- 1 before all; 2 before 3, 3 before 4 and 5, 4 before 5
     only (replicate 1025 0) (Ream 9 0 []) 1 0
     ∷ only (area 2) (Ream 3 0 noName) 2 0
     ∷ only (area 2) (Ream 2 0 noName) 3 0
+    ∷ only (area 2) (Ream 1 14337 noName) 3 0
     ∷ only (area 2) (Ream 2 1 noName) 4 0
+    ∷ only (area 2) (Ream 1 129 noName) 4 0
     -- 4 before 9, 9 before 6
     ∷ only (area 2) (Read Snapshot noName 9 []) 4 0
     ∷ only (area 2) (Read Snapshot mon 9 []) 9 0
+    ∷ only (area 2) (Write 9 []) 9 0
+    -- 4 before 6
+    ∷ only (area 2) (Snap noName) 4 0
+    ∷ only (area 2) (Revert noName) 4 0
+    -- 6 before 7, 8, 10, 12 and 14
     ∷ only (area 2) (Read Snapshot mon 9 lent) 6 0
-    -- a zero byte inside a name
-    ∷ only (area 2) (Snap (97 ∷ 0 ∷ 97 ∷ replicate 13 0)) 4 0
+    ∷ only (area 2) (Write 9 ones) 6 0
+    ∷ only (area 2) (Revert mon) 6 0
+    ∷ only (one 2 1) (Snap fs) 6 0
+    ∷ only (area 2) (Listing []) 6 0
+    ∷ only (unclean 0 (descriptor 1 1 0 2 0 fs) ++ table 9 0) Check 6 0
     -- 7 before 8, and the active name is no snapshot's
     ∷ only (four 1 3 1 2 0) (Read Snapshot fs 9 lent) 7 0
     ∷ only (four 1 3 1 2 0) (reading 1) 8 0
-    -- 9 before 8; on a full card 10, and not 11
+    -- 9 before 8; 8 before 11
     ∷ only (four 2 4 1 2 4) (Write 2 []) 9 0
     ∷ only (four 2 4 1 2 4) (Write 2 ones) 8 0
-    ∷ only (four 2 4 1 2 4) (Write 1 ones) 10 1
+    -- 8 before 10, of a table's entry and of Phi's
+    ∷ only (four 1 3 1 2 9) (reading 1) 8 0
+    ∷ only (four 1 3 9 0 0) (reading 1) 8 0
+    ∷ only (four 1 3 1 2 9) (Write 1 ones) 8 0
+    ∷ only (four 1 3 9 0 0) (Write 1 ones) 8 0
+    -- on a full card with a table block below alpha: 11 where the entries are in place, 10 where the table's or Phi's is not
+    ∷ only (chained 3 4) (Write 0 ones) 11 0
+    ∷ only (chained 3 1) (Write 0 ones) 10 3
+    ∷ only (chained 1 0) (Write 0 ones) 10 5
     -- 12 before 11
     ∷ only (four 2 4 0 0 0) (Snap fs) 12 0
     ∷ []
 
 unfoldable pub edges : List Value
-edges = chainEdges ++ entryEdges ++ roomEdges ++ orderEdges
+edges = areaEdges ++ nameEdges ++ formEdges ++ chainEdges ++ entryEdges ++ openingEdges ++ tableEdges ++ faultEdges ++ roomEdges ++ orderEdges
+
+-- N 65,536 and 65,537, whatever the area holds: the first goes on to the next refusal of a ream, the second is refused with each call
+unfoldable pub SizeEdges : Type 0
+SizeEdges =
+    (c : List ℕ)
+    → (length c ≡ 512 * 65536 → (volume : ℕ) (name : List ℕ) → answerOf (Ream 3 volume name) c ≡ answer 2 0)
+    × (length c ≡ 512 * 65537 → (k : Call) → answerOf k c ≡ answer 1 0)

@@ -9,9 +9,9 @@ use Rattle.blocks.specs.Pick.{pick, same}
 use Rattle.blocks.specs.Bytes.{blockSize, blockCount, storeAll}
 use Rattle.blocks.specs.Name.{isName}
 use Rattle.blocks.specs.Descriptor.{cost, mostVolume, opening}
-use Rattle.blocks.specs.Chain.{chain, chainSound}
+use Rattle.blocks.specs.Chain.{chain, chainSound, activeOf}
 use Rattle.calls.specs.Call.{Call, Ream, Read, Write, Snap, Revert, Listing, Check}
-use Rattle.calls.specs.Parts.{areaBad, descriptorsOf, activeOf}
+use Rattle.calls.specs.Parts.{areaBad, descriptorsOf}
 use Rattle.calls.specs.Ladder.{answerOf}
 use Rattle.calls.specs.Step.{step, isAccepted}
 

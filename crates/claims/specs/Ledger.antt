@@ -8,10 +8,11 @@ use Rattle.blocks.specs.Pick.{pick, same}
 use Rattle.blocks.specs.Bytes.{blockSize}
 use Rattle.blocks.specs.Name.{isName, noName}
 use Rattle.blocks.specs.declared.descriptor.Descriptor.{Descriptor}
+use Rattle.blocks.specs.Chain.{activeOf}
 use Rattle.calls.specs.declared.answer.Target.{Target}
 use Rattle.calls.specs.declared.answer.Target.the-variants.{Active, Snapshot}
 use Rattle.calls.specs.Call.{Call, Ream, Read, Write, Snap, Revert, Listing, Check}
-use Rattle.calls.specs.Parts.{descriptorsOf, activeOf, snapshotsOf, isSnapshot, foundThrough, blockFound, mostSnapshots}
+use Rattle.calls.specs.Parts.{descriptorsOf, snapshotsOf, isSnapshot, foundThrough, blockFound}
 use Rattle.calls.specs.Ladder.{Row, row, firstRow, nameRow, blockRow}
 
 -- a named volume: the content of each of its logical blocks
@@ -62,7 +63,7 @@ ledgerRows (Write l block) g = blockRow block ∷ row (leb (length (g .active .c
 ledgerRows (Snap name) g =
     nameRow name
     ∷ row (hasVolume (g .snapshots) name || same (g .active .name) name) 12 0
-    ∷ row (leb mostSnapshots (length (g .snapshots))) 13 0
+    ∷ row (leb 255 (length (g .snapshots))) 13 0
     ∷ []
 ledgerRows (Revert name) g = nameRow name ∷ row (not (hasVolume (g .snapshots) name)) 7 0 ∷ []
 ledgerRows (Listing records) g = row (ltb (length records) (suc (length (g .snapshots)))) 14 0 ∷ []

@@ -5,39 +5,41 @@ use mathlib.Core.Bool.{Bool, true, false, not, _&&_, _||_}
 use mathlib.Core.List.{List, [], _∷_, _++_}
 use Prim.Native.Nat.{ℕ, zero, suc, _+_, _*_, _-_, _^_, _≤_, _<_}
 use native.Mathlib.Numerals.{add-one}
+use native.Mathlib.Nat.{add-assoc}
 use native.Mathlib.Omega.{arith}
 use lib.ListN.{length, getD, set, length-set}
-use lib.Seq.{getD-set-same, getD-set-other}
+use lib.Seq.{getD-set-same, getD-set-other, drop-cons}
 use lib.Dec.{eqb, ltb, leb}
 use borrow.Author.Tests.{eq-eqb, ne-eqb, lt-ltb, le-ltb, le-leb, lt-leb, eqb-true, eqb-false, ltb-true, ltb-false, leb-true, not-true, not-false}
-use Rattle.blocks.specs.Pick.{pick}
+use Rattle.blocks.specs.Pick.{pick, allZero}
+use Rattle.blocks.specs.Bytes.{u32At, part}
 use Rattle.blocks.specs.Descriptor.{physical, tableCount}
 use Rattle.blocks.specs.declared.numbers.Physical.{Physical}
 use Rattle.blocks.specs.declared.descriptor.Descriptor.{Descriptor}
 use Rattle.entries.specs.InPlace.{isDescriptor, isTable, inPlace}
 use Rattle.entries.specs.Entry.{entryAt, phiAt, tableOf}
 use Rattle.entries.specs.Naming.{Naming, among, atFault, tableNamings, tablesNamings, phiNamings, firstFault}
-use Rattle.entries.specs.Marks.{takes, taking, Marks, Walked, namedTable, TableReady, TablesReady, PhiReady}
-use Rattle.entries.proofs.MarkLaws.{takes-below, length-taking}
+use Rattle.entries.specs.Marks.{isFlagged, takes, taking, Marks, Walked, Judged, namedTable, TableReady, TablesReady, PhiReady}
+use Rattle.entries.proofs.MarkLaws.{takes-below, takes-free, length-taking}
 use Rattle.entries.specs.declared.check.Verdict.the-variants.{Passed, Fault}
 
 no : {A : Type 0} → false ≡ true → A
 no e = let z : _≡_ {A = ℕ} 0 1 = cc in absurd (omega arith)
 
+or-false-left : (x y : Bool) → (x || y) ≡ false → x ≡ false
+or-false-left true y e = no (sym e)
+or-false-left false y e = refl
+
+or-false-right : (x y : Bool) → (x || y) ≡ false → y ≡ false
+or-false-right true y e = no (sym e)
+or-false-right false y e = e
+
+or-true-right : (x : Bool) → (x || true) ≡ true
+or-true-right true = refl
+or-true-right false = refl
+
 -- one entry, as tests: z nil, b below beta, o in an opening, k counted, a named before, f against the rule on old tables, t below the limit, s flagged
 module _ (b o a f t s : Bool) (lower : t ≡ true → b ≡ true) (rule : b ≡ true → f ≡ not t) where
-  or-false-left : (x y : Bool) → (x || y) ≡ false → x ≡ false
-  or-false-left true y e = no (sym e)
-  or-false-left false y e = refl
-
-  or-false-right : (x y : Bool) → (x || y) ≡ false → y ≡ false
-  or-false-right true y e = no (sym e)
-  or-false-right false y e = e
-
-  or-true-right : (x : Bool) → (x || true) ≡ true
-  or-true-right true = refl
-  or-true-right false = refl
-
   -- a set entry that is taken is not at fault
   set-taken : (k : Bool) → (t ≡ true → s ≡ (o || a)) → (k && t && not s) ≡ true → (not (b && not o) || (not k || a) || f) ≡ false
   set-taken false flags e = no e
@@ -65,7 +67,7 @@ module _ (b o a f t s : Bool) (lower : t ≡ true → b ≡ true) (rule : b ≡ 
       by false true false qt qb qo = rw (rule qb, qt, or-true-right (not (b && not o) || (not true || a)))
 
 -- an entry of value v in block holder, after the values named before, with flags that say which blocks may not be named any more
-module _ (ds : List Descriptor) (d : Descriptor) (holder v : ℕ) (counted phi : Bool) (limit : ℕ) (before : List ℕ) (seen : List Bool) (marks : Marks ds seen before) (low : limit ≤ d .beta .0) (small : d .beta .0 ≤ 65536) where
+module _ (ds : List Descriptor) (d : Descriptor) (holder v : ℕ) (counted phi : Bool) (limit : ℕ) (before : List ℕ) (turn : ℕ) (seen : List ℕ) (marks : Marks ds turn seen before) (low : limit ≤ d .beta .0) (long : d .beta .0 ≤ length seen) where
   abbrev entry : Naming
   entry = record { holder = holder; value = v; counted = counted; phi = phi }
 
@@ -76,7 +78,7 @@ module _ (ds : List Descriptor) (d : Descriptor) (holder v : ℕ) (counted phi :
     lower : ltb v limit ≡ true → ltb v (d .beta .0) ≡ true
     lower e = lt-ltb v (d .beta .0) (omega (arith, ltb-true v limit e))
 
-    flags : (v ≡ 0 → ⊥) → ltb v limit ≡ true → getD seen v false ≡ ((isDescriptor ds v || isTable ds v) || among before v)
+    flags : (v ≡ 0 → ⊥) → ltb v limit ≡ true → isFlagged seen turn v ≡ ((isDescriptor ds v || isTable ds v) || among before v)
     flags n e = marks .says v (omega (arith, ltb-true v limit e)) n
 
     fault-nil : v ≡ 0 → atFault ds d before entry ≡ false
@@ -87,33 +89,29 @@ module _ (ds : List Descriptor) (d : Descriptor) (holder v : ℕ) (counted phi :
     unfolding atFault inPlace
     fault-set n = rw (ne-eqb v 0 n)
 
-    taken-by : (z : Bool) → eqb v 0 ≡ z → takes seen limit counted v ≡ true → atFault ds d before entry ≡ false
+    taken-by : (z : Bool) → eqb v 0 ≡ z → takes seen turn limit counted v ≡ true → atFault ds d before entry ≡ false
     unfolding takes
     taken-by true e h = fault-nil (eqb-true v 0 e)
     taken-by false e h =
         let n = eqb-false v 0 e in
         fault-set n
-        ∙ set-taken (ltb v (d .beta .0)) (isDescriptor ds v || isTable ds v) (among before v) old-table (ltb v limit) (getD seen v false) lower (λ b. rule (ltb-true v (d .beta .0) b)) counted (flags n) (rw e at h)
+        ∙ set-taken (ltb v (d .beta .0)) (isDescriptor ds v || isTable ds v) (among before v) old-table (ltb v limit) (isFlagged seen turn v) lower (λ b. rule (ltb-true v (d .beta .0) b)) counted (flags n) (rw e at h)
 
-    pub entry-taken : takes seen limit counted v ≡ true → atFault ds d before entry ≡ false
+    pub entry-taken : takes seen turn limit counted v ≡ true → atFault ds d before entry ≡ false
     entry-taken h = taken-by (eqb v 0) refl h
 
-    refused-by : (z : Bool) → eqb v 0 ≡ z → takes seen limit counted v ≡ false → atFault ds d before entry ≡ true
+    refused-by : (z : Bool) → eqb v 0 ≡ z → takes seen turn limit counted v ≡ false → atFault ds d before entry ≡ true
     unfolding takes
     refused-by true e h = no (sym (rw e at h))
     refused-by false e h =
         let n = eqb-false v 0 e in
         fault-set n
-        ∙ set-refused (ltb v (d .beta .0)) (isDescriptor ds v || isTable ds v) (among before v) old-table (ltb v limit) (getD seen v false) lower (λ b. rule (ltb-true v (d .beta .0) b)) counted (flags n) (rw e at h)
+        ∙ set-refused (ltb v (d .beta .0)) (isDescriptor ds v || isTable ds v) (among before v) old-table (ltb v limit) (isFlagged seen turn v) lower (λ b. rule (ltb-true v (d .beta .0) b)) counted (flags n) (rw e at h)
 
-    pub entry-refused : takes seen limit counted v ≡ false → atFault ds d before entry ≡ true
+    pub entry-refused : takes seen turn limit counted v ≡ false → atFault ds d before entry ≡ true
     entry-refused h = refused-by (eqb v 0) refl h
 
   -- the flags after it
-  or-true-end : (x : Bool) → (x || true) ≡ true
-  or-true-end true = refl
-  or-true-end false = refl
-
   among-other : (w : ℕ) → (w ≡ v → ⊥) → among (v ∷ before) w ≡ among before w
   unfolding among
   among-other w n = rw (ne-eqb v w (λ e. n (sym e)))
@@ -122,32 +120,54 @@ module _ (ds : List Descriptor) (d : Descriptor) (holder v : ℕ) (counted phi :
   unfolding among
   among-same = rw (eq-eqb v v refl)
 
-  flag-at : (v ≡ 0 → ⊥) → v < 65536 → (w : ℕ) → w < 65536 → (w ≡ 0 → ⊥) → (t : Bool) → eqb w v ≡ t → getD (set seen v true) w false ≡ ((isDescriptor ds w || isTable ds w) || among (v ∷ before) w)
-  flag-at n l w m k true e =
-      let q = eqb-true w v e in
-      rw (q, getD-set-same seen v true false (rw (marks .long) l), among-same) (sym (or-true-end (isDescriptor ds v || isTable ds v)))
-  flag-at n l w m k false e =
-      let q = eqb-false w v e in
-      getD-set-other seen v w true false q ∙ marks .says w m k ∙ ap (λ (x : Bool). (isDescriptor ds w || isTable ds w) || x) (sym (among-other w q))
+  -- a flag of the turn, on a block that had none
+  module _ (free : takes seen turn limit counted v ≡ true) (n : v ≡ 0 → ⊥) where
+    in-range : v < length seen
+    in-range = omega (arith, takes-below seen turn limit counted v free n)
 
-  marks-by : (z : Bool) → eqb v 0 ≡ z → takes seen limit counted v ≡ true → Marks ds (taking seen limit counted v) (v ∷ before)
+    not-opened : (isDescriptor ds v || isTable ds v) ≡ false
+    not-opened = or-false-left (isDescriptor ds v || isTable ds v) (among before v) (sym (marks .says v in-range n) ∙ takes-free seen turn limit counted v free n)
+
+    flag-same : (w : ℕ) → w ≡ v → getD (set seen v turn) w 0 ≡ turn
+    flag-same w q = rw q (getD-set-same seen v turn 0 in-range)
+
+    module _ (w : ℕ) (m : w < length seen) (k : w ≡ 0 → ⊥) where
+      says-at : (t : Bool) → eqb w v ≡ t → isFlagged (set seen v turn) turn w ≡ ((isDescriptor ds w || isTable ds w) || among (v ∷ before) w)
+      says-at true e =
+          let q = eqb-true w v e in
+          ap (λ (x : ℕ). leb turn x) (flag-same w q) ∙ le-leb turn turn (omega arith) ∙ rw (q, among-same) (sym (or-true-right (isDescriptor ds v || isTable ds v)))
+      says-at false e =
+          let q = eqb-false w v e in
+          ap (λ (x : ℕ). leb turn x) (getD-set-other seen v w turn 0 q) ∙ marks .says w m k ∙ ap (λ (x : Bool). (isDescriptor ds w || isTable ds w) || x) (sym (among-other w q))
+
+      opening-at : (t : Bool) → eqb w v ≡ t → (isDescriptor ds w || isTable ds w) ≡ true → getD (set seen v turn) w 0 ≡ 255
+      opening-at true e o = let q = eqb-true w v e in no (sym not-opened ∙ rw q at o)
+      opening-at false e o = getD-set-other seen v w turn 0 (eqb-false w v e) ∙ marks .opening w m k o
+
+      other-at : (t : Bool) → eqb w v ≡ t → (isDescriptor ds w || isTable ds w) ≡ false → getD (set seen v turn) w 0 ≤ turn
+      other-at true e o = omega (arith, flag-same w (eqb-true w v e))
+      other-at false e o = omega (arith, getD-set-other seen v w turn 0 (eqb-false w v e), marks .other w m k o)
+
+  marks-by : (z : Bool) → eqb v 0 ≡ z → takes seen turn limit counted v ≡ true → Marks ds turn (taking seen turn limit counted v) (v ∷ before)
   unfolding taking
   marks-by true e h =
       rw e
       record {
-        long = marks .long;
         says = λ w m k. marks .says w m k ∙ ap (λ (x : Bool). (isDescriptor ds w || isTable ds w) || x) (sym (among-other w (λ q. k (q ∙ eqb-true v 0 e))));
+        opening = marks .opening;
+        other = marks .other;
       }
   marks-by false e h =
       let n = eqb-false v 0 e in
-      let l = takes-below seen limit counted v h n in
+      let l = length-set seen v turn in
       rw (e, h)
       record {
-        long = length-set seen v true ∙ marks .long;
-        says = λ w m k. flag-at n (omega arith) w m k (eqb w v) refl;
+        says = λ w m k. says-at h n w (omega arith) k (eqb w v) refl;
+        opening = λ w m k o. opening-at h n w (omega arith) k (eqb w v) refl o;
+        other = λ w m k o. other-at h n w (omega arith) k (eqb w v) refl o;
       }
 
-  pub marks-taken : takes seen limit counted v ≡ true → Marks ds (taking seen limit counted v) (v ∷ before)
+  pub marks-taken : takes seen turn limit counted v ≡ true → Marks ds turn (taking seen turn limit counted v) (v ∷ before)
   marks-taken h = marks-by (eqb v 0) refl h
 
 -- the limit of a table block: alpha where the table is an old one, else beta
@@ -210,14 +230,14 @@ module _ (ds : List Descriptor) (d : Descriptor) (before : List ℕ) (e : Naming
   fault-here h = rw h
 
 -- the walk over the entries of table block m, with j of them taken
-module _ (c : List ℕ) (ds : List Descriptor) (d : Descriptor) (i m : ℕ) where
-  pub TableWalk : List Bool → List Bool → ℕ → Type 0
+module _ (c : List ℕ) (ds : List Descriptor) (d : Descriptor) (turn i m : ℕ) where
+  pub TableWalk : List ℕ → List ℕ → ℕ → Type 0
   TableWalk seen₀ seen j =
-      (before₀ : List ℕ) → Marks ds seen₀ before₀
-      → (before : List ℕ) × Marks ds seen before
+      (before₀ : List ℕ) → Marks ds turn seen₀ before₀
+      → (before : List ℕ) × Marks ds turn seen before
       × ((rest : List Naming) → firstFault ds d before₀ (tableNamings c d i m 128 0 ++ rest) ≡ firstFault ds d before (tableNamings c d i m (128 - j) j ++ rest))
 
-  pub table-start : (seen : List Bool) → TableWalk seen seen 0
+  pub table-start : (seen : List ℕ) → TableWalk seen seen 0
   unfolding TableWalk
   table-start seen = λ before marks. (before, marks, λ rest. refl)
 
@@ -231,11 +251,18 @@ module _ (c : List ℕ) (ds : List Descriptor) (d : Descriptor) (i m : ℕ) wher
   unfolding tableNamings
   none j = refl
 
-  module _ (seen₀ seen : List Bool) (j : ℕ) (w : TableWalk seen₀ seen j) (more : j < 128) (ready : TableReady c d i m seen₀) (limit : ℕ) (limit-is : limit ≡ pick (ltb m (d .alpha .0)) (d .alpha .0) (d .beta .0))
-      (v : Physical) (v-is : v ≡ physical (entryAt c m j)) (r : Bool) (seen′ : List Bool)
-      (taken : (r ≡ takes seen limit (ltb (128 * i + j) (d .volume)) (v .0)) × (seen′ ≡ taking seen limit (ltb (128 * i + j) (d .volume)) (v .0))) where
+  module _ (seen₀ seen : List ℕ) (j : ℕ) (w : TableWalk seen₀ seen j) (kept : length seen ≡ length seen₀) (more : j < 128) (ready : TableReady c d i m seen₀) (limit : ℕ) (limit-is : limit ≡ pick (ltb m (d .alpha .0)) (d .alpha .0) (d .beta .0))
+      (left : ℕ) (left-is : left ≡ d .volume - 128 * i) (v : Physical) (v-is : v ≡ physical (entryAt c m j)) (r : Bool) (seen′ : List ℕ)
+      (taken : (r ≡ takes seen turn limit (ltb j left) (v .0)) × (seen′ ≡ taking seen turn limit (ltb j left) (v .0))) where
     abbrev counted : Bool
-    counted = ltb (128 * i + j) (d .volume)
+    counted = ltb j left
+
+    counted-is : (t : Bool) → ltb j left ≡ t → ltb (128 * i + j) (d .volume) ≡ ltb j left
+    counted-is true e = lt-ltb (128 * i + j) (d .volume) (omega (arith, ltb-true j left e, left-is)) ∙ sym e
+    counted-is false e = le-ltb (128 * i + j) (d .volume) (omega (arith, ltb-false j left e, left-is)) ∙ sym e
+
+    long : d .beta .0 ≤ length seen
+    long = omega (arith, kept, ready .flags)
 
     low : limit ≤ d .beta .0
     low = rw limit-is (limit-low d m (v .0) (ready .rising) (ready .own))
@@ -250,26 +277,26 @@ module _ (c : List ℕ) (ds : List Descriptor) (d : Descriptor) (i m : ℕ) wher
     rest-of = tableNamings c d i m (128 - (j + 1)) (j + 1)
 
     here : tableNamings c d i m (128 - j) j ≡ record { holder = m; value = v .0; counted = counted; phi = false } ∷ rest-of
-    here = next-naming j more ∙ rw (← value)
+    here = next-naming j more ∙ rw (← value, counted-is (ltb j left) refl)
 
     pub table-more : r ≡ true → TableWalk seen₀ seen′ (j + 1)
     unfolding TableWalk
     table-more e = λ before₀ marks₀.
         let p = w before₀ marks₀ in
-        let t : takes seen limit counted (v .0) ≡ true = sym (taken .0) ∙ e in
-        let f = entry-taken ds d m (v .0) counted false limit (p .0) seen (p .1) low (ready .small) rule (table-nil d m (v .0) (ready .rising) (ready .own)) t in (
+        let t : takes seen turn limit counted (v .0) ≡ true = sym (taken .0) ∙ e in
+        let f = entry-taken ds d m (v .0) counted false limit (p .0) turn seen (p .1) low long rule (table-nil d m (v .0) (ready .rising) (ready .own)) t in (
           v .0 ∷ p .0,
-          rw (taken .1) (marks-taken ds d m (v .0) counted false limit (p .0) seen (p .1) low (ready .small) t),
+          rw (taken .1) (marks-taken ds d m (v .0) counted false limit (p .0) turn seen (p .1) low long t),
           λ rest.
               p .2 rest
               ∙ ap (λ (es : List Naming). firstFault ds d (p .0) (es ++ rest)) here
               ∙ fault-later ds d (p .0) (record { holder = m; value = v .0; counted = counted; phi = false }) (rest-of ++ rest) f,
         )
 
-    pub table-failed : r ≡ false → length seen′ ≡ length seen₀ → Walked ds d (tableNamings c d i m 128 0) m seen₀ false seen′
+    pub table-failed : r ≡ false → Walked ds d turn (tableNamings c d i m 128 0) m seen₀ false seen′
     unfolding TableWalk
-    table-failed e long =
-        let t : takes seen limit counted (v .0) ≡ false = sym (taken .0) ∙ e in
+    table-failed e =
+        let t : takes seen turn limit counted (v .0) ≡ false = sym (taken .0) ∙ e in
         record {
           passed = λ q. no q;
           failed = λ q before marks rest.
@@ -277,11 +304,11 @@ module _ (c : List ℕ) (ds : List Descriptor) (d : Descriptor) (i m : ℕ) wher
               p .2 rest
               ∙ ap (λ (es : List Naming). firstFault ds d (p .0) (es ++ rest)) here
               ∙ fault-here ds d (p .0) (record { holder = m; value = v .0; counted = counted; phi = false }) (rest-of ++ rest)
-              (entry-refused ds d m (v .0) counted false limit (p .0) seen (p .1) low (ready .small) rule (table-nil d m (v .0) (ready .rising) (ready .own)) t);
-          kept = long;
+              (entry-refused ds d m (v .0) counted false limit (p .0) turn seen (p .1) low long rule (table-nil d m (v .0) (ready .rising) (ready .own)) t);
+          kept = ap length (taken .1) ∙ length-taking seen turn limit counted (v .0) ∙ kept;
         }
 
-  pub table-passed : (seen₀ seen : List Bool) (j : ℕ) → TableWalk seen₀ seen j → j ≤ 128 → 128 ≤ j → length seen ≡ length seen₀ → Walked ds d (tableNamings c d i m 128 0) m seen₀ true seen
+  pub table-passed : (seen₀ seen : List ℕ) (j : ℕ) → TableWalk seen₀ seen j → j ≤ 128 → 128 ≤ j → length seen ≡ length seen₀ → Walked ds d turn (tableNamings c d i m 128 0) m seen₀ true seen
   unfolding TableWalk
   table-passed seen₀ seen j w h k long =
       let z : 128 - j ≡ zero = omega arith in
@@ -295,43 +322,64 @@ module _ (c : List ℕ) (ds : List Descriptor) (d : Descriptor) (i m : ℕ) wher
       end j z before rest = rw (z, none j)
 
 -- a table block that may be nil
-module _ (c : List ℕ) (ds : List Descriptor) (d : Descriptor) (i m : ℕ) where
-  pub named-nil : (seen : List Bool) → m ≡ 0 → Walked ds d (namedTable c d i m) m seen true seen
+module _ (c : List ℕ) (ds : List Descriptor) (d : Descriptor) (turn i m : ℕ) where
+  pub named-nil : (seen : List ℕ) → m ≡ 0 → Walked ds d turn (namedTable c d i m) m seen true seen
   unfolding namedTable
   named-nil seen e = rw (eq-eqb m 0 e) record { passed = λ q before marks. (before, marks, λ rest. refl); failed = λ q. no (sym q); kept = refl }
 
-  pub named-table : (seen : List Bool) (r : Bool) (seen′ : List Bool) → (m ≡ 0 → ⊥) → Walked ds d (tableNamings c d i m 128 0) m seen r seen′ → Walked ds d (namedTable c d i m) m seen r seen′
+  pub named-table : (seen : List ℕ) (r : Bool) (seen′ : List ℕ) → (m ≡ 0 → ⊥) → Walked ds d turn (tableNamings c d i m 128 0) m seen r seen′ → Walked ds d turn (namedTable c d i m) m seen r seen′
   unfolding namedTable
   named-table seen r seen′ n w = rw (ne-eqb m 0 n) w
 
 -- a walk over all namings that has come to those that are left
-module _ (ds : List Descriptor) (d : Descriptor) where
-  pub Reached : List Bool → List Naming → List Bool → List Naming → Type 0
+module _ (ds : List Descriptor) (d : Descriptor) (turn : ℕ) where
+  pub Reached : List ℕ → List Naming → List ℕ → List Naming → Type 0
   Reached seen₀ all seen left =
-      (before₀ : List ℕ) → Marks ds seen₀ before₀ → (before : List ℕ) × Marks ds seen before × (firstFault ds d before₀ all ≡ firstFault ds d before left)
+      (before₀ : List ℕ) → Marks ds turn seen₀ before₀ → (before : List ℕ) × Marks ds turn seen before × (firstFault ds d before₀ all ≡ firstFault ds d before left)
 
-  pub reached-start : (seen : List Bool) (all : List Naming) → Reached seen all seen all
+  -- after a fault the flags need not say anything
+  not-passed : {A : Type 0} (h : Physical) → Fault h ≡ Passed → A
+  not-passed h e = let z : _≡_ {A = ℕ} 0 1 = cc in absurd (omega arith)
+
+  judged-fault : (seen : List ℕ) (all : List Naming) (h : Physical) (seen′ : List ℕ) → ((before : List ℕ) → Marks ds turn seen before → Fault h ≡ firstFault ds d before all) → Judged ds d turn all seen (Fault h) seen′
+  judged-fault seen all h seen′ f = record { verdict = f; passed = λ e. not-passed h e }
+
+  pub reached-start : (seen : List ℕ) (all : List Naming) → Reached seen all seen all
   unfolding Reached
   reached-start seen all = λ before marks. (before, marks, refl)
 
-  module _ (seen₀ : List Bool) (all : List Naming) (seen : List Bool) (xs left : List Naming) (holder : ℕ) (seen′ : List Bool) where
-    pub reached-through : Reached seen₀ all seen (xs ++ left) → Walked ds d xs holder seen true seen′ → Reached seen₀ all seen′ left
+  module _ (seen₀ : List ℕ) (all : List Naming) (seen : List ℕ) (xs left : List Naming) (holder : ℕ) (seen′ : List ℕ) where
+    pub reached-through : Reached seen₀ all seen (xs ++ left) → Walked ds d turn xs holder seen true seen′ → Reached seen₀ all seen′ left
     unfolding Reached
     reached-through r w = λ before₀ marks₀.
         let p = r before₀ marks₀ in
         let q = w .passed refl (p .0) (p .1) in
         (q .0, q .1, p .2 ∙ q .2 left)
 
-    pub reached-fault : Reached seen₀ all seen (xs ++ left) → Walked ds d xs holder seen false seen′ → (before : List ℕ) → Marks ds seen₀ before → Fault (physical holder) ≡ firstFault ds d before all
+    pub reached-fault : Reached seen₀ all seen (xs ++ left) → Walked ds d turn xs holder seen false seen′ → Judged ds d turn all seen₀ (Fault (physical holder)) seen′
     unfolding Reached
-    reached-fault r w before₀ marks₀ = let p = r before₀ marks₀ in sym (p .2 ∙ w .failed refl (p .0) (p .1) left)
+    reached-fault r w = judged-fault seen₀ all (physical holder) seen′ (λ before₀ marks₀. let p = r before₀ marks₀ in sym (p .2 ∙ w .failed refl (p .0) (p .1) left))
 
-  pub reached-end : (seen₀ : List Bool) (all : List Naming) (seen : List Bool) (left : List Naming) → left ≡ [] → Reached seen₀ all seen left → (before : List ℕ) → Marks ds seen₀ before → Passed ≡ firstFault ds d before all
-  unfolding Reached firstFault
-  reached-end seen₀ all seen left e r before₀ marks₀ = sym (r before₀ marks₀ .2 ∙ rw e)
+  -- the entries that are left pass, or have a fault, whatever was named before
+  module _ (seen₀ : List ℕ) (all : List Naming) (seen : List ℕ) (left : List Naming) where
+    pub reached-passed : ((before : List ℕ) → firstFault ds d before left ≡ Passed) → Reached seen₀ all seen left → Judged ds d turn all seen₀ Passed seen
+    unfolding Reached
+    reached-passed f r =
+        record {
+          verdict = λ before₀ marks₀. let p = r before₀ marks₀ in sym (p .2 ∙ f (p .0));
+          passed = λ q before₀ marks₀. let p = r before₀ marks₀ in (p .0, p .1);
+        }
+
+    pub reached-failed : (h : Physical) (seen′ : List ℕ) → ((before : List ℕ) → firstFault ds d before left ≡ Fault h) → Reached seen₀ all seen left → Judged ds d turn all seen₀ (Fault h) seen′
+    unfolding Reached
+    reached-failed h seen′ f r = judged-fault seen₀ all h seen′ (λ before₀ marks₀. let p = r before₀ marks₀ in sym (p .2 ∙ f (p .0)))
+
+    pub reached-end : left ≡ [] → Reached seen₀ all seen left → Judged ds d turn all seen₀ Passed seen
+    unfolding firstFault
+    reached-end e r = reached-passed (λ before. rw e) r
 
   -- an entry of Phi: below beta, and of no table
-  module _ (seen₀ : List Bool) (all : List Naming) (seen : List Bool) (v : ℕ) (counted : Bool) (left : List Naming) (small : d .beta .0 ≤ 65536) where
+  module _ (seen₀ : List ℕ) (all : List Naming) (seen : List ℕ) (v : ℕ) (counted : Bool) (left : List Naming) (long : d .beta .0 ≤ length seen) where
     abbrev phi-entry : Naming
     phi-entry = record { holder = d .alpha .0; value = v; counted = counted; phi = true }
 
@@ -342,19 +390,19 @@ module _ (ds : List Descriptor) (d : Descriptor) where
     phi-rule : v < d .beta .0 → (eqb (d .layout) 2 && not true && leb (d .alpha .0) v && ltb (d .alpha .0) (d .alpha .0)) ≡ not (ltb v (d .beta .0))
     phi-rule l = rw (lt-ltb v (d .beta .0) l, no-rule (ltb (d .alpha .0) (d .alpha .0)) (eqb (d .layout) 2))
 
-    pub reached-entry : Reached seen₀ all seen (phi-entry ∷ left) → takes seen (d .beta .0) counted v ≡ true → Reached seen₀ all (taking seen (d .beta .0) counted v) left
+    pub reached-entry : Reached seen₀ all seen (phi-entry ∷ left) → takes seen turn (d .beta .0) counted v ≡ true → Reached seen₀ all (taking seen turn (d .beta .0) counted v) left
     unfolding Reached
     reached-entry r t = λ before₀ marks₀.
         let p = r before₀ marks₀ in
-        let f = entry-taken ds d (d .alpha .0) v counted true (d .beta .0) (p .0) seen (p .1) (omega arith) small phi-rule (λ z. no-rule (ltb (d .alpha .0) (d .alpha .0)) (eqb (d .layout) 2)) t in
-        (v ∷ p .0, marks-taken ds d (d .alpha .0) v counted true (d .beta .0) (p .0) seen (p .1) (omega arith) small t, p .2 ∙ fault-later ds d (p .0) phi-entry left f)
+        let f = entry-taken ds d (d .alpha .0) v counted true (d .beta .0) (p .0) turn seen (p .1) (omega arith) long phi-rule (λ z. no-rule (ltb (d .alpha .0) (d .alpha .0)) (eqb (d .layout) 2)) t in
+        (v ∷ p .0, marks-taken ds d (d .alpha .0) v counted true (d .beta .0) (p .0) turn seen (p .1) (omega arith) long t, p .2 ∙ fault-later ds d (p .0) phi-entry left f)
 
-    pub reached-refused : Reached seen₀ all seen (phi-entry ∷ left) → takes seen (d .beta .0) counted v ≡ false → (before : List ℕ) → Marks ds seen₀ before → Fault (d .alpha) ≡ firstFault ds d before all
+    pub reached-refused : Reached seen₀ all seen (phi-entry ∷ left) → takes seen turn (d .beta .0) counted v ≡ false → (seen′ : List ℕ) → Judged ds d turn all seen₀ (Fault (d .alpha)) seen′
     unfolding Reached
-    reached-refused r t before₀ marks₀ =
+    reached-refused r t seen′ = judged-fault seen₀ all (d .alpha) seen′ (λ before₀ marks₀.
         let p = r before₀ marks₀ in
-        let f = entry-refused ds d (d .alpha .0) v counted true (d .beta .0) (p .0) seen (p .1) (omega arith) small phi-rule (λ z. no-rule (ltb (d .alpha .0) (d .alpha .0)) (eqb (d .layout) 2)) t in
-        sym (p .2 ∙ fault-here ds d (p .0) phi-entry left f)
+        let f = entry-refused ds d (d .alpha .0) v counted true (d .beta .0) (p .0) turn seen (p .1) (omega arith) long phi-rule (λ z. no-rule (ltb (d .alpha .0) (d .alpha .0)) (eqb (d .layout) 2)) t in
+        sym (p .2 ∙ fault-here ds d (p .0) phi-entry left f))
 
 -- the namings that are left, table by table
 module _ (c : List ℕ) (d : Descriptor) where
@@ -366,111 +414,176 @@ module _ (c : List ℕ) (d : Descriptor) where
   unfolding tablesNamings
   tables-none n i h = let e : n - i ≡ zero = omega arith in rw e
 
-  -- an entry of Phi that is taken is counted where it is set, so that its table follows
-  follows : (seen : List Bool) (limit : ℕ) (counted : Bool) (m : ℕ) (t : List Naming) (z : Bool) → eqb m 0 ≡ z → takes seen limit counted m ≡ true → pick (counted && not z) t [] ≡ pick z [] t
-  unfolding takes
-  follows seen limit true m t true e h = refl
-  follows seen limit false m t true e h = refl
-  follows seen limit true m t false e h = refl
-  follows seen limit false m t false e h = no (rw e at h)
+  -- a counted entry of Phi, and its table where it is set
+  follows : (t : List Naming) (z : Bool) → pick (not z) t [] ≡ pick z [] t
+  follows t true = refl
+  follows t false = refl
 
-  pub phi-next : (i : ℕ) → i < 112 → (seen : List Bool) (limit : ℕ) → takes seen limit (ltb i (tableCount (d .volume))) (phiAt c d i) ≡ true
-      → phiNamings c d (112 - i) i ≡ record { holder = d .alpha .0; value = phiAt c d i; counted = ltb i (tableCount (d .volume)); phi = true } ∷ (namedTable c d i (phiAt c d i) ++ phiNamings c d (112 - (i + 1)) (i + 1))
+  pub phi-next : (i : ℕ) → i < 112 → i < tableCount (d .volume)
+      → phiNamings c d (112 - i) i ≡ record { holder = d .alpha .0; value = phiAt c d i; counted = true; phi = true } ∷ (namedTable c d i (phiAt c d i) ++ phiNamings c d (112 - (i + 1)) (i + 1))
   unfolding phiNamings namedTable
-  phi-next i h seen limit t =
+  phi-next i h l =
       let e : 112 - i ≡ suc (112 - (i + 1)) = omega arith in
-      rw (e, follows seen limit (ltb i (tableCount (d .volume))) (phiAt c d i) (tableNamings c d i (phiAt c d i) 128 0) (eqb (phiAt c d i) 0) refl t, ← (add-one i))
-
-  pub phi-here : (i : ℕ) → i < 112 → (left : List Naming)
-      × (phiNamings c d (112 - i) i ≡ record { holder = d .alpha .0; value = phiAt c d i; counted = ltb i (tableCount (d .volume)); phi = true } ∷ left)
-  unfolding phiNamings
-  phi-here i h = let e : 112 - i ≡ suc (112 - (i + 1)) = omega arith in (pick (ltb i (tableCount (d .volume)) && not (eqb (phiAt c d i) 0)) (tableNamings c d i (phiAt c d i) 128 0) [] ++ phiNamings c d (112 - (i + 1)) (suc i), rw e)
-
-  pub phi-none : (i : ℕ) → 112 ≤ i → phiNamings c d (112 - i) i ≡ []
-  unfolding phiNamings
-  phi-none i h = let e : 112 - i ≡ zero = omega arith in rw e
+      rw (e, lt-ltb i (tableCount (d .volume)) l, follows (tableNamings c d i (phiAt c d i) 128 0) (eqb (phiAt c d i) 0), ← (add-one i))
 
 -- the walk over the tables of a layout 1 descriptor, as the code makes it
-module _ (c : List ℕ) (ds : List Descriptor) (d : Descriptor) (n : ℕ) (seen₀ : List Bool) (ready : TablesReady c d n seen₀) where
+module _ (c : List ℕ) (ds : List Descriptor) (d : Descriptor) (n turn : ℕ) (seen₀ : List ℕ) (ready : TablesReady c d n seen₀) where
   pub tables-ask : (i : ℕ) → i < n → (512 * d .alpha .0 + 512 ≤ length c) × (i < 112) × (d .alpha .0 + 113 < 2 ^ 32)
   tables-ask i h = (omega (arith, ready .on-card, ready .region), omega (arith, ready .groups), omega (arith, ready .region, ready .small))
 
-  pub tables-ready : (i : ℕ) → i < n → (m : Physical) → m ≡ physical (tableOf c d i) → (seen : List Bool) → length seen ≡ length seen₀ → TableReady c d i (m .0) seen
+  pub tables-ready : (i : ℕ) → i < n → (m : Physical) → m ≡ physical (tableOf c d i) → (seen : List ℕ) → length seen ≡ length seen₀ → TableReady c d i (m .0) seen
   unfolding tableOf
   tables-ready i h m is seen long =
       let q : m .0 ≡ d .alpha .0 + 1 + i = ap (λ (x : Physical). x .0) is ∙ rw (eq-eqb (d .layout) 1 (ready .layout)) in
       record {
         on-card = omega (arith, ready .on-card, ready .region);
-        flags = long ∙ ready .flags;
+        flags = omega (arith, long, ready .flags);
         rising = omega (arith, ready .region);
-        small = ready .small;
         group = omega (arith, ready .groups);
         own = inr (omega arith);
       }
 
-  pub tables-start : Reached ds d seen₀ (tablesNamings c d n 0) seen₀ (tablesNamings c d (n - 0) 0)
-  tables-start = let e : n - 0 ≡ n = omega arith in rw e (reached-start ds d seen₀ (tablesNamings c d n 0))
+  pub tables-start : Reached ds d turn seen₀ (tablesNamings c d n 0) seen₀ (tablesNamings c d (n - 0) 0)
+  tables-start = let e : n - 0 ≡ n = omega arith in rw e (reached-start ds d turn seen₀ (tablesNamings c d n 0))
 
-  module _ (seen : List Bool) (i : ℕ) (r : Reached ds d seen₀ (tablesNamings c d n 0) seen (tablesNamings c d (n - i) i)) where
-    pub tables-end : n ≤ i → (before : List ℕ) → Marks ds seen₀ before → Passed ≡ firstFault ds d before (tablesNamings c d n 0)
-    tables-end h = reached-end ds d seen₀ (tablesNamings c d n 0) seen (tablesNamings c d (n - i) i) (tables-none c d n i h) r
+  module _ (seen : List ℕ) (i : ℕ) (r : Reached ds d turn seen₀ (tablesNamings c d n 0) seen (tablesNamings c d (n - i) i)) where
+    pub tables-end : n ≤ i → Judged ds d turn (tablesNamings c d n 0) seen₀ Passed seen
+    tables-end h = reached-end ds d turn seen₀ (tablesNamings c d n 0) seen (tablesNamings c d (n - i) i) (tables-none c d n i h) r
 
-    module _ (more : i < n) (m : Physical) (is : m ≡ physical (tableOf c d i)) (seen′ : List Bool) where
-      split : Reached ds d seen₀ (tablesNamings c d n 0) seen (tableNamings c d i (m .0) 128 0 ++ tablesNamings c d (n - (i + 1)) (i + 1))
+    module _ (more : i < n) (m : Physical) (is : m ≡ physical (tableOf c d i)) (seen′ : List ℕ) where
+      split : Reached ds d turn seen₀ (tablesNamings c d n 0) seen (tableNamings c d i (m .0) 128 0 ++ tablesNamings c d (n - (i + 1)) (i + 1))
       split = let q : m .0 ≡ tableOf c d i = ap (λ (x : Physical). x .0) is in rw (q, ← (tables-next c d n i more)) r
 
-      pub tables-more : (b : Bool) → Walked ds d (tableNamings c d i (m .0) 128 0) (m .0) seen b seen′ → b ≡ true → Reached ds d seen₀ (tablesNamings c d n 0) seen′ (tablesNamings c d (n - (i + 1)) (i + 1))
-      tables-more b w e = reached-through ds d seen₀ (tablesNamings c d n 0) seen (tableNamings c d i (m .0) 128 0) (tablesNamings c d (n - (i + 1)) (i + 1)) (m .0) seen′ split (rw e at w)
+      pub tables-more : (b : Bool) → Walked ds d turn (tableNamings c d i (m .0) 128 0) (m .0) seen b seen′ → b ≡ true → Reached ds d turn seen₀ (tablesNamings c d n 0) seen′ (tablesNamings c d (n - (i + 1)) (i + 1))
+      tables-more b w e = reached-through ds d turn seen₀ (tablesNamings c d n 0) seen (tableNamings c d i (m .0) 128 0) (tablesNamings c d (n - (i + 1)) (i + 1)) (m .0) seen′ split (rw e at w)
 
-      pub tables-fault : (b : Bool) → Walked ds d (tableNamings c d i (m .0) 128 0) (m .0) seen b seen′ → b ≡ false → (before : List ℕ) → Marks ds seen₀ before → Fault m ≡ firstFault ds d before (tablesNamings c d n 0)
-      tables-fault b w e = reached-fault ds d seen₀ (tablesNamings c d n 0) seen (tableNamings c d i (m .0) 128 0) (tablesNamings c d (n - (i + 1)) (i + 1)) (m .0) seen′ split (rw e at w)
+      pub tables-fault : (b : Bool) → Walked ds d turn (tableNamings c d i (m .0) 128 0) (m .0) seen b seen′ → b ≡ false → Judged ds d turn (tablesNamings c d n 0) seen₀ (Fault m) seen′
+      tables-fault b w e = reached-fault ds d turn seen₀ (tablesNamings c d n 0) seen (tableNamings c d i (m .0) 128 0) (tablesNamings c d (n - (i + 1)) (i + 1)) (m .0) seen′ split (rw e at w)
+
+-- bytes are all zero where the number of the first four is 0 and the others are zero
+module _ (w x y z v : ℕ) (is : v ≡ w + 256 * x + 65536 * y + 16777216 * z) (r : Bool) where
+  number-by : (a b c d : Bool) → eqb w 0 ≡ a → eqb x 0 ≡ b → eqb y 0 ≡ c → eqb z 0 ≡ d → (a && (b && (c && (d && r)))) ≡ (eqb v 0 && r)
+  number-by true true true true p q s t = rw (eq-eqb v 0 (omega (arith, eqb-true w 0 p, eqb-true x 0 q, eqb-true y 0 s, eqb-true z 0 t)))
+  number-by false b c d p q s t = rw (ne-eqb v 0 (λ e. eqb-false w 0 p (omega arith)))
+  number-by true false c d p q s t = rw (ne-eqb v 0 (λ e. eqb-false x 0 q (omega arith)))
+  number-by true true false d p q s t = rw (ne-eqb v 0 (λ e. eqb-false y 0 s (omega arith)))
+  number-by true true true false p q s t = rw (ne-eqb v 0 (λ e. eqb-false z 0 t (omega arith)))
+
+  number-zero : (eqb w 0 && (eqb x 0 && (eqb y 0 && (eqb z 0 && r)))) ≡ (eqb v 0 && r)
+  number-zero = number-by (eqb w 0) (eqb x 0) (eqb y 0) (eqb z 0) refl refl refl refl
+
+zero-byte : (c : List ℕ) (at m : ℕ) → at < length c → allZero (part c at (suc m)) ≡ (eqb (getD c at 0) 0 && allZero (part c (at + 1) m))
+unfolding allZero
+zero-byte c at m h = rw (add-one, drop-cons c at 0 h)
+
+zero-bytes : (c : List ℕ) (at m n : ℕ) → n ≡ m + 4 → at + 4 ≤ length c → allZero (part c at n) ≡ (eqb (u32At c at) 0 && allZero (part c (at + 4) m))
+unfolding u32At
+zero-bytes c at m n e h =
+    let q : n ≡ suc (suc (suc (suc m))) = omega arith in
+    rw (q, zero-byte c at (suc (suc (suc m))) (omega arith), zero-byte c (at + 1) (suc (suc m)) (omega arith), add-assoc at 1 1, zero-byte c (at + 2) (suc m) (omega arith), add-assoc at 2 1, zero-byte c (at + 3) m (omega arith), add-assoc at 3 1)
+    (number-zero (getD c at 0) (getD c (at + 1) 0) (getD c (at + 2) 0) (getD c (at + 3) 0) _ refl (allZero (part c (at + 4) m)))
+
+-- the bytes of Phi from entry n on, as the code lends them
+pub clear-past : (c : List ℕ) (a n : ℕ) (r : Bool) → n ≤ 112 → r ≡ allZero (part c (512 * a + 64 + 4 * n) (512 * a + 512 - (512 * a + 64 + 4 * n))) → r ≡ allZero (part c (512 * a + 64 + 4 * n) (448 - 4 * n))
+clear-past c a n r h e = let q : 448 - 4 * n ≡ 512 * a + 512 - (512 * a + 64 + 4 * n) = omega arith in rw q e
+
+-- the entries of Phi past n, which are at fault where they are set
+module _ (c : List ℕ) (ds : List Descriptor) (d : Descriptor) where
+  abbrev past-entry : ℕ → Naming
+  past-entry v = record { holder = d .alpha .0; value = v; counted = false; phi = true }
+
+  past-fault : (before : List ℕ) (v : ℕ) → atFault ds d before (past-entry v) ≡ not (eqb v 0)
+  unfolding atFault inPlace
+  past-fault before v = by (eqb v 0) (eqb (d .layout) 2) (ltb v (d .beta .0) && not (isDescriptor ds v || isTable ds v))
+    where
+      by : (z e x : Bool) → (not (z || x) || (not z && (not false || among before v)) || (e && not true && leb (d .alpha .0) v && ltb (d .alpha .0) (d .alpha .0))) ≡ not z
+      by true true x = refl
+      by true false x = refl
+      by false e x = rw (or-true-right (not x))
+
+  past-next : (k i : ℕ) → tableCount (d .volume) ≤ i → phiNamings c d (suc k) i ≡ past-entry (phiAt c d i) ∷ phiNamings c d k (i + 1)
+  unfolding phiNamings
+  past-next k i h = rw (le-ltb i (tableCount (d .volume)) h, ← (add-one i))
+
+  past-step : (before : List ℕ) (v : ℕ) (rest : List Naming) (r : Bool) → firstFault ds d (v ∷ before) rest ≡ pick r Passed (Fault (d .alpha)) → (z : Bool) → eqb v 0 ≡ z
+      → firstFault ds d before (past-entry v ∷ rest) ≡ pick (z && r) Passed (Fault (d .alpha))
+  past-step before v rest r f true e = fault-later ds d before (past-entry v) rest (past-fault before v ∙ rw e) ∙ f
+  past-step before v rest r f false e = fault-here ds d before (past-entry v) rest (past-fault before v ∙ rw e)
+
+  abbrev phi-place : ℕ → ℕ
+  phi-place i = 512 * d .alpha .0 + 64 + 4 * i
+
+  -- k of them from entry i on: nil where their bytes are zero, and else the first that is set is at fault
+  pub phi-past : (k i : ℕ) → tableCount (d .volume) ≤ i → phi-place i + 4 * k ≤ length c → (before : List ℕ)
+      → firstFault ds d before (phiNamings c d k i) ≡ pick (allZero (part c (phi-place i) (4 * k))) Passed (Fault (d .alpha))
+  unfolding firstFault phiNamings phiAt allZero
+  phi-past zero i h l before = refl
+  phi-past (suc k) i h l before =
+      let next : phi-place (i + 1) ≡ phi-place i + 4 = omega arith in
+      let rest = phi-past k (i + 1) (omega arith) (omega arith) (phiAt c d i ∷ before) in
+      ap (firstFault ds d before) (past-next k i h)
+      ∙ past-step before (phiAt c d i) (phiNamings c d k (i + 1)) (allZero (part c (phi-place i + 4) (4 * k))) (rw next at rest) (eqb (phiAt c d i) 0) refl
+      ∙ ap (λ (z : Bool). pick z Passed (Fault (d .alpha))) (sym (zero-bytes c (phi-place i) (4 * k) (4 * suc k) (omega arith) (omega arith)))
 
 -- the walk over Phi of a layout 2 descriptor, as the code makes it
-module _ (c : List ℕ) (ds : List Descriptor) (d : Descriptor) (n : ℕ) (seen₀ : List Bool) (ready : PhiReady c d n seen₀) where
-  pub phi-ask : (i : ℕ) → i < 112 → (512 * d .alpha .0 + 512 ≤ length c) × (i < 112) × (d .alpha .0 + 113 < 2 ^ 32)
-  phi-ask i h = (omega (arith, ready .on-card, ready .region), h, omega (arith, ready .region, ready .small))
+module _ (c : List ℕ) (ds : List Descriptor) (d : Descriptor) (n turn : ℕ) (seen₀ : List ℕ) (ready : PhiReady c d n seen₀) where
+  pub phi-ask : (i : ℕ) → i < n → (512 * d .alpha .0 + 512 ≤ length c) × (i < 112) × (d .alpha .0 + 113 < 2 ^ 32)
+  phi-ask i h = (omega (arith, ready .on-card, ready .region), omega (arith, ready .groups), omega (arith, ready .region, ready .small))
 
-  module _ (seen : List Bool) (i : ℕ) (r : Reached ds d seen₀ (phiNamings c d 112 0) seen (phiNamings c d (112 - i) i)) where
-    pub phi-end : 112 ≤ i → (before : List ℕ) → Marks ds seen₀ before → Passed ≡ firstFault ds d before (phiNamings c d 112 0)
-    phi-end h = reached-end ds d seen₀ (phiNamings c d 112 0) seen (phiNamings c d (112 - i) i) (phi-none c d i h) r
+  pub phi-past-ask : (512 * d .alpha .0 + 512 ≤ length c) × (n ≤ 112)
+  phi-past-ask = (omega (arith, ready .on-card, ready .region), ready .groups)
 
-    module _ (more : i < 112) (m : Physical) (is : m ≡ physical (tableOf c d i)) (b : Bool) (seen′ : List Bool)
-        (taken : (b ≡ takes seen (d .beta .0) (ltb i n) (m .0)) × (seen′ ≡ taking seen (d .beta .0) (ltb i n) (m .0))) where
+  module _ (seen : List ℕ) (i : ℕ) (r : Reached ds d turn seen₀ (phiNamings c d 112 0) seen (phiNamings c d (112 - i) i)) where
+    -- all counted entries have passed, and z says whether those past n are nil
+    module _ (low : i ≤ n) (high : n ≤ i) (z : Bool) (clear : z ≡ allZero (part c (512 * d .alpha .0 + 64 + 4 * n) (448 - 4 * n))) where
+      past : (before : List ℕ) → firstFault ds d before (phiNamings c d (112 - i) i) ≡ pick z Passed (Fault (d .alpha))
+      past before =
+          let q : i ≡ n = omega arith in
+          let k : 448 - 4 * n ≡ 4 * (112 - n) = omega (arith, ready .groups) in
+          rw (q, clear, k) (phi-past c ds d (112 - n) n (omega (arith, ready .tables)) (omega (arith, ready .groups, ready .on-card, ready .region)) before)
+
+      pub phi-passed : z ≡ true → Judged ds d turn (phiNamings c d 112 0) seen₀ Passed seen
+      phi-passed e = reached-passed ds d turn seen₀ (phiNamings c d 112 0) seen (phiNamings c d (112 - i) i) (λ before. rw e at (past before)) r
+
+      pub phi-set-past : z ≡ false → Judged ds d turn (phiNamings c d 112 0) seen₀ (Fault (d .alpha)) seen
+      phi-set-past e = reached-failed ds d turn seen₀ (phiNamings c d 112 0) seen (phiNamings c d (112 - i) i) (d .alpha) seen (λ before. rw e at (past before)) r
+
+    module _ (kept : length seen ≡ length seen₀) (more : i < n) (m : Physical) (is : m ≡ physical (tableOf c d i)) (b : Bool) (seen′ : List ℕ)
+        (taken : (b ≡ takes seen turn (d .beta .0) true (m .0)) × (seen′ ≡ taking seen turn (d .beta .0) true (m .0))) where
+      phi-long : d .beta .0 ≤ length seen
+      phi-long = omega (arith, kept, ready .flags)
+
       phi-is : m .0 ≡ phiAt c d i
       unfolding tableOf
       phi-is = ap (λ (x : Physical). x .0) is ∙ rw (ne-eqb (d .layout) 1 (omega (arith, ready .layout)))
 
-      takes-is : b ≡ takes seen (d .beta .0) (ltb i (tableCount (d .volume))) (phiAt c d i)
-      takes-is = taken .0 ∙ rw (ready .tables, phi-is)
+      abbrev rest-of-phi : List Naming
+      rest-of-phi = phiNamings c d (112 - (i + 1)) (i + 1)
 
-      pub phi-refused : b ≡ false → (before : List ℕ) → Marks ds seen₀ before → Fault (d .alpha) ≡ firstFault ds d before (phiNamings c d 112 0)
-      phi-refused e =
-          let h = phi-here c d i more in
-          reached-refused ds d seen₀ (phiNamings c d 112 0) seen (phiAt c d i) (ltb i (tableCount (d .volume))) (h .0) (ready .small) (rw (h .1) at r) (sym takes-is ∙ e)
+      here-phi : Reached ds d turn seen₀ (phiNamings c d 112 0) seen (record { holder = d .alpha .0; value = m .0; counted = true; phi = true } ∷ (namedTable c d i (m .0) ++ rest-of-phi))
+      here-phi = rw (phi-is, ← (phi-next c d i (omega (arith, ready .groups)) (omega (arith, ready .tables)))) r
+
+      pub phi-refused : b ≡ false → Judged ds d turn (phiNamings c d 112 0) seen₀ (Fault (d .alpha)) seen′
+      phi-refused e = reached-refused ds d turn seen₀ (phiNamings c d 112 0) seen (m .0) true (namedTable c d i (m .0) ++ rest-of-phi) phi-long here-phi (sym (taken .0) ∙ e) seen′
 
       module _ (e : b ≡ true) where
-        pub phi-table-ready : (m .0 ≡ 0 → ⊥) → length seen ≡ length seen₀ → TableReady c d i (m .0) seen′
-        phi-table-ready z long =
-            let l : m .0 < d .beta .0 = takes-below seen (d .beta .0) (ltb i n) (m .0) (sym (taken .0) ∙ e) z in
+        pub phi-table-ready : (m .0 ≡ 0 → ⊥) → TableReady c d i (m .0) seen′
+        phi-table-ready z =
+            let l : m .0 < d .beta .0 = takes-below seen turn (d .beta .0) true (m .0) (sym (taken .0) ∙ e) z in
             record {
               on-card = omega (arith, ready .on-card);
-              flags = ap length (taken .1) ∙ length-taking seen (d .beta .0) (ltb i n) (m .0) ∙ long ∙ ready .flags;
+              flags = omega (arith, ap length (taken .1), length-taking seen turn (d .beta .0) true (m .0), phi-long);
               rising = omega (arith, ready .region);
-              small = ready .small;
-              group = more;
+              group = omega (arith, ready .groups);
               own = inl (ready .layout);
             }
 
-        after-entry : Reached ds d seen₀ (phiNamings c d 112 0) seen′ (namedTable c d i (m .0) ++ phiNamings c d (112 - (i + 1)) (i + 1))
-        after-entry =
-            let t : takes seen (d .beta .0) (ltb i (tableCount (d .volume))) (phiAt c d i) ≡ true = sym takes-is ∙ e in
-            rw (taken .1, ready .tables, phi-is)
-            (reached-entry ds d seen₀ (phiNamings c d 112 0) seen (phiAt c d i) (ltb i (tableCount (d .volume))) (namedTable c d i (phiAt c d i) ++ phiNamings c d (112 - (i + 1)) (i + 1)) (ready .small)
-            (rw (phi-next c d i more seen (d .beta .0) t) at r) t)
+        after-entry : Reached ds d turn seen₀ (phiNamings c d 112 0) seen′ (namedTable c d i (m .0) ++ rest-of-phi)
+        after-entry = rw (taken .1) (reached-entry ds d turn seen₀ (phiNamings c d 112 0) seen (m .0) true (namedTable c d i (m .0) ++ rest-of-phi) phi-long here-phi (sym (taken .0) ∙ e))
 
-        module _ (a : Bool) (seen″ : List Bool) (w : Walked ds d (namedTable c d i (m .0)) (m .0) seen′ a seen″) where
-          pub phi-fault : a ≡ false → (before : List ℕ) → Marks ds seen₀ before → Fault m ≡ firstFault ds d before (phiNamings c d 112 0)
-          phi-fault f = reached-fault ds d seen₀ (phiNamings c d 112 0) seen′ (namedTable c d i (m .0)) (phiNamings c d (112 - (i + 1)) (i + 1)) (m .0) seen″ after-entry (rw f at w)
+        module _ (a : Bool) (seen″ : List ℕ) (w : Walked ds d turn (namedTable c d i (m .0)) (m .0) seen′ a seen″) where
+          pub phi-fault : a ≡ false → Judged ds d turn (phiNamings c d 112 0) seen₀ (Fault m) seen″
+          phi-fault f = reached-fault ds d turn seen₀ (phiNamings c d 112 0) seen′ (namedTable c d i (m .0)) rest-of-phi (m .0) seen″ after-entry (rw f at w)
 
-          pub phi-more : a ≡ true → Reached ds d seen₀ (phiNamings c d 112 0) seen″ (phiNamings c d (112 - (i + 1)) (i + 1))
-          phi-more f = reached-through ds d seen₀ (phiNamings c d 112 0) seen′ (namedTable c d i (m .0)) (phiNamings c d (112 - (i + 1)) (i + 1)) (m .0) seen″ after-entry (rw f at w)
+          pub phi-more : a ≡ true → Reached ds d turn seen₀ (phiNamings c d 112 0) seen″ rest-of-phi
+          phi-more f = reached-through ds d turn seen₀ (phiNamings c d 112 0) seen′ (namedTable c d i (m .0)) rest-of-phi (m .0) seen″ after-entry (rw f at w)

@@ -2,12 +2,13 @@
 use mathlib.Core.Path.{_≡_, refl, sym, ap, _∙_}
 use mathlib.Core.Bool.{Bool, true, false, not, _&&_, _||_}
 use mathlib.Core.List.{List, [], _∷_, _++_}
-use Prim.Native.Nat.{ℕ, zero, suc, _+_, _≤_, _<_}
+use Prim.Native.Nat.{ℕ, zero, suc, _+_, _*_, _≤_, _<_}
 use native.Mathlib.Omega.{arith}
-use lib.ListN.{length, take, getD, set, replicate, length-set}
+use lib.ListN.{length, take, getD, set, replicate, length-set, length-replicate}
 use lib.Seq.{getD-set-same, getD-set-other, take-suc, take-length}
 use lib.Dec.{eqb, ltb, leb}
 use borrow.Author.Tests.{eq-eqb, ne-eqb, lt-ltb, le-ltb, le-leb, lt-leb, eqb-true, eqb-false, ltb-true, ltb-false, leb-true, leb-false}
+use Rattle.blocks.specs.Pick.{pick}
 use Rattle.blocks.specs.Bytes.{blockCount}
 use Rattle.blocks.specs.Descriptor.{tableCount, cost, costOf, noDescriptor}
 use Rattle.blocks.specs.Chain.{chain, descriptors}
@@ -17,17 +18,18 @@ use Rattle.blocks.proofs.ChainLaws.{cost-least}
 use Rattle.blocks.proofs.LinkedLaws.{at-alpha, at-cost, at-long, at-end}
 use Rattle.entries.specs.InPlace.{isDescriptor, isTable}
 use Rattle.entries.specs.Through.{Through}
-use Rattle.entries.specs.Naming.{among, tablesNamings, phiNamings, namings, firstFault, checkOne}
-use Rattle.entries.specs.Marks.{flagged, openingsFlagged, Marks, TablesReady, PhiReady}
+use Rattle.entries.specs.Naming.{Naming, among, tablesNamings, phiNamings, namings, checkOne}
+use Rattle.entries.specs.Marks.{flagged, openingsFlagged, nextTurn, nextFlags, Marks, Judged, TablesReady, PhiReady}
 use Rattle.entries.specs.declared.check.Verdict.{Verdict}
+use Rattle.entries.specs.declared.check.Verdict.the-variants.{Passed}
 use Rattle.entries.proofs.RegionLaws.{opening-alone, through-count, through-at, through-region, through-rising}
 use Rattle.entries.proofs.EntryLaws.{through-beta, through-end, through-volume}
 
 -- a run of flags
-flagged-length : (seen : List Bool) (from n : ℕ) → length (flagged seen from n) ≡ length seen
+flagged-length : (seen : List ℕ) (from n : ℕ) → length (flagged seen from n) ≡ length seen
 unfolding flagged
 flagged-length seen from zero = refl
-flagged-length seen from (suc n) = length-set (flagged seen from n) (from + n) true ∙ flagged-length seen from n
+flagged-length seen from (suc n) = length-set (flagged seen from n) (from + n) 255 ∙ flagged-length seen from n
 
 in-run : ℕ → ℕ → ℕ → Bool
 in-run from n v = leb from v && ltb v (from + n)
@@ -56,16 +58,16 @@ run-other from n v h = by (leb from v) refl
     by true e = ends (ltb v (from + n)) refl
     by false e = refl
 
-flagged-by : (seen : List Bool) (from n v : ℕ) → from + suc n ≤ length seen → getD (flagged seen from n) v false ≡ (in-run from n v || getD seen v false)
-    → (t : Bool) → eqb v (from + n) ≡ t → getD (set (flagged seen from n) (from + n) true) v false ≡ (in-run from (suc n) v || getD seen v false)
+flagged-by : (seen : List ℕ) (from n v : ℕ) → from + suc n ≤ length seen → getD (flagged seen from n) v 0 ≡ pick (in-run from n v) 255 (getD seen v 0)
+    → (t : Bool) → eqb v (from + n) ≡ t → getD (set (flagged seen from n) (from + n) 255) v 0 ≡ pick (in-run from (suc n) v) 255 (getD seen v 0)
 flagged-by seen from n v h before true e =
     let q = eqb-true v (from + n) e in
-    rw (q, run-last from n) (getD-set-same (flagged seen from n) (from + n) true false (omega (arith, flagged-length seen from n)))
+    rw (q, run-last from n) (getD-set-same (flagged seen from n) (from + n) 255 0 (omega (arith, flagged-length seen from n)))
 flagged-by seen from n v h before false e =
     let q = eqb-false v (from + n) e in
-    rw (run-other from n v q) (getD-set-other (flagged seen from n) (from + n) v true false q ∙ before)
+    rw (run-other from n v q) (getD-set-other (flagged seen from n) (from + n) v 255 0 q ∙ before)
 
-flagged-says : (seen : List Bool) (from n v : ℕ) → from + n ≤ length seen → getD (flagged seen from n) v false ≡ (in-run from n v || getD seen v false)
+flagged-says : (seen : List ℕ) (from n v : ℕ) → from + n ≤ length seen → getD (flagged seen from n) v 0 ≡ pick (in-run from n v) 255 (getD seen v 0)
 unfolding flagged
 flagged-says seen from zero v h = rw (run-none from v)
 flagged-says seen from (suc n) v h = flagged-by seen from n v h (flagged-says seen from n v (omega arith)) (eqb v (from + n)) refl
@@ -133,7 +135,39 @@ opened-more ds d v =
     shuffle false false true false = refl
     shuffle false false false y = sym (or-nil y)
 
-openings-length : (seen : List Bool) (starts : List ℕ) (k n : ℕ) → length (openingsFlagged seen starts k n) ≡ length seen
+pick-or : (x y : Bool) → _≡_ {A = ℕ} (pick x 255 (pick y 255 0)) (pick (x || y) 255 0)
+pick-or true y = refl
+pick-or false y = refl
+
+-- flags of the openings alone say which blocks are in an opening, in the first turn
+marks-first : (ds : List Descriptor) (seen : List ℕ) → ((v : ℕ) → getD seen v 0 ≡ pick (opened ds v) 255 0) → Marks ds 1 seen []
+unfolding opened among
+marks-first ds seen at =
+    record {
+      says = λ v l n. ap (λ (x : ℕ). leb 1 x) (at v) ∙ first (isDescriptor ds v || isTable ds v);
+      opening = λ v l n o. at v ∙ ap (λ (x : Bool). pick x 255 0) o;
+      other = λ v l n o. omega (arith, at v ∙ ap (λ (x : Bool). pick x 255 0) o);
+    }
+  where
+    first : (x : Bool) → leb 1 (pick x 255 0) ≡ (x || false)
+    first true = refl
+    first false = refl
+
+-- what a turn leaves is below the next
+pub marks-next : (ds : List Descriptor) (turn : ℕ) (seen before : List ℕ) → turn < 255 → Marks ds turn seen before → Marks ds (turn + 1) seen []
+unfolding among
+marks-next ds turn seen before h marks =
+    record {
+      says = λ v l n. by v l n (isDescriptor ds v || isTable ds v) refl;
+      opening = marks .opening;
+      other = λ v l n o. omega (arith, marks .other v l n o);
+    }
+  where
+    by : (v : ℕ) → v < length seen → (v ≡ 0 → ⊥) → (x : Bool) → (isDescriptor ds v || isTable ds v) ≡ x → leb (turn + 1) (getD seen v 0) ≡ ((isDescriptor ds v || isTable ds v) || false)
+    by v l n true e = rw e (le-leb (turn + 1) (getD seen v 0) (omega (arith, marks .opening v l n e)))
+    by v l n false e = rw e (lt-leb (turn + 1) (getD seen v 0) (omega (arith, marks .other v l n e)))
+
+openings-length : (seen : List ℕ) (starts : List ℕ) (k n : ℕ) → length (openingsFlagged seen starts k n) ≡ length seen
 unfolding openingsFlagged
 openings-length seen starts k zero = refl
 openings-length seen starts k (suc n) = flagged-length (openingsFlagged seen starts k n) (getD starts n 0) k ∙ openings-length seen starts k n
@@ -143,53 +177,63 @@ module _ (c starts : List ℕ) (count : ℕ) (d : Descriptor) (t : Through c sta
   ds = descriptors (chain c)
 
   -- each opening is on the card, and so among the flags
-  opening-inside : (k : ℕ) → k < count → getD starts k 0 + costOf d ≤ 65536
+  opening-inside : (k : ℕ) → k < count → 512 * (getD starts k 0 + costOf d) ≤ length c
   unfolding blockCount
   opening-inside k h =
       let r = through-at c starts count d t k h in
       let same = at-cost c _ _ (getD ds k noDescriptor) r ∙ sym (at-cost c _ _ d (through-region c starts count d t)) in
-      omega (arith, at-long c _ _ (getD ds k noDescriptor) r, at-end c _ _ (getD ds k noDescriptor) r, same, t .small)
+      omega (arith, at-long c _ _ (getD ds k noDescriptor) r, at-end c _ _ (getD ds k noDescriptor) r, same)
 
-  pub openings-ask : (cost : ℕ) → cost ≡ costOf d → (flags-now : List Bool) → length flags-now ≡ 65536
-      → (count ≤ length starts) × ((k : ℕ) → k < count → getD starts k 0 + cost ≤ length flags-now)
-  openings-ask k e seen long = (omega (arith, through-rising c starts count d t .long), λ j h. omega (arith, opening-inside j h))
+  pub openings-ask : (cost : ℕ) → cost ≡ costOf d → (n : ℕ) → length c ≤ 512 * n → (count ≤ length starts) × ((k : ℕ) → k < count → getD starts k 0 + cost ≤ n)
+  openings-ask k e n long = (omega (arith, through-rising c starts count d t .long), λ j h. omega (arith, opening-inside j h))
 
   -- from flags that are all clear
-  module _ (flags : List Bool) (long : length flags ≡ 65536) (clear : (v : ℕ) → getD flags v false ≡ false) where
+  module _ (flags : List ℕ) (long : length c ≤ 512 * length flags) (clear : (v : ℕ) → getD flags v 0 ≡ 0) where
     one-more : (k v : ℕ) → k < count → in-run (getD starts k 0) (costOf d) v ≡ in-run (getD ds k noDescriptor .alpha .0) (costOf (getD ds k noDescriptor)) v
     one-more k v h =
         let r = through-at c starts count d t k h in
         let same = at-cost c _ _ (getD ds k noDescriptor) r ∙ sym (at-cost c _ _ d (through-region c starts count d t)) in
         rw (same, at-alpha c _ _ (getD ds k noDescriptor) r)
 
-    opened-to : (v k : ℕ) → k ≤ count → getD (openingsFlagged flags starts (costOf d) k) v false ≡ opened (take k ds) v
+    opened-to : (v k : ℕ) → k ≤ count → getD (openingsFlagged flags starts (costOf d) k) v 0 ≡ pick (opened (take k ds) v) 255 0
     unfolding openingsFlagged opened isDescriptor isTable
     opened-to v zero h = clear v
     opened-to v (suc k) h =
         let n : k < length ds = omega (arith, through-count c starts count d t) in
         flagged-says (openingsFlagged flags starts (costOf d) k) (getD starts k 0) (costOf d) v (omega (arith, openings-length flags starts (costOf d) k, opening-inside k (omega arith)))
         ∙ rw (one-more k v (omega arith), opened-to v k (omega arith))
-        (sym (opened-more (take k ds) (getD ds k noDescriptor) v))
-        ∙ ap (λ (l : List Descriptor). opened l v) (sym (take-suc ds k noDescriptor n))
+        (pick-or (in-run (getD ds k noDescriptor .alpha .0) (costOf (getD ds k noDescriptor)) v) (opened (take k ds) v))
+        ∙ ap (λ (x : Bool). pick x 255 0) (sym (opened-more (take k ds) (getD ds k noDescriptor) v) ∙ ap (λ (l : List Descriptor). opened l v) (sym (take-suc ds k noDescriptor n)))
 
-    pub openings-marked : (cost : ℕ) → cost ≡ costOf d → (seen : List Bool) → seen ≡ openingsFlagged flags starts cost count → Marks ds seen []
-    unfolding opened among
+    opened-all : (v : ℕ) → getD (openingsFlagged flags starts (costOf d) count) v 0 ≡ pick (opened ds v) 255 0
+    opened-all v =
+        opened-to v count (omega arith)
+        ∙ ap (λ (x : Bool). pick x 255 0) (ap (λ (k : ℕ). opened (take k ds) v) (through-count c starts count d t) ∙ ap (λ (l : List Descriptor). opened l v) (take-length ds))
+
+    pub openings-marked : (cost : ℕ) → cost ≡ costOf d → (seen : List ℕ) → seen ≡ openingsFlagged flags starts cost count → Marks ds 1 seen []
     openings-marked cost e seen is =
-        rw (is, e)
-        record {
-          long = openings-length flags starts (costOf d) count ∙ long;
-          says = λ v l n.
-              opened-to v count (omega arith)
-              ∙ ap (λ (k : ℕ). opened (take k ds) v) (through-count c starts count d t)
-              ∙ ap (λ (l : List Descriptor). opened l v) (take-length ds)
-              ∙ sym (or-nil (opened ds v));
-        }
+        let at : (v : ℕ) → getD seen v 0 ≡ pick (opened ds v) 255 0 = λ v. rw (is, e) (opened-all v) in
+        marks-first ds seen at
 
 -- flags that are all clear
-pub replicate-clear : (n v : ℕ) → getD (replicate n false) v false ≡ false
+pub replicate-clear : (n v : ℕ) → _≡_ {A = ℕ} (getD (replicate n 0) v 0) 0
 replicate-clear zero v = refl
 replicate-clear (suc n) zero = refl
 replicate-clear (suc n) (suc v) = replicate-clear n v
+
+-- the flags of the next turn
+module _ (c starts : List ℕ) (count : ℕ) (d : Descriptor) (t : Through c starts count d) (cost : ℕ) (cost-is : cost ≡ costOf d) (turn : ℕ) (seen : List ℕ) (long : length c ≤ 512 * length seen)
+    (marks : turn < 255 → Marks (descriptors (chain c)) (turn + 1) seen []) where
+  turn-by : (b : Bool) → ltb turn 255 ≡ b → Marks (descriptors (chain c)) (nextTurn turn) (nextFlags seen starts cost count turn) []
+  unfolding nextTurn nextFlags
+  turn-by true e = rw e (marks (ltb-true turn 255 e))
+  turn-by false e =
+      let n = length seen in
+      let zeros = replicate {A = ℕ} n 0 in
+      rw e (openings-marked c starts count d t zeros (omega (arith, length-replicate {A = ℕ} n 0)) (replicate-clear n) cost cost-is (openingsFlagged zeros starts cost count) refl)
+
+  pub turn-marked : (turn′ : ℕ) (seen′ : List ℕ) → (turn′ ≡ nextTurn turn) × (seen′ ≡ nextFlags seen starts cost count turn) → Marks (descriptors (chain c)) turn′ seen′ []
+  turn-marked turn′ seen′ e = rw (e .0, e .1) (turn-by (ltb turn 255) refl)
 
 -- the check of one descriptor, as the code makes it
 module _ (c starts : List ℕ) (count : ℕ) (d : Descriptor) (t : Through c starts count d) (n : ℕ) (tables-are : n ≡ tableCount (d .volume)) where
@@ -204,25 +248,26 @@ module _ (c starts : List ℕ) (count : ℕ) (d : Descriptor) (t : Through c sta
   unfolding cost
   cost-1 e = rw (eq-eqb (d .layout) 1 e)
 
-  pub one-tables-ready : d .layout ≡ 1 → (seen : List Bool) → length seen ≡ 65536 → TablesReady c d n seen
+  pub one-tables-ready : d .layout ≡ 1 → (seen : List ℕ) → length c ≤ 512 * length seen → TablesReady c d n seen
   one-tables-ready e seen long =
       record {
         on-card = through-end c starts count d t;
-        flags = long;
+        flags = omega (arith, through-end c starts count d t);
         region = omega (arith, through-beta c starts count d t, cost-1 e);
         small = small-beta;
         groups = few-tables;
         layout = e;
       }
 
-  pub one-phi-ready : (d .layout ≡ 1 → ⊥) → (seen : List Bool) → length seen ≡ 65536 → PhiReady c d n seen
+  pub one-phi-ready : (d .layout ≡ 1 → ⊥) → (seen : List ℕ) → length c ≤ 512 * length seen → PhiReady c d n seen
   one-phi-ready e seen long =
       record {
         on-card = through-end c starts count d t;
-        flags = long;
+        flags = omega (arith, through-end c starts count d t);
         region = omega (arith, through-beta c starts count d t, cost-least (d .layout) (d .volume));
         small = small-beta;
         tables = tables-are;
+        groups = few-tables;
         layout = layout-2 (eqb (d .layout) 2) refl;
       }
     where
@@ -233,13 +278,16 @@ module _ (c starts : List ℕ) (count : ℕ) (d : Descriptor) (t : Through c sta
           let z : _≡_ {A = ℕ} 0 1 = cc in
           absurd (omega arith)
 
-  module _ (seen : List Bool) (marks : Marks (descriptors (chain c)) seen []) (r : Verdict) where
-    pub one-by-tables : d .layout ≡ 1 → ((before : List ℕ) → Marks (descriptors (chain c)) seen before → r ≡ firstFault (descriptors (chain c)) d before (tablesNamings c d n 0))
-        → r ≡ checkOne c (descriptors (chain c)) d
-    unfolding checkOne namings
-    one-by-tables e f = f [] marks ∙ rw (tables-are, eq-eqb (d .layout) 1 e)
+  module _ (turn : ℕ) (seen : List ℕ) (marks : Marks (descriptors (chain c)) turn seen []) (r : Verdict) (seen′ : List ℕ) where
+    next-marks : (entries : List Naming) → Judged (descriptors (chain c)) d turn entries seen r seen′ → r ≡ Passed → turn < 255 → Marks (descriptors (chain c)) (turn + 1) seen′ []
+    next-marks entries j e h = let p = j .passed e [] marks in marks-next (descriptors (chain c)) turn seen′ (p .0) h (p .1)
 
-    pub one-by-phi : (d .layout ≡ 1 → ⊥) → ((before : List ℕ) → Marks (descriptors (chain c)) seen before → r ≡ firstFault (descriptors (chain c)) d before (phiNamings c d 112 0))
-        → r ≡ checkOne c (descriptors (chain c)) d
+    pub one-by-tables : d .layout ≡ 1 → Judged (descriptors (chain c)) d turn (tablesNamings c d n 0) seen r seen′
+        → (r ≡ checkOne c (descriptors (chain c)) d) × (r ≡ Passed → turn < 255 → Marks (descriptors (chain c)) (turn + 1) seen′ [])
     unfolding checkOne namings
-    one-by-phi e f = f [] marks ∙ rw (ne-eqb (d .layout) 1 e)
+    one-by-tables e j = (j .verdict [] marks ∙ rw (tables-are, eq-eqb (d .layout) 1 e), next-marks (tablesNamings c d n 0) j)
+
+    pub one-by-phi : (d .layout ≡ 1 → ⊥) → Judged (descriptors (chain c)) d turn (phiNamings c d 112 0) seen r seen′
+        → (r ≡ checkOne c (descriptors (chain c)) d) × (r ≡ Passed → turn < 255 → Marks (descriptors (chain c)) (turn + 1) seen′ [])
+    unfolding checkOne namings
+    one-by-phi e j = (j .verdict [] marks ∙ rw (ne-eqb (d .layout) 1 e), next-marks (phiNamings c d 112 0) j)

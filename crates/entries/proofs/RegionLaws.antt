@@ -117,13 +117,13 @@ module _ (c starts : List ℕ) (count : ℕ) (d : Descriptor) (t : Through c sta
   ds = descriptors (chain c)
 
   pub through-chain : chain c ≡ Sound ds
-  through-chain = regions-sound (chain c) count starts (t .regions) .0
+  through-chain = regions-sound (chain c) (t .active) count starts (t .regions) .0
 
   pub through-count : count ≡ length ds
-  through-count = regions-sound (chain c) count starts (t .regions) .1
+  through-count = regions-sound (chain c) (t .active) count starts (t .regions) .1
 
   pub through-starts : starts ≡ startsOf ds
-  through-starts = regions-sound (chain c) count starts (t .regions) .2
+  through-starts = regions-sound (chain c) (t .active) count starts (t .regions) .2
 
   pub through-linked : Linked c [] 0 ds
   through-linked = chain-linked c ds through-chain

@@ -1,58 +1,78 @@
--- Flags for the blocks of a card, which the check in code keeps: set for each block of an opening and for each block that was named before.
+-- Flags for the blocks of a card, which the check in code keeps: a byte for each block. Each descriptor is checked in a turn of its own, and the
+-- turns rise, so that what an earlier turn left is below the turn and needs no clearing.
 use mathlib.Core.Path.{_≡_}
 use mathlib.Core.Logic.{_⊎_}
 use mathlib.Core.Bool.{Bool, true, false, not, _&&_, _||_}
 use mathlib.Core.List.{List, [], _++_}
 use Prim.Native.Nat.{ℕ, zero, suc, _+_, _*_, _≤_, _<_}
-use lib.ListN.{length, getD, set}
-use lib.Dec.{eqb, ltb}
+use lib.ListN.{length, getD, set, replicate}
+use lib.Dec.{eqb, ltb, leb}
 use Rattle.blocks.specs.Pick.{pick}
+use Rattle.blocks.specs.Chain.{chain, descriptors}
 use Rattle.blocks.specs.Descriptor.{physical, tableSize, phiSize, tableCount}
 use Rattle.blocks.specs.declared.descriptor.Descriptor.{Descriptor}
 use Rattle.entries.specs.InPlace.{isDescriptor, isTable}
 use Rattle.entries.specs.Naming.{Naming, among, tableNamings, firstFault}
-use Rattle.entries.specs.declared.check.Verdict.the-variants.{Fault}
+use Rattle.entries.specs.Through.{Through}
+use Rattle.entries.specs.declared.check.Verdict.{Verdict}
+use Rattle.entries.specs.declared.check.Verdict.the-variants.{Passed, Fault}
 
--- a flag for each block number
-abbrev pub flagCount : ℕ
-flagCount = 65536
+-- the flag of a block of an opening, and the last turn
+abbrev pub openingFlag : ℕ
+openingFlag = 255
 
--- whether an entry of value v is taken: nil, or counted, below the limit and with no flag
-unfoldable pub takes : List Bool → ℕ → Bool → ℕ → Bool
-takes seen limit counted v = eqb v 0 || (counted && ltb v limit && not (getD seen v false))
+-- whether block v may not be named any more in a turn: it is of an opening, or was named in this turn
+abbrev pub isFlagged : List ℕ → ℕ → ℕ → Bool
+isFlagged seen turn v = leb turn (getD seen v 0)
 
--- the flags after it: a set entry that is taken gets its flag
-unfoldable pub taking : List Bool → ℕ → Bool → ℕ → List Bool
-taking seen limit counted v = pick (not (eqb v 0) && takes seen limit counted v) (set seen v true) seen
+-- whether an entry of value v is taken: nil, or counted, below the limit and not flagged
+unfoldable pub takes : List ℕ → ℕ → ℕ → Bool → ℕ → Bool
+takes seen turn limit counted v = eqb v 0 || (counted && ltb v limit && not (isFlagged seen turn v))
 
--- the flags with those of the n blocks from block from set
-unfoldable pub flagged : List Bool → ℕ → ℕ → List Bool
+-- the flags after it: a set entry that is taken gets the turn as its flag
+unfoldable pub taking : List ℕ → ℕ → ℕ → Bool → ℕ → List ℕ
+taking seen turn limit counted v = pick (not (eqb v 0) && takes seen turn limit counted v) (set seen v turn) seen
+
+-- the flags with those of the n blocks from block from set to that of an opening
+unfoldable pub flagged : List ℕ → ℕ → ℕ → List ℕ
 flagged seen from zero = seen
-flagged seen from (suc n) = set (flagged seen from n) (from + n) true
+flagged seen from (suc n) = set (flagged seen from n) (from + n) openingFlag
 
 -- the flags with those of the first k openings set, c blocks from each start
-unfoldable pub openingsFlagged : List Bool → List ℕ → ℕ → ℕ → List Bool
+unfoldable pub openingsFlagged : List ℕ → List ℕ → ℕ → ℕ → List ℕ
 openingsFlagged seen starts c zero = seen
 openingsFlagged seen starts c (suc k) = flagged (openingsFlagged seen starts c k) (getD starts k 0) c
 
--- the flags say which set blocks are in an opening or among the values named before
-pub record Marks (ds : List Descriptor) (seen : List Bool) (before : List ℕ) : Type 0 where
-  pub long : length seen ≡ flagCount
-  pub says : (v : ℕ) → v < flagCount → (v ≡ 0 → ⊥) → getD seen v false ≡ ((isDescriptor ds v || isTable ds v) || among before v)
+-- the turn after a turn, and the flags for it: once the last turn is used up they are cleared, and only those of the openings are set again
+unfoldable pub nextTurn : ℕ → ℕ
+nextTurn turn = pick (ltb turn openingFlag) (turn + 1) 1
+
+unfoldable pub nextFlags : List ℕ → List ℕ → ℕ → ℕ → ℕ → List ℕ
+nextFlags seen starts c k turn = pick (ltb turn openingFlag) seen (openingsFlagged (replicate (length seen) 0) starts c k)
+
+-- the flags say which set blocks are in an opening or among the values named before in this turn: an opening has its own flag, and no other flag is above the turn
+pub record Marks (ds : List Descriptor) (turn : ℕ) (seen before : List ℕ) : Type 0 where
+  pub says : (v : ℕ) → v < length seen → (v ≡ 0 → ⊥) → isFlagged seen turn v ≡ ((isDescriptor ds v || isTable ds v) || among before v)
+  pub opening : (v : ℕ) → v < length seen → (v ≡ 0 → ⊥) → (isDescriptor ds v || isTable ds v) ≡ true → getD seen v 0 ≡ openingFlag
+  pub other : (v : ℕ) → v < length seen → (v ≡ 0 → ⊥) → (isDescriptor ds v || isTable ds v) ≡ false → getD seen v 0 ≤ turn
 
 -- what a walk over some entries leaves, whatever was named before and whatever comes after: either all pass, and the flags say so, or the fault is at the holder
-pub record Walked (ds : List Descriptor) (d : Descriptor) (entries : List Naming) (holder : ℕ) (seen : List Bool) (ok : Bool) (seen′ : List Bool) : Type 0 where
-  pub passed : ok ≡ true → (before : List ℕ) → Marks ds seen before
-      → (after : List ℕ) × Marks ds seen′ after × ((rest : List Naming) → firstFault ds d before (entries ++ rest) ≡ firstFault ds d after rest)
-  pub failed : ok ≡ false → (before : List ℕ) → Marks ds seen before → (rest : List Naming) → firstFault ds d before (entries ++ rest) ≡ Fault (physical holder)
+pub record Walked (ds : List Descriptor) (d : Descriptor) (turn : ℕ) (entries : List Naming) (holder : ℕ) (seen : List ℕ) (ok : Bool) (seen′ : List ℕ) : Type 0 where
+  pub passed : ok ≡ true → (before : List ℕ) → Marks ds turn seen before
+      → (after : List ℕ) × Marks ds turn seen′ after × ((rest : List Naming) → firstFault ds d before (entries ++ rest) ≡ firstFault ds d after rest)
+  pub failed : ok ≡ false → (before : List ℕ) → Marks ds turn seen before → (rest : List Naming) → firstFault ds d before (entries ++ rest) ≡ Fault (physical holder)
   pub kept : length seen′ ≡ length seen
 
+-- what the walk over all entries of a descriptor leaves: the verdict, and after a pass flags that say what was named
+pub record Judged (ds : List Descriptor) (d : Descriptor) (turn : ℕ) (entries : List Naming) (seen : List ℕ) (r : Verdict) (seen′ : List ℕ) : Type 0 where
+  pub verdict : (before : List ℕ) → Marks ds turn seen before → r ≡ firstFault ds d before entries
+  pub passed : r ≡ Passed → (before : List ℕ) → Marks ds turn seen before → (after : List ℕ) × Marks ds turn seen′ after
+
 -- what the walk over a table needs: the block is on the card, the region is one, and a layout 1 table stands in its own region
-pub record TableReady (c : List ℕ) (d : Descriptor) (i m : ℕ) (seen : List Bool) : Type 0 where
+pub record TableReady (c : List ℕ) (d : Descriptor) (i m : ℕ) (seen : List ℕ) : Type 0 where
   pub on-card : 512 * m + 512 ≤ length c
-  pub flags : length seen ≡ flagCount
+  pub flags : d .beta .0 ≤ length seen
   pub rising : d .alpha .0 ≤ d .beta .0
-  pub small : d .beta .0 ≤ flagCount
   pub group : i < phiSize
   pub own : (d .layout ≡ 2) ⊎ (d .alpha .0 ≤ m)
 
@@ -61,19 +81,28 @@ unfoldable pub namedTable : List ℕ → Descriptor → ℕ → ℕ → List Nam
 namedTable c d i m = pick (eqb m 0) [] (tableNamings c d i m tableSize 0)
 
 -- what the walk over the tables of a layout 1 descriptor needs: the region is one on the card, with its n tables
-pub record TablesReady (c : List ℕ) (d : Descriptor) (n : ℕ) (seen : List Bool) : Type 0 where
+pub record TablesReady (c : List ℕ) (d : Descriptor) (n : ℕ) (seen : List ℕ) : Type 0 where
   pub on-card : 512 * d .beta .0 ≤ length c
-  pub flags : length seen ≡ flagCount
+  pub flags : d .beta .0 ≤ length seen
   pub region : d .alpha .0 + 1 + n ≤ d .beta .0
-  pub small : d .beta .0 ≤ flagCount
+  pub small : d .beta .0 ≤ 65536
   pub groups : n ≤ phiSize
   pub layout : d .layout ≡ 1
 
 -- what the walk over Phi needs: the region is one on the card, and n is the number of its tables
-pub record PhiReady (c : List ℕ) (d : Descriptor) (n : ℕ) (seen : List Bool) : Type 0 where
+pub record PhiReady (c : List ℕ) (d : Descriptor) (n : ℕ) (seen : List ℕ) : Type 0 where
   pub on-card : 512 * d .beta .0 ≤ length c
-  pub flags : length seen ≡ flagCount
+  pub flags : d .beta .0 ≤ length seen
   pub region : d .alpha .0 < d .beta .0
-  pub small : d .beta .0 ≤ flagCount
+  pub small : d .beta .0 ≤ 65536
   pub tables : n ≡ tableCount (d .volume)
+  pub groups : n ≤ phiSize
   pub layout : d .layout ≡ 2
+
+-- what the check of a descriptor needs: it is one of a sound chain, there is a flag for each block of the card, and only openings are flagged
+pub record CheckReady (c : List ℕ) (d : Descriptor) (turn : ℕ) (seen : List ℕ) : Type 0 where
+  pub starts : List ℕ
+  pub count : ℕ
+  pub through : Through c starts count d
+  pub flags : length c ≤ 512 * length seen
+  pub marks : Marks (descriptors (chain c)) turn seen []

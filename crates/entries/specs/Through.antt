@@ -19,7 +19,8 @@ pub record RisingRegions (starts : List ℕ) (count beta : ℕ) : Type 0 where
 -- c has at most 65,536 blocks, its chain is sound, its regions are those of starts, and d is the descriptor of one of them
 pub record Through (c starts : List ℕ) (count : ℕ) (d : Descriptor) : Type 0 where
   pub small : length c ≤ 33554432
-  pub regions : regionsOf (chain c) ≡ record { sound = true; place = physical 0; count = count; starts = starts }
+  pub active : Descriptor
+  pub regions : regionsOf (chain c) ≡ record { sound = true; place = physical 0; active = active; count = count; starts = starts }
   pub index : ℕ
   pub inside : index < count
   pub is : d ≡ descriptorAt c (getD starts index 0)

@@ -1,19 +1,22 @@
-// The check of one descriptor: its entries in 01's order, each taken once, with a flag for each block that may not be named any more.
+// The check of one descriptor: its entries in 01's order, each taken once, with a flag for each block that may not be named any more. The flags are
+// bytes: 255 for a block of an opening, and else the turn of the last descriptor that named the block. The turns rise, so that no descriptor clears them.
 use crate::find;
+use blocks::bytes;
 use blocks::descriptor;
 use blocks::descriptor::Descriptor;
 use blocks::numbers::Physical;
 ghost use mathlib.Core.Path.{_≡_};
 ghost use mathlib.Core.Bool.{true, false};
-ghost use mathlib.Core.List.{List};
-ghost use Prim.Native.Nat.{ℕ, _+_, _*_, _≤_, _<_};
-ghost use lib.ListN.{length, getD, set};
+ghost use mathlib.Core.List.{[]};
+ghost use Prim.Native.Nat.{ℕ, _+_, _*_, _-_, _≤_, _<_};
+ghost use lib.ListN.{length, getD, replicate};
 ghost use lib.Dec.{ltb};
-ghost use Rattle.blocks.specs.Pick.{pick};
+ghost use Rattle.blocks.specs.Pick.{pick, allZero};
+ghost use Rattle.blocks.specs.Bytes.{part};
 ghost use Rattle.blocks.specs.Chain.{chain, descriptors};
-ghost use Rattle.entries.specs.Through.{Through};
-ghost use Rattle.entries.specs.Naming.{tableNamings, tablesNamings, phiNamings, firstFault, checkOne};
-ghost use Rattle.entries.specs.Marks.{takes, taking, flagged, openingsFlagged, Marks, Walked, namedTable, TableReady, TablesReady, PhiReady};
+ghost use Rattle.entries.specs.Naming.{tableNamings, tablesNamings, phiNamings, checkOne};
+ghost use Rattle.entries.specs.Marks.{takes, taking, flagged, openingsFlagged, nextTurn, nextFlags, Marks, Walked, Judged, namedTable, TableReady, TablesReady, PhiReady, CheckReady};
+ghost use Rattle.entries.specs.declared.check.Verdict.the-variants.{Passed};
 
 // What a check finds: nothing, or the block that holds the first entry at fault.
 pub enum Verdict {
@@ -21,10 +24,10 @@ pub enum Verdict {
     Fault(Physical),
 }
 
-// Takes an entry of value `v`: says whether it is nil, or counted, below `limit` and not flagged, and flags it.
-fn take_entry(seen: &mut [bool], limit: u32, counted: bool, v: u32) -> bool
+// Takes an entry of value `v`: says whether it is nil, or counted, below `limit` and not flagged in this turn, and flags it.
+fn take_entry(seen: &mut [u8], turn: u8, limit: u32, counted: bool, v: u32) -> bool
     requires { ⌜ limit ≤ length (now seen) ⌝ }
-    ensures { λ r. ⌜ (r ≡ takes (now (seen .entry)) limit counted v) × (now (seen .exit) ≡ taking (now (seen .entry)) limit counted v) ⌝ }
+    ensures { λ r. ⌜ (r ≡ takes (now (seen .entry)) turn limit counted v) × (now (seen .exit) ≡ taking (now (seen .entry)) turn limit counted v) ⌝ }
 {
     if v == 0 {
         return true;
@@ -36,27 +39,38 @@ fn take_entry(seen: &mut [bool], limit: u32, counted: bool, v: u32) -> bool
         return false;
     }
     let at = v as usize;
-    if seen[at] {
+    if turn <= seen[at] {
         return false;
     }
-    seen[at] = true;
+    seen[at] = turn;
     true
 }
 
-// Flags the `n` blocks from block `from`.
-fn mark_blocks(seen: &mut [bool], from: usize, n: usize)
+// Clears all flags.
+fn clear_flags(seen: &mut [u8])
+    ensures { λ _. ⌜ now (seen .exit) ≡ replicate (length (now (seen .entry))) 0 ⌝ }
+{
+    let mut i = 0;
+    while i < seen.len() {
+        seen[i] = 0;
+        i += 1;
+    }
+}
+
+// Flags the `n` blocks from block `from` as those of an opening.
+fn mark_blocks(seen: &mut [u8], from: usize, n: usize)
     requires { ⌜ from + n ≤ length (now seen) ⌝ }
     ensures { λ _. ⌜ now (seen .exit) ≡ flagged (now (seen .entry)) from n ⌝ }
 {
     let mut i = 0;
     while i < n {
-        seen[from + i] = true;
+        seen[from + i] = 255;
         i += 1;
     }
 }
 
 // Flags the first `cost` blocks of each of the `count` regions.
-fn mark_openings(seen: &mut [bool], starts: &[u32], count: usize, cost: usize)
+pub fn mark_openings(seen: &mut [u8], starts: &[u32], count: usize, cost: usize)
     requires { ⌜ (count ≤ length (now starts)) × ((k : ℕ) → k < count → getD (now starts) k 0 + cost ≤ length (now seen)) ⌝ }
     ensures { λ _. ⌜ now (seen .exit) ≡ openingsFlagged (now (seen .entry)) (now (starts .entry)) cost count ⌝ }
 {
@@ -66,6 +80,19 @@ fn mark_openings(seen: &mut [bool], starts: &[u32], count: usize, cost: usize)
         mark_blocks(seen, from, cost);
         k += 1;
     }
+}
+
+// The turn after `turn`; once the last one is used up the flags are cleared, the openings flagged again, and the turns start again.
+pub fn next_turn(seen: &mut [u8], starts: &[u32], count: usize, cost: usize, turn: u8) -> u8
+    requires { ⌜ (count ≤ length (now starts)) × ((k : ℕ) → k < count → getD (now starts) k 0 + cost ≤ length (now seen)) ⌝ }
+    ensures { λ r. ⌜ (r ≡ nextTurn turn) × (now (seen .exit) ≡ nextFlags (now (seen .entry)) (now (starts .entry)) cost count turn) ⌝ }
+{
+    if turn < 255 {
+        return turn + 1;
+    }
+    clear_flags(seen);
+    mark_openings(seen, starts, count, cost);
+    1
 }
 
 // Where the set entries of table block `m` must stay below: alpha if the table is an old one, else beta.
@@ -78,18 +105,28 @@ fn limit_of(alpha: u32, beta: u32, m: u32) -> u32
     beta
 }
 
-// Takes the 128 entries of table block `m`, the table of group `i`, up to the first at fault.
-fn check_table(card: &[u8], d: Descriptor, i: u32, m: Physical, seen: &mut [bool]) -> bool
-    requires { ⌜ TableReady (now card) d i (m .0) (now seen) ⌝ }
-    ensures { λ r. ⌜ Walked (descriptors (chain (now (card .entry)))) d (tableNamings (now (card .entry)) d i (m .0) 128 0) (m .0) (now (seen .entry)) r (now (seen .exit)) ⌝ }
+// How many entries stand before L from entry `first` on.
+fn counted_from(volume: u32, first: u32) -> u32
+    ensures { λ r. ⌜ r ≡ volume - first ⌝ }
 {
-    let first = 128 * i;
+    if volume < first {
+        return 0;
+    }
+    volume - first
+}
+
+// Takes the 128 entries of table block `m`, the table of group `i`, up to the first at fault.
+fn check_table(card: &[u8], d: Descriptor, i: u32, m: Physical, seen: &mut [u8], turn: u8) -> bool
+    requires { ⌜ TableReady (now card) d i (m .0) (now seen) ⌝ }
+    ensures { λ r. ⌜ Walked (descriptors (chain (now (card .entry)))) d turn (tableNamings (now (card .entry)) d i (m .0) 128 0) (m .0) (now (seen .entry)) r (now (seen .exit)) ⌝ }
+{
+    let left = counted_from(d.volume, 128 * i);
     let limit = limit_of(d.alpha.0, d.beta.0, m.0);
     let mut j: u32 = 0;
     while j < 128 {
         let v = find::entry_at(card, m, j);
-        let counted = first + j < d.volume;
-        if !take_entry(seen, limit, counted, v.0) {
+        let counted = j < left;
+        if !take_entry(seen, turn, limit, counted, v.0) {
             return false;
         }
         j += 1;
@@ -98,25 +135,25 @@ fn check_table(card: &[u8], d: Descriptor, i: u32, m: Physical, seen: &mut [bool
 }
 
 // Takes the entries of table block `m`, the table of group `i`, unless it is nil.
-fn check_named(card: &[u8], d: Descriptor, i: u32, m: Physical, seen: &mut [bool]) -> bool
+fn check_named(card: &[u8], d: Descriptor, i: u32, m: Physical, seen: &mut [u8], turn: u8) -> bool
     requires { ⌜ ((m .0 ≡ 0 → ⊥) → TableReady (now card) d i (m .0) (now seen)) ⌝ }
-    ensures { λ r. ⌜ Walked (descriptors (chain (now (card .entry)))) d (namedTable (now (card .entry)) d i (m .0)) (m .0) (now (seen .entry)) r (now (seen .exit)) ⌝ }
+    ensures { λ r. ⌜ Walked (descriptors (chain (now (card .entry)))) d turn (namedTable (now (card .entry)) d i (m .0)) (m .0) (now (seen .entry)) r (now (seen .exit)) ⌝ }
 {
     if m.0 == 0 {
         return true;
     }
-    check_table(card, d, i, m, seen)
+    check_table(card, d, i, m, seen, turn)
 }
 
 // The verdict on the tables of a layout 1 descriptor.
-fn check_tables(card: &[u8], d: Descriptor, n: u32, seen: &mut [bool]) -> Verdict
+fn check_tables(card: &[u8], d: Descriptor, n: u32, seen: &mut [u8], turn: u8) -> Verdict
     requires { ⌜ TablesReady (now card) d n (now seen) ⌝ }
-    ensures { λ r. ⌜ ((before : List ℕ) → Marks (descriptors (chain (now (card .entry)))) (now (seen .entry)) before → r ≡ firstFault (descriptors (chain (now (card .entry)))) d before (tablesNamings (now (card .entry)) d n 0)) ⌝ }
+    ensures { λ r. ⌜ Judged (descriptors (chain (now (card .entry)))) d turn (tablesNamings (now (card .entry)) d n 0) (now (seen .entry)) r (now (seen .exit)) ⌝ }
 {
     let mut i: u32 = 0;
     while i < n {
         let m = find::table_of(card, d, i);
-        if !check_table(card, d, i, m, seen) {
+        if !check_table(card, d, i, m, seen, turn) {
             return Verdict::Fault(m);
         }
         i += 1;
@@ -124,38 +161,47 @@ fn check_tables(card: &[u8], d: Descriptor, n: u32, seen: &mut [bool]) -> Verdic
     Verdict::Passed
 }
 
+// Whether the entries of Phi from entry `n` on are nil, in the descriptor at block `alpha`.
+fn is_clear_past(card: &[u8], alpha: Physical, n: u32) -> bool
+    requires { ⌜ (512 * alpha .0 + 512 ≤ length (now card)) × (n ≤ 112) ⌝ }
+    ensures { λ r. ⌜ r ≡ allZero (part (now (card .entry)) (512 * alpha .0 + 64 + 4 * n) (448 - 4 * n)) ⌝ }
+{
+    let at = 512 * (alpha.0 as usize);
+    bytes::all_zero(&card[at + 64 + 4 * (n as usize)..at + 512])
+}
+
 // The verdict on Phi and the tables that it names, of a layout 2 descriptor with `n` tables.
-fn check_phi(card: &[u8], d: Descriptor, n: u32, seen: &mut [bool]) -> Verdict
+fn check_phi(card: &[u8], d: Descriptor, n: u32, seen: &mut [u8], turn: u8) -> Verdict
     requires { ⌜ PhiReady (now card) d n (now seen) ⌝ }
-    ensures { λ r. ⌜ ((before : List ℕ) → Marks (descriptors (chain (now (card .entry)))) (now (seen .entry)) before → r ≡ firstFault (descriptors (chain (now (card .entry)))) d before (phiNamings (now (card .entry)) d 112 0)) ⌝ }
+    ensures { λ r. ⌜ Judged (descriptors (chain (now (card .entry)))) d turn (phiNamings (now (card .entry)) d 112 0) (now (seen .entry)) r (now (seen .exit)) ⌝ }
 {
     let alpha = d.alpha;
     let mut i: u32 = 0;
-    while i < 112 {
+    while i < n {
         let table = find::table_of(card, d, i);
-        let counted = i < n;
-        if !take_entry(seen, d.beta.0, counted, table.0) {
+        if !take_entry(seen, turn, d.beta.0, true, table.0) {
             return Verdict::Fault(alpha);
         }
-        if !check_named(card, d, i, table, seen) {
+        if !check_named(card, d, i, table, seen, turn) {
             return Verdict::Fault(table);
         }
         i += 1;
     }
+    if !is_clear_past(card, alpha, n) {
+        return Verdict::Fault(alpha);
+    }
     Verdict::Passed
 }
 
-// The check of the descriptor `d` of the chain: the first of its entries that is at fault, in 01's order.
-pub fn check_one(card: &[u8], starts: &[u32], count: usize, d: Descriptor) -> Verdict
-    requires { ⌜ Through (now card) (now starts) count d ⌝ }
+// The check of the descriptor `d` of the chain, in turn `turn`: the first of its entries that is at fault, in 01's order.
+pub fn check_one(card: &[u8], d: Descriptor, seen: &mut [u8], turn: u8) -> Verdict
+    requires { ⌜ CheckReady (now card) d turn (now seen) ⌝ }
     ensures { λ r. ⌜ r ≡ checkOne (now (card .entry)) (descriptors (chain (now (card .entry)))) d ⌝ }
+    ensures { λ r. ⌜ (r ≡ Passed → turn < 255 → Marks (descriptors (chain (now (card .entry)))) (turn + 1) (now (seen .exit)) []) ⌝ }
 {
-    let mut seen = [false; 65536];
     let n = descriptor::table_count(d.volume);
-    let cost = descriptor::opening_cost(d.layout, d.volume) as usize;
-    mark_openings(&mut seen, starts, count, cost);
     if d.layout == 1 {
-        return check_tables(card, d, n, &mut seen);
+        return check_tables(card, d, n, seen, turn);
     }
-    check_phi(card, d, n, &mut seen)
+    check_phi(card, d, n, seen, turn)
 }

@@ -4,10 +4,10 @@ use Rattle.blocks.specs.Pick.{same, allZero}
 use Rattle.blocks.specs.Bytes.{splice, u32At, le32, blockCount, blockAt, storeBlock, storeAll}
 use Rattle.blocks.specs.Name.{nameByte, nameLength, isName, isText, padded}
 use Rattle.blocks.specs.Descriptor.{tableCount, cost, descriptorAt, headBytes, descriptorBlock, reservedOk, phiOk, clearing, copying, opening}
-use Rattle.blocks.specs.Chain.{formOk, regionOk, named, sound, chainFrom, chain, chainSound, descriptors, chainPlace}
+use Rattle.blocks.specs.Chain.{formOk, regionOk, named, sound, chainFrom, chain, chainSound, descriptors, chainPlace, activeOf}
 use Rattle.entries.specs.InPlace.{isDescriptor, isTable, inPlace}
 use Rattle.entries.specs.Entry.{entryAt, phiAt, tableOf, entryFound, find, tableIsNew, need, tableWith, tailWith, setInTable, setInNewTable, writing}
-use Rattle.calls.specs.Parts.{areaBad, activeOf, snapshotsOf, withName, targetOf, isMisplaced, holderOf, blockFound}
+use Rattle.calls.specs.Parts.{areaBad, snapshotsOf, withName, targetOf, isMisplaced, holderOf, blockFound}
 use Rattle.calls.specs.Ladder.{firstRow, reamRows, readRows, writeRows, snapRows, revertRows, listRows, rowsOf, answerOf}
 use Rattle.calls.specs.Effect.{snapping, reverting, storesOf, listed, lentOf, filledOf}
 use Rattle.calls.specs.Step.{step}

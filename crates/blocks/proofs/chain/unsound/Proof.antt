@@ -1,11 +1,12 @@
 -- `unsound` meets its contract by computation.
 use Rattle.blocks.specs.Chain.{regionsOf}
+use Rattle.blocks.specs.Descriptor.{cost}
 use mathlib.Core.Path.{refl}
 use Rattle.blocks.proofs.chain.unsound.Statement.{statement}
 use Rattle.blocks.proofs.chain.unsound.Tie as tie
 
 returns : tie.Need-returns
-unfolding regionsOf
+unfolding regionsOf cost
 returns c = refl
 
 pub unsound-spec : {M : Type 1} → statement M

@@ -1,12 +1,11 @@
 -- `read` meets its contract, row by row.
 use mathlib.Core.Path.{refl, sym, _∙_}
-use native.Mathlib.Omega.{arith}
 use borrow.Author.Needs.{needs}
 use borrow.Author.Tests.{not-false}
 use Rattle.calls.specs.Effect.{lentOf}
 use Rattle.calls.proofs.StepLaws.{step-refused}
-use Rattle.calls.proofs.CardLaws.{card-some, card-few, card-starts, card-inside, card-long, card-through}
-use Rattle.calls.proofs.ReadLaws.{read-1, read-4, read-9, read-6, read-7, read-8, read-done, index-inside}
+use Rattle.calls.proofs.CardLaws.{card-some, card-starts, card-inside, card-long, card-through, card-whole}
+use Rattle.calls.proofs.ReadLaws.{read-1, read-4, read-9, read-6, read-7, read-8, read-below, read-done, index-inside}
 use Rattle.calls.proofs.read.read.Statement.{statement}
 use Rattle.calls.proofs.read.read.Tie as tie
 
@@ -40,74 +39,60 @@ slice-aggregate-target-index c = search needs
 
 target-index-requires : tie.Need-target-index-requires
 target-index-requires c κs =
-    let w = c .before .before .before .before in
-    let e = w .before .before .before .before in
-    let good = sym (e .before .is-bad .ensures) ∙ e .if1 .left in
-    let ok = not-false (w .walk-chain .result .sound) (c .before .if4 .left) in
-    (card-some _ _ (w .walk-chain .ensures) good ok, card-long _ _ (w .walk-chain .ensures) good ok, λ j h. card-inside _ _ (w .walk-chain .ensures) good ok j h)
+    let w = c .before .before .before .before .before .walk-chain in
+    let good = sym (c .before .before .before .before .before .before .before .before .before .before .is-bad .ensures) ∙ c .before .before .before .before .before .before .before .before .before .if1 .left in
+    let ok = not-false (w .result .sound) (c .before .if4 .left) in
+    (card-some _ _ (w .ensures) good ok, card-long _ _ (w .ensures) good ok, λ j h. card-inside _ _ (w .ensures) good ok j h)
 
 returns-5 : tie.Need-returns-5
 unfolding lentOf
 returns-5 c =
-    let w = c .before .before .before .before .before .before in
-    let e = w .before .before .before .before in
-    step-refused _ _ _ _ (read-7 _ _ _ _ _ _ (e .before .is-bad .ensures) (e .if1 .left) _ (w .before .before .before .is-unnamed .ensures) (w .before .before .if2 .left) (w .before .if3 .left) _ (w .walk-chain .ensures) (c .before .before .before .if4 .left) _ (c .before .target-index .ensures) (c .if5 .taken)) refl
-
-mul-t14 : tie.Need-mul-t14
-mul-t14 c =
-    let w = c .before .before .before .before .before .before in
-    let e = w .before .before .before .before in
-    let good = sym (e .before .is-bad .ensures) ∙ e .if1 .left in
-    let ok = not-false (w .walk-chain .result .sound) (c .before .before .before .if4 .left) in
-    omega (arith, index-inside _ _ _ 0 (c .before .before .before .before .before .before .before .before .before .before .before .before .before .before .args .out .now) _ (e .before .is-bad .ensures) (e .if1 .left) _ (w .before .before .before .is-unnamed .ensures) (w .before .before .if2 .left) (w .before .if3 .left) _ (w .walk-chain .ensures) (c .before .before .before .if4 .left) _ (c .before .target-index .ensures) (c .if5 .left), card-few _ _ (w .walk-chain .ensures) good ok)
-
-array-read-t20 : tie.Need-array-read-t20
-array-read-t20 c =
-    let w = c .before .before .before .before .before .before in
-    let e = w .before .before .before .before in
-    let good = sym (e .before .is-bad .ensures) ∙ e .if1 .left in
-    let ok = not-false (w .walk-chain .result .sound) (c .before .before .before .if4 .left) in
-    omega (arith, index-inside _ _ _ 0 (c .before .before .before .before .before .before .before .before .before .before .before .before .before .before .args .out .now) _ (e .before .is-bad .ensures) (e .if1 .left) _ (w .before .before .before .is-unnamed .ensures) (w .before .before .if2 .left) (w .before .if3 .left) _ (w .walk-chain .ensures) (c .before .before .before .if4 .left) _ (c .before .target-index .ensures) (c .if5 .left), card-few _ _ (w .walk-chain .ensures) good ok)
-
-read-descriptor-requires : tie.Need-read-descriptor-requires
-read-descriptor-requires c κs =
-    let w = c .before .before .before .before .before .before in
-    let e = w .before .before .before .before in
-    let good = sym (e .before .is-bad .ensures) ∙ e .if1 .left in
-    let ok = not-false (w .walk-chain .result .sound) (c .before .before .before .if4 .left) in
-    card-inside _ _ (w .walk-chain .ensures) good ok _ (index-inside _ _ _ 0 (c .before .before .before .before .before .before .before .before .before .before .before .before .before .before .args .out .now) _ (e .before .is-bad .ensures) (e .if1 .left) _ (w .before .before .before .is-unnamed .ensures) (w .before .before .if2 .left) (w .before .if3 .left) _ (w .walk-chain .ensures) (c .before .before .before .if4 .left) _ (c .before .target-index .ensures) (c .if5 .left))
+    step-refused _ _ _ _ (read-7 _ _ _ _ _ _ (c .before .before .before .before .before .before .before .before .before .before .before .before .is-bad .ensures) (c .before .before .before .before .before .before .before .before .before .before .before .if1 .left) _ (c .before .before .before .before .before .before .before .before .before .before .is-unnamed .ensures) (c .before .before .before .before .before .before .before .before .before .if2 .left) (c .before .before .before .before .before .before .before .before .if3 .left) _ (c .before .before .before .before .before .before .before .walk-chain .ensures) (c .before .before .before .if4 .left) _ (c .before .target-index .ensures) (c .if5 .taken)) refl
 
 returns-6 : tie.Need-returns-6
 unfolding lentOf
 returns-6 c =
-    let w = c .before .before .before .before .before .before .before .before .before .before in
-    let e = w .before .before .before .before in
-    step-refused _ _ _ _ (read-8 _ _ _ _ _ _ (e .before .is-bad .ensures) (e .if1 .left) _ (w .before .before .before .is-unnamed .ensures) (w .before .before .if2 .left) (w .before .if3 .left) _ (w .walk-chain .ensures) (c .before .before .before .before .before .before .before .if4 .left) _ (c .before .before .before .before .before .target-index .ensures) (c .before .before .before .before .if5 .left) _ (c .before .before .before .read-descriptor .ensures) (c .if6 .taken)) refl
+    step-refused _ _ _ _ (read-8 _ _ _ _ _ _ (c .before .before .before .before .before .before .before .before .before .before .before .before .before .before .before .is-bad .ensures) (c .before .before .before .before .before .before .before .before .before .before .before .before .before .before .if1 .left) _ (c .before .before .before .before .before .before .before .before .before .before .before .before .before .is-unnamed .ensures) (c .before .before .before .before .before .before .before .before .before .before .before .before .if2 .left) (c .before .before .before .before .before .before .before .before .before .before .before .if3 .left) _ (c .before .before .before .before .before .before .before .before .before .before .walk-chain .ensures) (c .before .before .before .before .before .before .if4 .left) _ (c .before .before .before .before .target-index .ensures) (c .before .before .before .if5 .left) (c .if6 .taken)) refl
+
+slice-aggregate-descriptor-of : tie.Need-slice-aggregate-descriptor-of
+slice-aggregate-descriptor-of c =
+    let w = c .before .before .before .before .before .before .before .before .before .before .before .walk-chain in
+    let good = sym (c .before .before .before .before .before .before .before .before .before .before .before .before .before .before .before .before .is-bad .ensures) ∙ c .before .before .before .before .before .before .before .before .before .before .before .before .before .before .before .if1 .left in
+    let ok = not-false (w .result .sound) (c .before .before .before .before .before .before .before .if4 .left) in
+    sym (card-starts _ _ (w .ensures) good ok)
+
+descriptor-of-requires : tie.Need-descriptor-of-requires
+descriptor-of-requires c κs =
+    let w = c .before .before .before .before .before .before .before .before .before .before .before .walk-chain in
+    let good = sym (c .before .before .before .before .before .before .before .before .before .before .before .before .before .before .before .before .is-bad .ensures) ∙ c .before .before .before .before .before .before .before .before .before .before .before .before .before .before .before .if1 .left in
+    let ok = not-false (w .result .sound) (c .before .before .before .before .before .before .before .if4 .left) in
+    (card-whole _ _ (w .ensures) good ok, index-inside _ _ _ 0 (c .before .before .before .before .before .before .before .before .before .before .before .before .before .before .before .before .before .before .before .args .out .now) _ (c .before .before .before .before .before .before .before .before .before .before .before .before .before .before .before .before .is-bad .ensures) (c .before .before .before .before .before .before .before .before .before .before .before .before .before .before .before .if1 .left) _ (c .before .before .before .before .before .before .before .before .before .before .before .before .before .before .is-unnamed .ensures) (c .before .before .before .before .before .before .before .before .before .before .before .before .before .if2 .left) (c .before .before .before .before .before .before .before .before .before .before .before .before .if3 .left) _ (w .ensures) (c .before .before .before .before .before .before .before .if4 .left) _ (c .before .before .before .before .before .target-index .ensures) (c .before .before .before .before .if5 .left))
 
 slice-aggregate-deliver : tie.Need-slice-aggregate-deliver
 slice-aggregate-deliver c =
-    let w = c .before .before .before .before .before .before .before .before .before .before .before in
-    let e = w .before .before .before .before in
-    let good = sym (e .before .is-bad .ensures) ∙ e .if1 .left in
-    let ok = not-false (w .walk-chain .result .sound) (c .before .before .before .before .before .before .before .before .if4 .left) in
-    sym (card-starts _ _ (w .walk-chain .ensures) good ok)
+    let w = c .before .before .before .before .before .before .before .before .before .before .before .before .before .walk-chain in
+    let good = sym (c .before .before .before .before .before .before .before .before .before .before .before .before .before .before .before .before .before .before .is-bad .ensures) ∙ c .before .before .before .before .before .before .before .before .before .before .before .before .before .before .before .before .before .if1 .left in
+    let ok = not-false (w .result .sound) (c .before .before .before .before .before .before .before .before .before .if4 .left) in
+    sym (card-starts _ _ (w .ensures) good ok)
 
 deliver-requires : tie.Need-deliver-requires
 deliver-requires c κs =
-    let w = c .before .before .before .before .before .before .before .before .before .before .before .before in
-    let e = w .before .before .before .before in
-    let good = sym (e .before .is-bad .ensures) ∙ e .if1 .left in
-    let ok = not-false (w .walk-chain .result .sound) (c .before .before .before .before .before .before .before .before .before .if4 .left) in
-    (card-through _ _ (w .walk-chain .ensures) good ok _ (index-inside _ _ _ 0 (c .before .before .before .before .before .before .before .before .before .before .before .before .before .before .before .before .before .before .before .before .args .out .now) _ (e .before .is-bad .ensures) (e .if1 .left) _ (w .before .before .before .is-unnamed .ensures) (w .before .before .if2 .left) (w .before .if3 .left) _ (w .walk-chain .ensures) (c .before .before .before .before .before .before .before .before .before .if4 .left) _ (c .before .before .before .before .before .before .before .target-index .ensures) (c .before .before .before .before .before .before .if5 .left)) _ (c .before .before .before .before .before .read-descriptor .ensures), c .before .before .if6 .left, w .before .if3 .left)
+    let w = c .before .before .before .before .before .before .before .before .before .before .before .before .before .before .walk-chain in
+    let good = sym (c .before .before .before .before .before .before .before .before .before .before .before .before .before .before .before .before .before .before .before .is-bad .ensures) ∙ c .before .before .before .before .before .before .before .before .before .before .before .before .before .before .before .before .before .before .if1 .left in
+    let ok = not-false (w .result .sound) (c .before .before .before .before .before .before .before .before .before .before .if4 .left) in
+    let d = c .before .before .descriptor-of .ensures in
+    let k = index-inside _ _ _ 0 (c .before .before .before .before .before .before .before .before .before .before .before .before .before .before .before .before .before .before .before .before .before .before .args .out .now) _ (c .before .before .before .before .before .before .before .before .before .before .before .before .before .before .before .before .before .before .before .is-bad .ensures) (c .before .before .before .before .before .before .before .before .before .before .before .before .before .before .before .before .before .before .if1 .left) _ (c .before .before .before .before .before .before .before .before .before .before .before .before .before .before .before .before .before .is-unnamed .ensures) (c .before .before .before .before .before .before .before .before .before .before .before .before .before .before .before .before .if2 .left) (c .before .before .before .before .before .before .before .before .before .before .before .before .before .before .before .if3 .left) _ (w .ensures) (c .before .before .before .before .before .before .before .before .before .before .if4 .left) _ (c .before .before .before .before .before .before .before .before .target-index .ensures) (c .before .before .before .before .before .before .before .if5 .left) in (
+      card-through _ _ (w .ensures) good ok _ k _ d,
+      read-below _ _ _ _ (c .before .before .before .before .before .before .before .before .before .before .before .before .before .before .before .before .before .before .before .before .before .before .args .out .now) _ (c .before .before .before .before .before .before .before .before .before .before .before .before .before .before .before .before .before .before .before .is-bad .ensures) (c .before .before .before .before .before .before .before .before .before .before .before .before .before .before .before .before .before .before .if1 .left) _ (c .before .before .before .before .before .before .before .before .before .before .before .before .before .before .before .before .before .is-unnamed .ensures) (c .before .before .before .before .before .before .before .before .before .before .before .before .before .before .before .before .if2 .left) (c .before .before .before .before .before .before .before .before .before .before .before .before .before .before .before .if3 .left) _ (w .ensures) (c .before .before .before .before .before .before .before .before .before .before .if4 .left) _ (c .before .before .before .before .before .before .before .before .target-index .ensures) (c .before .before .before .before .before .before .before .if5 .left) (c .before .before .before .before .if6 .left) _ d,
+      c .before .before .before .before .before .before .before .before .before .before .before .before .before .before .before .if3 .left,
+    )
 
 same-length : tie.Need-same-length
 same-length c = search needs
 
 returns-7 : tie.Need-returns-7
 returns-7 c =
-    let w = c .before .before .before .before .before .before .before .before .before .before .before .before .before .before .before in
-    let e = w .before .before .before .before in
-    read-done _ _ _ _ _ _ (e .before .is-bad .ensures) (e .if1 .left) _ (w .before .before .before .is-unnamed .ensures) (w .before .before .if2 .left) (w .before .if3 .left) _ (w .walk-chain .ensures) (c .before .before .before .before .before .before .before .before .before .before .before .before .if4 .left) _ (c .before .before .before .before .before .before .before .before .before .before .target-index .ensures) (c .before .before .before .before .before .before .before .before .before .if5 .left) _ (c .before .before .before .before .before .before .before .before .read-descriptor .ensures) (c .before .before .before .before .before .if6 .left) _ _ (c .before .before .deliver .ensures)
+    read-done _ _ _ _ _ _ (c .before .before .before .before .before .before .before .before .before .before .before .before .before .before .before .before .before .before .before .before .before .before .is-bad .ensures) (c .before .before .before .before .before .before .before .before .before .before .before .before .before .before .before .before .before .before .before .before .before .if1 .left) _ (c .before .before .before .before .before .before .before .before .before .before .before .before .before .before .before .before .before .before .before .before .is-unnamed .ensures) (c .before .before .before .before .before .before .before .before .before .before .before .before .before .before .before .before .before .before .before .if2 .left) (c .before .before .before .before .before .before .before .before .before .before .before .before .before .before .before .before .before .before .if3 .left) _ (c .before .before .before .before .before .before .before .before .before .before .before .before .before .before .before .before .before .walk-chain .ensures) (c .before .before .before .before .before .before .before .before .before .before .before .before .before .if4 .left) _ (c .before .before .before .before .before .before .before .before .before .before .before .target-index .ensures) (c .before .before .before .before .before .before .before .before .before .before .if5 .left) (c .before .before .before .before .before .before .before .if6 .left) _ (c .before .before .before .before .before .descriptor-of .ensures) _ _ (c .before .before .deliver .ensures)
 
 pub read-spec : {M : Type 1} → statement M
 read-spec =
@@ -123,10 +108,9 @@ read-spec =
     slice-aggregate-target-index
     target-index-requires
     returns-5
-    mul-t14
-    array-read-t20
-    read-descriptor-requires
     returns-6
+    slice-aggregate-descriptor-of
+    descriptor-of-requires
     slice-aggregate-deliver
     deliver-requires
     same-length

@@ -7,7 +7,7 @@ use Rattle.calls.specs.Effect.{lentOf, filledOf}
 use Rattle.blocks.proofs.ChainLaws.{cost-least}
 use Rattle.entries.proofs.EntryLaws.{through-beta}
 use Rattle.calls.proofs.StepLaws.{step-refused, step-accepted}
-use Rattle.calls.proofs.CardLaws.{card-some, card-inside, card-long, card-through, card-small}
+use Rattle.calls.proofs.CardLaws.{card-some, card-inside, card-long, card-active, card-through, card-small}
 use Rattle.calls.proofs.SnapLaws.{snap-1, snap-4, snap-6, snap-12, snap-13, snap-11, snap-0, snap-stores}
 use Rattle.calls.proofs.snap.snap.Statement.{statement}
 use Rattle.calls.proofs.snap.snap.Tie as tie
@@ -47,53 +47,24 @@ slice-aggregate-is-named c = search needs
 
 is-named-requires : tie.Need-is-named-requires
 is-named-requires c κs =
-    let w = c .before .before .before .before .before in
-    let e = w .before .before .before .before in
-    let good = sym (e .before .is-bad .ensures) ∙ e .if1 .left in
-    let ok = not-false (w .walk-chain .result .sound) (c .before .before .if3 .left) in
-    (card-long _ _ (w .walk-chain .ensures) good ok, λ j h. card-inside _ _ (w .walk-chain .ensures) good ok j h)
+    let w = c .before .before .before .before .before .walk-chain in
+    let good = sym (c .before .before .before .before .before .before .before .before .before .before .is-bad .ensures) ∙ c .before .before .before .before .before .before .before .before .before .if1 .left in
+    let ok = not-false (w .result .sound) (c .before .before .if3 .left) in
+    (card-long _ _ (w .ensures) good ok, λ j h. card-inside _ _ (w .ensures) good ok j h)
 
 same-length-4 : tie.Need-same-length-4
 same-length-4 c = search needs
 
 returns-4 : tie.Need-returns-4
 unfolding lentOf
-returns-4 c =
-    let w = c .before .before .before .before .before .before .before in
-    let e = w .before .before .before .before in
-    step-refused _ _ _ _ (snap-12 _ _ _ (e .before .is-bad .ensures) (e .if1 .left) _ (w .before .before .before .is-name .ensures) (w .before .before .if2 .left) _ (w .walk-chain .ensures) (c .before .before .before .before .if3 .left) _ (c .before .is-named .ensures) (c .if4 .taken)) refl
+returns-4 c = step-refused _ _ _ _ (snap-12 _ _ _ (c .before .before .before .before .before .before .before .before .before .before .before .before .is-bad .ensures) (c .before .before .before .before .before .before .before .before .before .before .before .if1 .left) _ (c .before .before .before .before .before .before .before .before .before .before .is-name .ensures) (c .before .before .before .before .before .before .before .before .before .if2 .left) _ (c .before .before .before .before .before .before .before .walk-chain .ensures) (c .before .before .before .before .if3 .left) _ (c .before .is-named .ensures) (c .if4 .taken)) refl
 
 same-length-5 : tie.Need-same-length-5
 same-length-5 c = search needs
 
 returns-5 : tie.Need-returns-5
 unfolding lentOf
-returns-5 c =
-    let w = c .before .before .before .before .before .before .before .before in
-    let e = w .before .before .before .before in
-    step-refused _ _ _ _ (snap-13 _ _ _ (e .before .is-bad .ensures) (e .if1 .left) _ (w .before .before .before .is-name .ensures) (w .before .before .if2 .left) _ (w .walk-chain .ensures) (c .before .before .before .before .before .if3 .left) _ (c .before .before .is-named .ensures) (c .before .if4 .left) (c .if5 .taken)) refl
-
-sub-active : tie.Need-sub-active
-sub-active c =
-    let w = c .before .before .before .before .before .before .before .before in
-    let e = w .before .before .before .before in
-    let good = sym (e .before .is-bad .ensures) ∙ e .if1 .left in
-    let ok = not-false (w .walk-chain .result .sound) (c .before .before .before .before .before .if3 .left) in
-    omega (arith, card-some _ _ (w .walk-chain .ensures) good ok)
-
-mul-active : tie.Need-mul-active
-mul-active c = search needs
-
-array-read-active : tie.Need-array-read-active
-array-read-active c = search needs
-
-read-descriptor-requires : tie.Need-read-descriptor-requires
-read-descriptor-requires c κs =
-    let w = c .before .before .before .before .before .before .before .before .before in
-    let e = w .before .before .before .before in
-    let good = sym (e .before .is-bad .ensures) ∙ e .if1 .left in
-    let ok = not-false (w .walk-chain .result .sound) (c .before .before .before .before .before .before .if3 .left) in
-    card-inside _ _ (w .walk-chain .ensures) good ok _ (omega (arith, card-some _ _ (w .walk-chain .ensures) good ok))
+returns-5 c = step-refused _ _ _ _ (snap-13 _ _ _ (c .before .before .before .before .before .before .before .before .before .before .before .before .before .is-bad .ensures) (c .before .before .before .before .before .before .before .before .before .before .before .before .if1 .left) _ (c .before .before .before .before .before .before .before .before .before .before .before .is-name .ensures) (c .before .before .before .before .before .before .before .before .before .before .if2 .left) _ (c .before .before .before .before .before .before .before .before .walk-chain .ensures) (c .before .before .before .before .before .if3 .left) _ (c .before .before .is-named .ensures) (c .before .if4 .left) (c .if5 .taken)) refl
 
 opening-cost-requires : tie.Need-opening-cost-requires
 opening-cost-requires c κs = search needs
@@ -113,20 +84,16 @@ same-length-6 c = search needs
 returns-6 : tie.Need-returns-6
 unfolding lentOf
 returns-6 c =
-    let w = c .before .before .before .before .before .before .before .before .before .before .before .before .before in
-    let e = w .before .before .before .before in
-    step-refused _ _ _ _ (snap-11 _ _ _ (e .before .is-bad .ensures) (e .if1 .left) _ (w .before .before .before .is-name .ensures) (w .before .before .if2 .left) _ (w .walk-chain .ensures) (c .before .before .before .before .before .before .before .before .before .before .if3 .left) _ (c .before .before .before .before .before .before .before .is-named .ensures) (c .before .before .before .before .before .before .if4 .left) (c .before .before .before .before .before .if5 .left) _ (c .before .before .before .read-descriptor .ensures) _ (c .before .before .opening-cost .ensures) (c .if6 .taken)) refl
+    step-refused _ _ _ _ (snap-11 _ _ _ (c .before .before .before .before .before .before .before .before .before .before .before .before .before .before .before .before .before .is-bad .ensures) (c .before .before .before .before .before .before .before .before .before .before .before .before .before .before .before .before .if1 .left) _ (c .before .before .before .before .before .before .before .before .before .before .before .before .before .before .before .is-name .ensures) (c .before .before .before .before .before .before .before .before .before .before .before .before .before .before .if2 .left) _ (c .before .before .before .before .before .before .before .before .before .before .before .before .walk-chain .ensures) (c .before .before .before .before .before .before .before .before .before .if3 .left) _ (c .before .before .before .before .before .before .is-named .ensures) (c .before .before .before .before .before .if4 .left) (c .before .before .before .before .if5 .left) _ (c .before .before .opening-cost .ensures) (c .if6 .taken)) refl
 
 take-snapshot-requires : tie.Need-take-snapshot-requires
 take-snapshot-requires c κs =
-    let w = c .before .before .before .before .before .before .before .before .before .before .before .before .before .before in
-    let e = w .before .before .before .before in
-    let good = sym (e .before .is-bad .ensures) ∙ e .if1 .left in
-    let ok = not-false (w .walk-chain .result .sound) (c .before .before .before .before .before .before .before .before .before .before .before .if3 .left) in
-    let d = c .before .before .before .before in
-    let t = card-through _ _ (w .walk-chain .ensures) good ok _ (omega (arith, card-some _ _ (w .walk-chain .ensures) good ok)) _ (d .read-descriptor .ensures) in
+    let w = c .before .before .before .before .before .before .before .before .before .before .before .before .before .walk-chain in
+    let good = sym (c .before .before .before .before .before .before .before .before .before .before .before .before .before .before .before .before .before .before .is-bad .ensures) ∙ c .before .before .before .before .before .before .before .before .before .before .before .before .before .before .before .before .before .if1 .left in
+    let ok = not-false (w .result .sound) (c .before .before .before .before .before .before .before .before .before .before .if3 .left) in
+    let t = card-through _ _ (w .ensures) good ok _ (omega (arith, card-some _ _ (w .ensures) good ok)) _ (card-active _ _ (w .ensures) good ok) in
     let k = c .before .before .before .opening-cost .ensures in
-    (k, omega (arith, through-beta _ _ _ _ t, k), omega (arith, k), omega (arith, card-small _ good), omega (arith, k, cost-least (d .read-descriptor .result .layout) (d .read-descriptor .result .volume)))
+    (k, omega (arith, through-beta _ _ _ _ t, k), omega (arith, k), omega (arith, card-small _ good), omega (arith, k, cost-least (w .result .active .layout) (w .result .active .volume)))
 
 same-length-7 : tie.Need-same-length-7
 same-length-7 c = search needs
@@ -134,12 +101,10 @@ same-length-7 c = search needs
 returns-7 : tie.Need-returns-7
 unfolding filledOf
 returns-7 c =
-    let w = c .before .before .before .before .before .before .before .before .before .before .before .before .before .before .before .before .before in
-    let e = w .before .before .before .before in
     step-accepted _ _
-    (snap-0 _ _ _ (e .before .is-bad .ensures) (e .if1 .left) _ (w .before .before .before .is-name .ensures) (w .before .before .if2 .left) _ (w .walk-chain .ensures) (c .before .before .before .before .before .before .before .before .before .before .before .before .before .before .if3 .left) _ (c .before .before .before .before .before .before .before .before .before .before .before .is-named .ensures) (c .before .before .before .before .before .before .before .before .before .before .if4 .left) (c .before .before .before .before .before .before .before .before .before .if5 .left) _ (c .before .before .before .before .before .before .before .read-descriptor .ensures) _ (c .before .before .before .before .before .before .opening-cost .ensures) (c .before .before .before .before .if6 .left))
+    (snap-0 _ _ _ (c .before .before .before .before .before .before .before .before .before .before .before .before .before .before .before .before .before .before .before .before .before .is-bad .ensures) (c .before .before .before .before .before .before .before .before .before .before .before .before .before .before .before .before .before .before .before .before .if1 .left) _ (c .before .before .before .before .before .before .before .before .before .before .before .before .before .before .before .before .before .before .before .is-name .ensures) (c .before .before .before .before .before .before .before .before .before .before .before .before .before .before .before .before .before .before .if2 .left) _ (c .before .before .before .before .before .before .before .before .before .before .before .before .before .before .before .before .walk-chain .ensures) (c .before .before .before .before .before .before .before .before .before .before .before .before .before .if3 .left) _ (c .before .before .before .before .before .before .before .before .before .before .is-named .ensures) (c .before .before .before .before .before .before .before .before .before .if4 .left) (c .before .before .before .before .before .before .before .before .if5 .left) _ (c .before .before .before .before .before .before .opening-cost .ensures) (c .before .before .before .before .if6 .left))
     _ refl _
-    (snap-stores _ _ _ (e .before .is-bad .ensures) (e .if1 .left) _ (w .before .before .before .is-name .ensures) (w .before .before .if2 .left) _ (w .walk-chain .ensures) (c .before .before .before .before .before .before .before .before .before .before .before .before .before .before .if3 .left) _ (c .before .before .before .before .before .before .before .before .before .before .before .is-named .ensures) (c .before .before .before .before .before .before .before .before .before .before .if4 .left) (c .before .before .before .before .before .before .before .before .before .if5 .left) _ (c .before .before .before .before .before .before .before .read-descriptor .ensures) _ (c .before .before .before .before .before .before .opening-cost .ensures) _ (c .before .before .take-snapshot .ensures))
+    (snap-stores _ _ _ (c .before .before .before .before .before .before .before .before .before .before .before .before .before .before .before .before .before .before .before .before .before .is-bad .ensures) (c .before .before .before .before .before .before .before .before .before .before .before .before .before .before .before .before .before .before .before .before .if1 .left) _ (c .before .before .before .before .before .before .before .before .before .before .before .before .before .before .before .before .before .before .before .is-name .ensures) (c .before .before .before .before .before .before .before .before .before .before .before .before .before .before .before .before .before .before .if2 .left) _ (c .before .before .before .before .before .before .before .before .before .before .before .before .before .before .before .before .walk-chain .ensures) (c .before .before .before .before .before .before .before .before .before .before .before .before .before .if3 .left) _ (c .before .before .before .before .before .before .before .before .before .before .is-named .ensures) (c .before .before .before .before .before .before .before .before .before .if4 .left) (c .before .before .before .before .before .before .before .before .if5 .left) _ (c .before .before .before .before .before .before .opening-cost .ensures) _ (c .before .before .take-snapshot .ensures))
 
 pub snap-spec : {M : Type 1} → statement M
 snap-spec =
@@ -160,10 +125,6 @@ snap-spec =
     returns-4
     same-length-5
     returns-5
-    sub-active
-    mul-active
-    array-read-active
-    read-descriptor-requires
     opening-cost-requires
     cast-end
     cast-end-2

@@ -1,12 +1,11 @@
 -- `write` meets its contract, row by row.
 use mathlib.Core.Path.{refl, sym, _∙_}
-use native.Mathlib.Omega.{arith}
 use borrow.Author.Needs.{needs}
 use borrow.Author.Tests.{not-false}
 use Rattle.calls.specs.Effect.{lentOf}
 use Rattle.calls.proofs.StepLaws.{step-refused}
-use Rattle.calls.proofs.CardLaws.{card-some, card-few, card-starts, card-inside, card-through}
-use Rattle.calls.proofs.WriteLaws.{write-1, write-9, write-6, write-8, write-10, write-ready, write-done}
+use Rattle.calls.proofs.CardLaws.{card-starts}
+use Rattle.calls.proofs.WriteLaws.{write-1, write-9, write-6, write-8, write-10, write-through, write-ready, write-done}
 use Rattle.calls.proofs.write.write.Statement.{statement}
 use Rattle.calls.proofs.write.write.Tie as tie
 
@@ -37,63 +36,22 @@ returns-3 : tie.Need-returns-3
 unfolding lentOf
 returns-3 c = step-refused _ _ _ _ (search write-6) refl
 
-sub-active : tie.Need-sub-active
-sub-active c =
-    let w = c .before .before .before in
-    let e = w .before .before .before in
-    let good = sym (e .before .is-bad .ensures) ∙ e .if1 .left in
-    let ok = not-false (w .walk-chain .result .sound) (c .if3 .left) in
-    omega (arith, card-some _ _ (w .walk-chain .ensures) good ok)
-
-mul-active : tie.Need-mul-active
-mul-active c =
-    let w = c .before .before .before in
-    let e = w .before .before .before in
-    let good = sym (e .before .is-bad .ensures) ∙ e .if1 .left in
-    let ok = not-false (w .walk-chain .result .sound) (c .if3 .left) in
-    omega (arith, card-few _ _ (w .walk-chain .ensures) good ok)
-
-array-read-active : tie.Need-array-read-active
-array-read-active c =
-    let w = c .before .before .before in
-    let e = w .before .before .before in
-    let good = sym (e .before .is-bad .ensures) ∙ e .if1 .left in
-    let ok = not-false (w .walk-chain .result .sound) (c .if3 .left) in
-    omega (arith, card-some _ _ (w .walk-chain .ensures) good ok, card-few _ _ (w .walk-chain .ensures) good ok)
-
-read-descriptor-requires : tie.Need-read-descriptor-requires
-read-descriptor-requires c κs =
-    let w = c .before .before .before .before in
-    let e = w .before .before .before in
-    let good = sym (e .before .is-bad .ensures) ∙ e .if1 .left in
-    let ok = not-false (w .walk-chain .result .sound) (c .before .if3 .left) in
-    card-inside _ _ (w .walk-chain .ensures) good ok _ (omega (arith, card-some _ _ (w .walk-chain .ensures) good ok))
-
 same-length-4 : tie.Need-same-length-4
 same-length-4 c = search needs
 
 returns-4 : tie.Need-returns-4
 unfolding lentOf
-returns-4 c =
-    let w = c .before .before .before .before .before .before .before .before in
-    let e = w .before .before .before in
-    step-refused _ _ _ _ (write-8 _ _ _ _ (e .before .is-bad .ensures) (e .if1 .left) (w .before .before .if2 .left) _ (w .walk-chain .ensures) (c .before .before .before .before .before .if3 .left) _ (c .before .before .before .read-descriptor .ensures) (c .if4 .taken)) refl
+returns-4 c = step-refused _ _ _ _ (write-8 _ _ _ _ (c .before .before .before .before .before .before .before .before .before .before .before .is-bad .ensures) (c .before .before .before .before .before .before .before .before .before .before .if1 .left) (c .before .before .before .before .before .before .before .before .before .if2 .left) _ (c .before .before .before .before .before .before .before .walk-chain .ensures) (c .before .before .before .before .if3 .left) (c .if4 .taken)) refl
 
 slice-aggregate-find : tie.Need-slice-aggregate-find
 slice-aggregate-find c =
-    let w = c .before .before .before .before .before .before .before .before .before .before in
-    let e = w .before .before .before in
-    let good = sym (e .before .is-bad .ensures) ∙ e .if1 .left in
-    let ok = not-false (w .walk-chain .result .sound) (c .before .before .before .before .before .before .before .if3 .left) in
-    sym (card-starts _ _ (w .walk-chain .ensures) good ok)
+    let w = c .before .before .before .before .before .before .before .before .before .walk-chain in
+    let good = sym (c .before .before .before .before .before .before .before .before .before .before .before .before .before .is-bad .ensures) ∙ c .before .before .before .before .before .before .before .before .before .before .before .before .if1 .left in
+    let ok = not-false (w .result .sound) (c .before .before .before .before .before .before .if3 .left) in
+    sym (card-starts _ _ (w .ensures) good ok)
 
 find-requires : tie.Need-find-requires
-find-requires c κs =
-    let w = c .before .before .before .before .before .before .before .before .before .before in
-    let e = w .before .before .before in
-    let good = sym (e .before .is-bad .ensures) ∙ e .if1 .left in
-    let ok = not-false (w .walk-chain .result .sound) (c .before .before .before .before .before .before .before .if3 .left) in
-    (card-through _ _ (w .walk-chain .ensures) good ok _ (omega (arith, card-some _ _ (w .walk-chain .ensures) good ok)) _ (c .before .before .before .before .before .read-descriptor .ensures), c .before .before .if4 .left)
+find-requires c κs = (write-through _ 0 (c .before .before .before .before .before .before .before .before .before .before .before .before .before .before .before .before .before .args .block .now) _ (c .before .before .before .before .before .before .before .before .before .before .before .before .before .is-bad .ensures) (c .before .before .before .before .before .before .before .before .before .before .before .before .if1 .left) (c .before .before .before .before .before .before .before .before .before .before .before .if2 .left) _ (c .before .before .before .before .before .before .before .before .before .walk-chain .ensures) (c .before .before .before .before .before .before .if3 .left), c .before .before .if4 .left)
 
 enum-known-h : tie.Need-enum-known-h
 enum-known-h c = search needs
@@ -103,30 +61,23 @@ enum-known-m c = search needs
 
 put-requires : tie.Need-put-requires
 put-requires c κs =
-    let w = c .before .before .before .before .before .before .before .before .before .before .before .before .before .before .before in
-    let e = w .before .before .before in
     let f = c .before .before .m .given .0 in
-    write-ready _ _ _ _ (e .before .is-bad .ensures) (e .if1 .left) (w .before .before .if2 .left) _ (w .walk-chain .ensures) (c .before .before .before .before .before .before .before .before .before .before .before .before .if3 .left) _ (c .before .before .before .before .before .before .before .before .before .before .read-descriptor .ensures) (c .before .before .before .before .before .before .before .if4 .left) _ (c .before .before .before .before .find .ensures) (f .0) (f .1 .0) (cc)
+    write-ready _ _ _ _ (c .before .before .before .before .before .before .before .before .before .before .before .before .before .before .before .before .before .before .is-bad .ensures) (c .before .before .before .before .before .before .before .before .before .before .before .before .before .before .before .before .before .if1 .left) (c .before .before .before .before .before .before .before .before .before .before .before .before .before .before .before .before .if2 .left) _ (c .before .before .before .before .before .before .before .before .before .before .before .before .before .before .walk-chain .ensures) (c .before .before .before .before .before .before .before .before .before .before .before .if3 .left) (c .before .before .before .before .before .before .before .if4 .left) _ (c .before .before .before .before .find .ensures) (f .0) (f .1 .0) (cc)
 
 same-length-5 : tie.Need-same-length-5
 same-length-5 c = search needs
 
 returns-5 : tie.Need-returns-5
 unfolding lentOf
-returns-5 c =
-    let w = c .before .before .before .before .before .before .before .before .before .before .before .before .before .before in
-    let e = w .before .before .before in
-    step-refused _ _ _ _ (write-10 _ _ _ _ (e .before .is-bad .ensures) (e .if1 .left) (w .before .before .if2 .left) _ (w .walk-chain .ensures) (c .before .before .before .before .before .before .before .before .before .before .before .if3 .left) _ (c .before .before .before .before .before .before .before .before .before .read-descriptor .ensures) (c .before .before .before .before .before .before .if4 .left) _ (c .before .before .before .find .ensures) (c .before .h .given .0 .0) (cc)) refl
+returns-5 c = step-refused _ _ _ _ (write-10 _ _ _ _ (c .before .before .before .before .before .before .before .before .before .before .before .before .before .before .before .before .before .is-bad .ensures) (c .before .before .before .before .before .before .before .before .before .before .before .before .before .before .before .before .if1 .left) (c .before .before .before .before .before .before .before .before .before .before .before .before .before .before .before .if2 .left) _ (c .before .before .before .before .before .before .before .before .before .before .before .before .before .walk-chain .ensures) (c .before .before .before .before .before .before .before .before .before .before .if3 .left) (c .before .before .before .before .before .before .if4 .left) _ (c .before .before .before .find .ensures) (c .before .h .given .0 .0) (cc)) refl
 
 same-length-6 : tie.Need-same-length-6
 same-length-6 c = search needs
 
 returns-6 : tie.Need-returns-6
 returns-6 c =
-    let w = c .before .before .before .before .before .before .before .before .before .before .before .before .before .before .before .before .before .before in
-    let e = w .before .before .before in
     let f = c .before .before .before .before .before .m .given .0 in
-    write-done _ _ _ _ (e .before .is-bad .ensures) (e .if1 .left) (w .before .before .if2 .left) _ (w .walk-chain .ensures) (c .before .before .before .before .before .before .before .before .before .before .before .before .before .before .before .if3 .left) _ (c .before .before .before .before .before .before .before .before .before .before .before .before .before .read-descriptor .ensures) (c .before .before .before .before .before .before .before .before .before .before .if4 .left) _ (c .before .before .before .before .before .before .before .find .ensures) (f .0) (f .1 .0) (cc) _ _ (c .before .before .put .ensures)
+    write-done _ _ _ _ (c .before .before .before .before .before .before .before .before .before .before .before .before .before .before .before .before .before .before .before .before .before .is-bad .ensures) (c .before .before .before .before .before .before .before .before .before .before .before .before .before .before .before .before .before .before .before .before .if1 .left) (c .before .before .before .before .before .before .before .before .before .before .before .before .before .before .before .before .before .before .before .if2 .left) _ (c .before .before .before .before .before .before .before .before .before .before .before .before .before .before .before .before .before .walk-chain .ensures) (c .before .before .before .before .before .before .before .before .before .before .before .before .before .before .if3 .left) (c .before .before .before .before .before .before .before .before .before .before .if4 .left) _ (c .before .before .before .before .before .before .before .find .ensures) (f .0) (f .1 .0) (cc) _ _ (c .before .before .put .ensures)
 
 pub write-spec : {M : Type 1} → statement M
 write-spec =
@@ -140,10 +91,6 @@ write-spec =
     walk-chain-requires
     same-length-3
     returns-3
-    sub-active
-    mul-active
-    array-read-active
-    read-descriptor-requires
     same-length-4
     returns-4
     slice-aggregate-find
