@@ -13,7 +13,8 @@ use Rattle.blocks.specs.Pick.{pick, same}
 use Rattle.blocks.specs.Bytes.{blockCount}
 use Rattle.blocks.specs.Descriptor.{physical, tableCount, cost, costOf, descriptorAt}
 use Rattle.blocks.specs.Name.{keyOf}
-use Rattle.blocks.specs.Chain.{Keyed, activeOf, formOk, regionOk, named, sound, Unsound, Sound, descriptorsAt, chainFrom, chain, ends, startsOf, regionsOf}
+use Rattle.blocks.specs.Chain.{activeOf, formOk, regionOk, named, sound, Unsound, Sound, descriptorsAt, chainFrom, chain, ends, startsOf, regionsOf}
+use Rattle.blocks.specs.Walk.{Walked, Keyed}
 use Rattle.blocks.specs.declared.descriptor.Descriptor.{Descriptor}
 use Rattle.blocks.specs.declared.chain.Regions.{Regions}
 use Rattle.blocks.proofs.Tests.{and-left, and-right}
@@ -63,8 +64,8 @@ module _ (c starts : List ℕ) (k : ℕ) (keys : List Bool) (keyed : Keyed c sta
       let g : getD keys (keyOf name) false ≡ false = ap (λ (x : ℕ). getD keys x false) (sym e) ∙ not-true (getD keys key false) h in
       sym (named-start c starts k name ∙ none-from-key g k 0 (omega arith))
 
-pub keyed-none : (c starts : List ℕ) → Keyed c starts 0 (replicate 2048 false)
-keyed-none c starts = record { long = refl; each = λ j h. absurd (omega arith) }
+pub keyed-none : (c starts : List ℕ) (keys : List Bool) → length keys ≡ 2048 → Keyed c starts 0 keys
+keyed-none c starts keys long = record { long = long; each = λ j h. absurd (omega arith) }
 
 -- descriptors of one more block, and how many there are
 pub descriptors-snoc : (c : List ℕ) (ps : List ℕ) (p : ℕ) → descriptorsAt c (ps ++ (p ∷ [])) ≡ descriptorsAt c ps ++ (descriptorAt c p ∷ [])
@@ -183,15 +184,6 @@ active-snoc [] d = refl
 active-snoc (e ∷ []) d = refl
 active-snoc (e ∷ f ∷ ds) d = active-snoc (f ∷ ds) d
 
--- where a walk stands after k sound descriptors: block p is next, and starts holds the regions so far
-pub record Walked (c starts : List ℕ) (p k : ℕ) : Type 0 where
-  pub few : k ≤ 256
-  pub long : length starts ≡ 257
-  pub here : getD starts k 0 ≡ p
-  pub inside : (j : ℕ) → j ≤ k → 512 * getD starts j 0 + 512 ≤ length c
-  pub so-far : starts ≡ startsOf (descriptorsAt c (take k starts))
-  pub rest : chain c ≡ chainFrom c (256 - k) (descriptorsAt c (take k starts)) p
-
 pub walked-none : (c : List ℕ) → (length c / 512 ≡ 0 → ⊥) → Walked c (replicate 257 0) 0 0
 unfolding chain startsOf ends descriptorsAt
 walked-none c h =
@@ -205,24 +197,28 @@ walked-none c h =
     }
 
 -- one more name passed
-pub keyed-more : (c starts : List ℕ) (p k : ℕ) (w : Walked c starts p k) (keys : List Bool) → Keyed c starts k keys → (d : Descriptor) → d ≡ descriptorAt c p → (key : ℕ) → key ≡ keyOf (d .name) → key < 2048
-    → (beta : ℕ) → Keyed c (set starts (k + 1) beta) (k + 1) (set keys key true)
-keyed-more c starts p k w keys keyed d is key key-is low beta = record { long = length-set keys key true ∙ keyed .long; each = λ j h. each-by j h (ltb j k) refl }
+pub keyed-more : (c starts : List ℕ) (k : ℕ) (keys : List Bool) → Keyed c starts k keys → (name : List ℕ) → name ≡ descriptorAt c (getD starts k 0) .name → (key : ℕ) → key ≡ keyOf name → key < 2048
+    → Keyed c starts (k + 1) (set keys key true)
+keyed-more c starts k keys keyed name name-is key key-is low = record { long = length-set keys key true ∙ keyed .long; each = λ j h. each-by j h (ltb j k) refl }
   where
     kept : (x : ℕ) → (t : Bool) → eqb x key ≡ t → getD keys x false ≡ true → getD (set keys key true) x false ≡ true
     kept x true e h = rw (eqb-true x key e) (getD-set-same keys key true false (omega (arith, keyed .long)))
     kept x false e h = getD-set-other keys key x true false (eqb-false x key e) ∙ h
 
-    start-at : (j : ℕ) → j < k + 1 → getD (set starts (k + 1) beta) j 0 ≡ getD starts j 0
-    start-at j h = getD-set-other starts (k + 1) j beta 0 (omega arith)
-
-    each-by : (j : ℕ) → j < k + 1 → (t : Bool) → ltb j k ≡ t → getD (set keys key true) (keyOf (descriptorAt c (getD (set starts (k + 1) beta) j 0) .name)) false ≡ true
-    each-by j h true e = rw (start-at j h) (kept (keyOf (descriptorAt c (getD starts j 0) .name)) (eqb (keyOf (descriptorAt c (getD starts j 0) .name)) key) refl (keyed .each j (ltb-true j k e)))
+    each-by : (j : ℕ) → j < k + 1 → (t : Bool) → ltb j k ≡ t → getD (set keys key true) (keyOf (descriptorAt c (getD starts j 0) .name)) false ≡ true
+    each-by j h true e = kept (keyOf (descriptorAt c (getD starts j 0) .name)) (eqb (keyOf (descriptorAt c (getD starts j 0) .name)) key) refl (keyed .each j (ltb-true j k e))
     each-by j h false e =
         let q : j ≡ k = omega (arith, ltb-false j k e) in
-        let at : descriptorAt c (getD (set starts (k + 1) beta) j 0) ≡ d = ap (descriptorAt c) (start-at j h ∙ ap (λ (x : ℕ). getD starts x 0) q ∙ w .here) ∙ sym is in
-        ap (λ (x : Descriptor). getD (set keys key true) (keyOf (x .name)) false) at ∙ ap (λ (x : ℕ). getD (set keys key true) x false) (sym key-is)
+        let at : descriptorAt c (getD starts j 0) .name ≡ name = ap (λ (x : ℕ). descriptorAt c (getD starts x 0) .name) q ∙ sym name-is in
+        ap (λ (x : List ℕ). getD (set keys key true) (keyOf x) false) at ∙ ap (λ (x : ℕ). getD (set keys key true) x false) (sym key-is)
         ∙ getD-set-same keys key true false (omega (arith, keyed .long))
+
+pub keyed-all : (c starts : List ℕ) (j k : ℕ) (keys : List Bool) → Keyed c starts j keys → j ≤ k → k ≤ j → Keyed c starts k keys
+keyed-all c starts j k keys keyed h l = let q : j ≡ k = omega arith in rw (← q) keyed
+
+-- starts changed past those
+pub keyed-starts : (c starts : List ℕ) (k : ℕ) (keys : List Bool) → Keyed c starts k keys → (i v : ℕ) → k ≤ i → Keyed c (set starts i v) k keys
+keyed-starts c starts k keys keyed i v h = record { long = keyed .long; each = λ j l. rw (getD-set-other starts i j v 0 (omega arith)) (keyed .each j l) }
 
 module _ (c starts : List ℕ) (p k : ℕ) (w : Walked c starts p k) where
   abbrev ds : List Descriptor
@@ -230,6 +226,10 @@ module _ (c starts : List ℕ) (p k : ℕ) (w : Walked c starts p k) where
 
   length-ds : length ds ≡ k
   length-ds = length-descriptors c (take k starts) ∙ (simp length-take (omega (arith, w .few, w .long)))
+
+  -- the name of the descriptor in block p
+  pub walked-name : (d : Descriptor) → d ≡ descriptorAt c p → d .name ≡ descriptorAt c (getD starts k 0) .name
+  walked-name d is = ap (λ (x : Descriptor). x .name) is ∙ ap (λ (x : ℕ). descriptorAt c x .name) (sym (w .here))
 
   -- block p and the blocks passed are on the card
   pub walked-here : 512 * p + 512 ≤ length c
@@ -251,64 +251,60 @@ module _ (c starts : List ℕ) (p k : ℕ) (w : Walked c starts p k) where
     unfolding chainFrom sound blockCount
     walk-step = w .rest ∙ rw (one, is, first-is, count)
 
-    module _ (f : Bool) (formed : f ≡ formOk c p d) where
-      pub walk-unformed : not f ≡ true → (r : Regions) → r ≡ regionsOf (Unsound p) → r ≡ regionsOf (chain c)
-      walk-unformed h r e = e ∙ sym (ap regionsOf (walk-step ∙ rw (← formed, not-true f h)))
+    module _ (b : Bool) (right : b ≡ (formOk c p d && regionOk first n p d)) where
+      pub walk-wrong : not b ≡ true → (r : Regions) → r ≡ regionsOf (Unsound p) → r ≡ regionsOf (chain c)
+      walk-wrong h r e = e ∙ sym (ap regionsOf (walk-step ∙ rw (← right, not-true b h)))
 
-      module _ (f-is : not f ≡ false) (g : Bool) (placed : g ≡ regionOk first n p d) where
-        pub walk-unplaced : not g ≡ true → (r : Regions) → r ≡ regionsOf (Unsound p) → r ≡ regionsOf (chain c)
-        walk-unplaced h r e = e ∙ sym (ap regionsOf (walk-step ∙ rw (← formed, not-false f f-is, ← placed, not-true g h)))
+      module _ (b-is : not b ≡ false) (m : Bool) (called : m ≡ named ds (d .name)) where
+        pub walk-repeated : m ≡ true → (r : Regions) → r ≡ regionsOf (Unsound p) → r ≡ regionsOf (chain c)
+        walk-repeated h r e = e ∙ sym (ap regionsOf (walk-step ∙ rw (← right, not-false b b-is, ← called, h)))
 
-        module _ (g-is : not g ≡ false) (m : Bool) (called : m ≡ named ds (d .name)) where
-          pub walk-repeated : m ≡ true → (r : Regions) → r ≡ regionsOf (Unsound p) → r ≡ regionsOf (chain c)
-          walk-repeated h r e = e ∙ sym (ap regionsOf (walk-step ∙ rw (← formed, not-false f f-is, ← placed, not-false g g-is, ← called, h)))
+        module _ (fresh : m ≡ false) where
+          walk-on : chain c ≡ pick (eqb (d .next .0) 0) (Sound (ds ++ (d ∷ []))) (chainFrom c (256 - (k + 1)) (ds ++ (d ∷ [])) (d .next .0))
+          walk-on = walk-step ∙ rw (← right, not-false b b-is, ← called, fresh)
 
-          module _ (fresh : m ≡ false) where
-            walk-on : chain c ≡ pick (eqb (d .next .0) 0) (Sound (ds ++ (d ∷ []))) (chainFrom c (256 - (k + 1)) (ds ++ (d ∷ [])) (d .next .0))
-            walk-on = walk-step ∙ rw (← formed, not-false f f-is, ← placed, not-false g g-is, ← called, fresh)
+          abbrev starts′ : List ℕ
+          starts′ = set starts (k + 1) (d .beta .0)
 
-            abbrev starts′ : List ℕ
-            starts′ = set starts (k + 1) (d .beta .0)
+          ok : regionOk first n p d ≡ true
+          ok = and-right (formOk c p d) (regionOk first n p d) (sym right ∙ not-false b b-is)
 
-            ok : regionOk first n p d ≡ true
-            ok = sym placed ∙ not-false g g-is
+          take-more : take (k + 1) starts′ ≡ take k starts ++ (p ∷ [])
+          take-more =
+              take-set-le (k + 1) starts (k + 1) (d .beta .0) (omega arith)
+              ∙ rw add-one (take-suc starts k 0 (omega (arith, w .long)))
+              ∙ ap (λ (q : ℕ). take k starts ++ (q ∷ [])) (w .here)
 
-            take-more : take (k + 1) starts′ ≡ take k starts ++ (p ∷ [])
-            take-more =
-                take-set-le (k + 1) starts (k + 1) (d .beta .0) (omega arith)
-                ∙ rw add-one (take-suc starts k 0 (omega (arith, w .long)))
-                ∙ ap (λ (q : ℕ). take k starts ++ (q ∷ [])) (w .here)
+          ds-more : descriptorsAt c (take (k + 1) starts′) ≡ ds ++ (d ∷ [])
+          ds-more = rw take-more (descriptors-snoc c (take k starts) p ∙ rw (← is))
 
-            ds-more : descriptorsAt c (take (k + 1) starts′) ≡ ds ++ (d ∷ [])
-            ds-more = rw take-more (descriptors-snoc c (take k starts) p ∙ rw (← is))
+          starts-more : starts′ ≡ startsOf (ds ++ (d ∷ []))
+          starts-more = ap (λ (l : List ℕ). set l (k + 1) (d .beta .0)) (w .so-far) ∙ starts-snoc ds d k length-ds more
 
-            starts-more : starts′ ≡ startsOf (ds ++ (d ∷ []))
-            starts-more = ap (λ (l : List ℕ). set l (k + 1) (d .beta .0)) (w .so-far) ∙ starts-snoc ds d k length-ds more
+          pub walk-end : d .next .0 ≡ 0 → _≡_ {A = Regions} (record { sound = true; place = physical 0; active = d; count = k + 1; starts = starts′ }) (regionsOf (chain c))
+          unfolding regionsOf
+          walk-end z =
+              let l : length (ds ++ (d ∷ [])) ≡ k + 1 = length-append ds (d ∷ []) ∙ ap (λ (x : ℕ). x + 1) length-ds in
+              let last : pick (eqb (d .next .0) 0) (Sound (ds ++ (d ∷ []))) (chainFrom c (256 - (k + 1)) (ds ++ (d ∷ [])) (d .next .0)) ≡ Sound (ds ++ (d ∷ [])) = rw z in
+              regions-equal d (activeOf (ds ++ (d ∷ []))) (k + 1) (length (ds ++ (d ∷ []))) starts′ (startsOf (ds ++ (d ∷ []))) (sym (active-snoc ds d)) (sym l) starts-more ∙ sym (ap regionsOf (walk-on ∙ last))
 
-            pub walk-end : d .next .0 ≡ 0 → _≡_ {A = Regions} (record { sound = true; place = physical 0; active = d; count = k + 1; starts = starts′ }) (regionsOf (chain c))
-            unfolding regionsOf
-            walk-end z =
-                let l : length (ds ++ (d ∷ [])) ≡ k + 1 = length-append ds (d ∷ []) ∙ ap (λ (x : ℕ). x + 1) length-ds in
-                let last : pick (eqb (d .next .0) 0) (Sound (ds ++ (d ∷ []))) (chainFrom c (256 - (k + 1)) (ds ++ (d ∷ [])) (d .next .0)) ≡ Sound (ds ++ (d ∷ [])) = rw z in
-                regions-equal d (activeOf (ds ++ (d ∷ []))) (k + 1) (length (ds ++ (d ∷ []))) starts′ (startsOf (ds ++ (d ∷ []))) (sym (active-snoc ds d)) (sym l) starts-more ∙ sym (ap regionsOf (walk-on ∙ last))
+          -- the next descriptor's block is on the card
+          pub walked-next : (d .next .0 ≡ 0 → ⊥) → 512 * d .next .0 + 512 ≤ length c
+          walked-next z = let link = region-next first n p d ok z in omega (arith, link .0, link .1, count)
 
-            -- the next descriptor's block is on the card
-            pub walked-next : (d .next .0 ≡ 0 → ⊥) → 512 * d .next .0 + 512 ≤ length c
-            walked-next z = let link = region-next first n p d ok z in omega (arith, link .0, link .1, count)
-
-            pub walked-more : (d .next .0 ≡ 0 → ⊥) → Walked c starts′ (d .next .0) (k + 1)
-            walked-more z =
-                let link = region-next first n p d ok z in
-                let at-end : getD starts′ (k + 1) 0 ≡ d .next .0 = getD-set-same starts (k + 1) (d .beta .0) 0 (omega (arith, w .long)) ∙ sym (link .0) in
-                record {
-                  few = omega arith;
-                  long = length-set starts (k + 1) (d .beta .0) ∙ w .long;
-                  here = at-end;
-                  inside = λ j l. inside-by j l at-end (walked-next z) (ltb j (k + 1)) refl;
-                  so-far = rw ds-more starts-more;
-                  rest = rw ds-more (walk-on ∙ rw (ne-eqb (d .next .0) 0 z));
-                }
-              where
-                inside-by : (j : ℕ) → j ≤ k + 1 → getD starts′ (k + 1) 0 ≡ d .next .0 → 512 * d .next .0 + 512 ≤ length c → (t : Bool) → ltb j (k + 1) ≡ t → 512 * getD starts′ j 0 + 512 ≤ length c
-                inside-by j l e fits true t = rw (getD-set-other starts (k + 1) j (d .beta .0) 0 (omega (arith, ltb-true j (k + 1) t))) (w .inside j (omega (arith, ltb-true j (k + 1) t)))
-                inside-by j l e fits false t = let q : j ≡ k + 1 = omega (arith, ltb-false j (k + 1) t) in rw (q, e) fits
+          pub walked-more : (d .next .0 ≡ 0 → ⊥) → Walked c starts′ (d .next .0) (k + 1)
+          walked-more z =
+              let link = region-next first n p d ok z in
+              let at-end : getD starts′ (k + 1) 0 ≡ d .next .0 = getD-set-same starts (k + 1) (d .beta .0) 0 (omega (arith, w .long)) ∙ sym (link .0) in
+              record {
+                few = omega arith;
+                long = length-set starts (k + 1) (d .beta .0) ∙ w .long;
+                here = at-end;
+                inside = λ j l. inside-by j l at-end (walked-next z) (ltb j (k + 1)) refl;
+                so-far = rw ds-more starts-more;
+                rest = rw ds-more (walk-on ∙ rw (ne-eqb (d .next .0) 0 z));
+              }
+            where
+              inside-by : (j : ℕ) → j ≤ k + 1 → getD starts′ (k + 1) 0 ≡ d .next .0 → 512 * d .next .0 + 512 ≤ length c → (t : Bool) → ltb j (k + 1) ≡ t → 512 * getD starts′ j 0 + 512 ≤ length c
+              inside-by j l e fits true t = rw (getD-set-other starts (k + 1) j (d .beta .0) 0 (omega (arith, ltb-true j (k + 1) t))) (w .inside j (omega (arith, ltb-true j (k + 1) t)))
+              inside-by j l e fits false t = let q : j ≡ k + 1 = omega (arith, ltb-false j (k + 1) t) in rw (q, e) fits

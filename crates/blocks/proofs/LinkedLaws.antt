@@ -10,7 +10,7 @@ use lib.Seq.{append-snoc, take-append-le}
 use lib.Dec.{eqb}
 use borrow.Author.Tests.{eq-eqb, ne-eqb, eqb-true, eqb-false}
 use Rattle.blocks.specs.Pick.{pick}
-use Rattle.blocks.specs.Bytes.{part, blockCount}
+use Rattle.blocks.specs.Bytes.{blockCount}
 use Rattle.blocks.specs.Descriptor.{physical, costOf, noDescriptor, descriptorAt}
 use Rattle.blocks.specs.Chain.{activeOf, formOk, regionOk, named, sound, Chain, Unsound, Sound, descriptorsAt, chainFrom, chain, descriptors, ends, startsOf, regionsOf}
 use Rattle.blocks.specs.declared.numbers.Physical.{Physical}
@@ -244,11 +244,7 @@ module _ (c : List ℕ) (active : Descriptor) (n : ℕ) (starts : List ℕ) (who
       let e : getD starts (suc k) 0 ≤ length c / 512 = at-end c _ _ (getD ds k noDescriptor) r in
       (omega (arith, regions-are .1, starts-long ds, ap length (regions-are .2)), omega (arith, at-long c _ _ (getD ds k noDescriptor) r, cost-least (getD ds k noDescriptor .layout) (getD ds k noDescriptor .volume)))
 
-  name-at : (p : ℕ) → descriptorAt c p .name ≡ part c (512 * p + 24) 16
-  unfolding descriptorAt
-  name-at p = refl
-
-  pub found-descriptor : (k : ℕ) → k < n → (name : List ℕ) → name ≡ part c (512 * getD starts k 0 + 24) 16 → (next : Physical) → next ≡ physical (pick (eqb (k + 1) n) 0 (getD starts (k + 1) 0))
+  pub found-descriptor : (k : ℕ) → k < n → (name : List ℕ) → name ≡ descriptorAt c (getD starts k 0) .name → (next : Physical) → next ≡ physical (pick (eqb (k + 1) n) 0 (getD starts (k + 1) 0))
       → record { layout = active .layout; volume = active .volume; alpha = physical (getD starts k 0); beta = physical (getD starts (k + 1) 0); next = next; name = name } ≡ descriptorAt c (getD starts k 0)
   found-descriptor k h name named next links =
       let d = getD ds k noDescriptor in
@@ -263,7 +259,7 @@ module _ (c : List ℕ) (active : Descriptor) (n : ℕ) (starts : List ℕ) (who
       (ap physical (rw add-one (r .beta)))
       (ap physical k-next ∙ sym links)
       name
-      (ap (λ (x : Descriptor). x .name) (r .is) ∙ name-at (getD starts k 0) ∙ sym named))
+      (ap (λ (x : Descriptor). x .name) (r .is) ∙ sym named))
       ∙ r .is
 
 -- a sound chain has at most 256 descriptors, so that its starts fill 257 places

@@ -1,13 +1,12 @@
 -- The chain of descriptors: soundness, the walk from block 0, and the regions of the chain.
-use mathlib.Core.Path.{_≡_}
 use mathlib.Core.Bool.{Bool, true, false, not, _&&_, _||_}
 use mathlib.Core.List.{List, [], _∷_, _++_}
-use Prim.Native.Nat.{ℕ, zero, suc, _+_, _*_, _-_, _<_}
-use lib.ListN.{length, replicate, getD}
+use Prim.Native.Nat.{ℕ, zero, suc, _+_, _*_, _-_}
+use lib.ListN.{length, replicate}
 use lib.Dec.{eqb, ltb, leb}
 use Rattle.blocks.specs.Pick.{pick, same}
 use Rattle.blocks.specs.Bytes.{blockSize, part, blockCount}
-use Rattle.blocks.specs.Name.{isName, keyCount, keyOf}
+use Rattle.blocks.specs.Name.{isName}
 use Rattle.blocks.specs.Descriptor.{physical, mark, mostVolume, phiStart, headSize, costOf, descriptorAt, reservedOk, phiOk, noDescriptor}
 use Rattle.blocks.specs.declared.descriptor.Descriptor.{Descriptor}
 use Rattle.blocks.specs.declared.chain.Regions.{Regions}
@@ -103,8 +102,3 @@ startsOf ds = (0 ∷ ends ds) ++ replicate (mostDescriptors - length ds) 0
 unfoldable pub regionsOf : Chain → Regions
 regionsOf (Unsound p) = record { sound = false; place = physical p; active = noDescriptor; count = 0; starts = replicate (mostDescriptors + 1) 0 }
 regionsOf (Sound ds) = record { sound = true; place = physical 0; active = activeOf ds; count = length ds; starts = startsOf ds }
-
--- what the walk in code keeps of the names passed: a flag for the key of each of the first k
-pub record Keyed (c starts : List ℕ) (k : ℕ) (keys : List Bool) : Type 0 where
-  pub long : length keys ≡ keyCount
-  pub each : (j : ℕ) → j < k → getD keys (keyOf (descriptorAt c (getD starts j 0) .name)) false ≡ true

@@ -4,3 +4,4 @@ pub mod Bytes
 pub mod Name
 pub mod Descriptor
 pub mod Chain
+pub mod Walk

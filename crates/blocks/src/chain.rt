@@ -5,14 +5,16 @@ use crate::descriptor::Descriptor;
 use crate::name;
 use crate::numbers::Physical;
 ghost use mathlib.Core.Path.{_≡_};
-ghost use mathlib.Core.Bool.{true};
+ghost use mathlib.Core.Bool.{true, _&&_};
 ghost use Prim.Native.Nat.{ℕ, _+_, _*_, _≤_, _<_};
 ghost use lib.ListN.{length, take, getD};
 ghost use lib.Dec.{eqb};
 ghost use Rattle.blocks.specs.Pick.{pick, same};
 ghost use Rattle.blocks.specs.Bytes.{part};
+ghost use Rattle.blocks.specs.Name.{keyCount};
 ghost use Rattle.blocks.specs.Descriptor.{physical, mark, descriptorAt, reservedOk};
-ghost use Rattle.blocks.specs.Chain.{formOk, regionOk, named, descriptorsAt, chain, regionsOf, Unsound, Keyed};
+ghost use Rattle.blocks.specs.Chain.{formOk, regionOk, named, descriptorsAt, chain, regionsOf, Unsound};
+ghost use Rattle.blocks.specs.Walk.{Walked, Keyed};
 
 // What a walk along the chain finds. Where every descriptor is sound, `active` is the last, and region k of the chain runs
 // from block `starts[k]` up to `starts[k + 1]`, for k below `count`; otherwise `place` is the block of the unsound descriptor.
@@ -172,25 +174,63 @@ fn unsound(p: u32) -> Regions
     }
 }
 
-// Walks the chain of the card.
-pub fn walk_chain(card: &[u8]) -> Regions
+// Whether the descriptor `d` in block `p` of `n` is formed and placed as it must be.
+pub fn is_right(card: &[u8], first: Descriptor, n: usize, p: Physical, d: Descriptor) -> bool
+    requires { ⌜ 512 * p .0 + 512 ≤ length (now card) ⌝ }
+    ensures { λ r. ⌜ r ≡ (formOk (now (card .entry)) (p .0) d && regionOk first n (p .0) d) ⌝ }
+{
+    if !is_formed(card, p, d) {
+        return false;
+    }
+    is_placed(first, n, p, d)
+}
+
+// The sixteen bytes of the name in block `p`.
+fn name_at(card: &[u8], p: Physical) -> [u8; 16]
+    requires { ⌜ 512 * p .0 + 512 ≤ length (now card) ⌝ }
+    ensures { λ r. ⌜ r ≡ descriptorAt (now (card .entry)) (p .0) .name ⌝ }
+{
+    let mut name = [0u8; 16];
+    bytes::get_bytes(card, 512 * (p.0 as usize) + 24, &mut name);
+    name
+}
+
+// The keys of the names in the first `k` blocks of `starts` get their flags.
+fn keep_names(card: &[u8], starts: &[u32], k: usize, keys: &mut [bool])
+    requires { ⌜ (length (now keys) ≡ keyCount) × (k ≤ length (now starts)) × ((j : ℕ) → j < k → 512 * getD (now starts) j 0 + 512 ≤ length (now card)) ⌝ }
+    ensures { λ _. ⌜ Keyed (now (card .entry)) (now (starts .entry)) k (now (keys .exit)) ⌝ }
+{
+    let mut j = 0;
+    while j < k {
+        let p = starts[j];
+        let name = name_at(card, Physical(p));
+        keys[name::key(name)] = true;
+        j += 1;
+    }
+}
+
+// Walks on where `k` descriptors have passed and `d` is the one in block `p`. A flag for each name's key says of most names
+// that no earlier descriptor has them.
+fn walk_on(
+    card: &[u8],
+    first: Descriptor,
+    passed: [u32; 257],
+    k: usize,
+    p: u32,
+    d: Descriptor,
+) -> Regions
+    requires { ⌜ Walked (now card) passed p k × (first ≡ descriptorAt (now card) 0) × (d ≡ descriptorAt (now card) p) ⌝ }
     ensures { λ r. ⌜ r ≡ regionsOf (chain (now (card .entry))) ⌝ }
 {
     let n = card.len() / 512;
-    if n == 0 {
-        return unsound(0);
-    }
-    let first = descriptor::read_descriptor(card, Physical(0));
-    let mut d = first;
-    let mut starts = [0u32; 257];
+    let mut starts = passed;
     let mut keys = [false; 2048];
-    let mut p: u32 = 0;
-    let mut k: usize = 0;
+    keep_names(card, &starts, k, &mut keys);
+    let mut d = d;
+    let mut p = p;
+    let mut k = k;
     while k < 256 {
-        if !is_formed(card, Physical(p), d) {
-            return unsound(p);
-        }
-        if !is_placed(first, n, Physical(p), d) {
+        if !is_right(card, first, n, Physical(p), d) {
             return unsound(p);
         }
         let name = d.name;
@@ -217,6 +257,46 @@ pub fn walk_chain(card: &[u8]) -> Regions
     unsound(p)
 }
 
+// Walks the chain of the card: the first 4 descriptors here, any others in `walk_on`.
+pub fn walk_chain(card: &[u8]) -> Regions
+    ensures { λ r. ⌜ r ≡ regionsOf (chain (now (card .entry))) ⌝ }
+{
+    let n = card.len() / 512;
+    if n == 0 {
+        return unsound(0);
+    }
+    let first = descriptor::read_descriptor(card, Physical(0));
+    let mut d = first;
+    let mut starts = [0u32; 257];
+    let mut p: u32 = 0;
+    let mut k: usize = 0;
+    while k < 4 {
+        if !is_right(card, first, n, Physical(p), d) {
+            return unsound(p);
+        }
+        let name = d.name;
+        if is_named(card, &starts, k, name) {
+            return unsound(p);
+        }
+        let beta = d.beta.0;
+        let next = d.next.0;
+        k += 1;
+        starts[k] = beta;
+        if next == 0 {
+            return Regions {
+                sound: true,
+                place: Physical(0),
+                active: d,
+                count: k,
+                starts,
+            };
+        }
+        p = next;
+        d = descriptor::read_descriptor(card, Physical(p));
+    }
+    walk_on(card, first, starts, k, p, d)
+}
+
 // The next of region `k` of `count`, which ends at block `end`.
 fn next_of(end: u32, k: usize, count: usize) -> Physical
     requires { ⌜ k < count ⌝ }
@@ -241,8 +321,7 @@ pub fn descriptor_of(
 {
     let start = starts[k];
     let end = starts[k + 1];
-    let mut name = [0u8; 16];
-    bytes::get_bytes(card, 512 * (start as usize) + 24, &mut name);
+    let name = name_at(card, Physical(start));
     Descriptor {
         layout: active.layout,
         volume: active.volume,

@@ -1,5 +1,4 @@
 -- `descriptor_of` meets its contract: layout and L are one for all descriptors, and the regions say the rest.
-use mathlib.Core.Path.{_≡_, refl}
 use native.Mathlib.Omega.{arith}
 use borrow.Author.Needs.{needs}
 use Rattle.blocks.proofs.LinkedLaws.{found-inside, found-descriptor}
@@ -21,26 +20,14 @@ mul-end c = let q = c .before .before .before .pre in omega (arith, found-inside
 shared-slice-read-end : tie.Need-shared-slice-read-end
 shared-slice-read-end c = let q = c .before .before .before .before .pre in omega (arith, found-inside _ _ _ _ (q .0) _ (q .1) .0)
 
-cast-get-bytes : tie.Need-cast-get-bytes
-cast-get-bytes c = let q = c .before .before .before .before .pre in omega (arith, found-inside _ _ _ _ (q .0) _ (q .1) .1)
-
-mul-get-bytes : tie.Need-mul-get-bytes
-mul-get-bytes c = let q = c .before .before .before .before .pre in omega (arith, found-inside _ _ _ _ (q .0) _ (q .1) .1)
-
-add-get-bytes : tie.Need-add-get-bytes
-add-get-bytes c = let q = c .before .before .before .before .pre in omega (arith, found-inside _ _ _ _ (q .0) _ (q .1) .1)
-
-slice-aggregate-get-bytes : tie.Need-slice-aggregate-get-bytes
-slice-aggregate-get-bytes c = search needs
-
-get-bytes-requires : tie.Need-get-bytes-requires
-get-bytes-requires c κs = let q = c .before .before .before .before .before .pre in omega (arith, found-inside _ _ _ _ (q .0) _ (q .1) .1)
+name-at-requires : tie.Need-name-at-requires
+name-at-requires c κs = let q = c .before .before .before .before .pre in found-inside _ _ _ _ (q .0) _ (q .1) .1
 
 next-of-requires : tie.Need-next-of-requires
 next-of-requires c κs = search needs
 
 returns : tie.Need-returns
-returns c = let q = c .before .before .before .before .before .before .before .before .pre in found-descriptor _ _ _ _ (q .0) _ (q .1) _ (c .before .before .get-bytes .ensures) _ (c .next-of .ensures)
+returns c = let q = c .before .before .before .before .before .before .pre in found-descriptor _ _ _ _ (q .0) _ (q .1) _ (c .before .name-at .ensures) _ (c .next-of .ensures)
 
 pub descriptor-of-spec : {M : Type 1} → statement M
 descriptor-of-spec =
@@ -51,10 +38,6 @@ descriptor-of-spec =
     add-end
     mul-end
     shared-slice-read-end
-    cast-get-bytes
-    mul-get-bytes
-    add-get-bytes
-    slice-aggregate-get-bytes
-    get-bytes-requires
+    name-at-requires
     next-of-requires
     returns)
