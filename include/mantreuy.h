@@ -55,7 +55,7 @@
  *     mantreuy_revert runs, no other call may use that card. Nobody else may
  *     change a buffer while a call uses it, nor read one that the call may
  *     change.
- *   - A check uses at most 69 KB of stack, any other call at most 4 KB
+ *   - A check uses at most 70 KB of stack, any other call at most 5 KB
  *     (measured on x86-64, in accepted calls; 1 KB is 1,000 bytes).
  *
  * SIZES

@@ -14,7 +14,7 @@
 //! that apply the first is given, in this order: [`Kind::BadArea`]; but for `ream`, [`Kind::UnsoundChain`]; then those
 //! that stand under "Errors" of the call, as they stand there.
 //!
-//! A check uses at most 69 KB of stack, any other call at most 4 KB (measured on x86-64, in accepted calls). Only
+//! A check uses at most 70 KB of stack, any other call at most 5 KB (measured on x86-64, in accepted calls). Only
 //! [`Card::list`] allocates, for its records.
 //!
 //! ```

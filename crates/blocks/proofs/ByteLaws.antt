@@ -1,8 +1,8 @@
 -- Laws of parts, splices, 32-bit numbers, blocks and stores.
 use mathlib.Core.Path.{_≡_, refl, sym, ap, _∙_}
 use mathlib.Core.Logic.{_⊎_, inl, inr}
-use mathlib.Core.List.{List, _++_, append-assoc, append-nil}
-use Prim.Native.Nat.{ℕ, _+_, _*_, _-_, _≤_, _<_, _/_, _%_, _^_}
+use mathlib.Core.List.{List, _++_, append-assoc, append-nil, [], _∷_}
+use Prim.Native.Nat.{ℕ, _+_, _*_, _-_, _≤_, _<_, _/_, _%_, _^_, suc}
 use native.Mathlib.Numerals.{add-one}
 use native.Mathlib.Omega.{arith}
 use native.Mathlib.Nat.{add-assoc, zero-add, add-zero, div-div-eq-div-mul, div-add-mod'}
@@ -10,7 +10,7 @@ use mathlib.Core.Bool.{Bool, true, false}
 use lib.Dec.{ltb}
 use borrow.Author.Tests.{ltb-true, ltb-false}
 use lib.ListN.{length, take, drop, getD, set, length-append, length-take, length-drop, List·getD-append, take-append-drop, replicate, length-replicate, getD-replicate}
-use lib.Seq.{take-length, drop-length, paste, paste-zero, paste-suc, take-at, getD-take, getD-drop, getD-append-add, ext-getD, drop-drop, take-append-add, drop-append-add, take-append-le, drop-append-le, length-take-le}
+use lib.Seq.{take-length, drop-length, paste, paste-zero, paste-suc, take-at, getD-take, getD-drop, getD-append-add, ext-getD, drop-drop, take-append-add, drop-append-add, take-append-le, drop-append-le, length-take-le, take-add, drop-cons}
 use Rattle.blocks.specs.Bytes.{u32At, le32, splice, part, blockAt, storeBlock}
 
 -- area after the first n elements of s were copied in from index at. Shut, so that `_` and `rw` find its arguments
@@ -174,6 +174,44 @@ pub u32-part : (c : List ℕ) (at n k : ℕ) → k + 4 ≤ n → u32At (part c a
 unfolding u32At
 u32-part c at n k h =
     rw (part-at c at n k (omega arith), part-at c at n (k + 1) (omega arith), part-at c at n (k + 2) (omega arith), part-at c at n (k + 3) (omega arith), add-assoc at k 1, add-assoc at k 2, add-assoc at k 3)
+
+-- parts that follow each other are one
+pub part-join : (c : List ℕ) (at n m k : ℕ) (x y : List ℕ) → n + m ≡ k → x ≡ part c at n → y ≡ part c (at + n) m → x ++ y ≡ part c at k
+part-join c at n m k x y e p q =
+    rw (p, q, ← e)
+    (sym (take-add n m (drop at c) ∙ ap (λ (l : List ℕ). take n (drop at c) ++ take m l) (drop-drop n at c)))
+
+-- the four bytes of a number that was read are those that were there
+pub digit-0 : (w x y z : ℕ) → w < 256 → (w + 256 * x + 65536 * y + 16777216 * z) % 256 ≡ w
+digit-0 w x y z h = omega arith
+
+pub digit-1 : (w x y z : ℕ) → w < 256 → x < 256 → (w + 256 * x + 65536 * y + 16777216 * z) / 256 % 256 ≡ x
+digit-1 w x y z h k =
+    let e : (w + 256 * x + 65536 * y + 16777216 * z) / 256 ≡ x + 256 * y + 65536 * z = omega arith in rw e (omega arith)
+
+pub digit-2 : (w x y z : ℕ) → w < 256 → x < 256 → y < 256 → (w + 256 * x + 65536 * y + 16777216 * z) / 65536 % 256 ≡ y
+digit-2 w x y z h k l =
+    let e : (w + 256 * x + 65536 * y + 16777216 * z) / 65536 ≡ y + 256 * z = omega arith in rw e (omega arith)
+
+pub digit-3 : (w x y z : ℕ) → w < 256 → x < 256 → y < 256 → z < 256 → (w + 256 * x + 65536 * y + 16777216 * z) / 16777216 % 256 ≡ z
+digit-3 w x y z h k l m =
+    let e : (w + 256 * x + 65536 * y + 16777216 * z) / 16777216 ≡ z = omega arith in rw e (omega arith)
+
+pub part-4 : (b : List ℕ) (at : ℕ) → at + 4 ≤ length b → part b at 4 ≡ getD b at 0 ∷ getD b (at + 1) 0 ∷ getD b (at + 2) 0 ∷ getD b (at + 3) 0 ∷ []
+part-4 b at h =
+    let e₁ : at + 1 ≡ suc at = omega arith in
+    let e₂ : at + 2 ≡ suc (suc at) = omega arith in
+    let e₃ : at + 3 ≡ suc (suc (suc at)) = omega arith in
+    rw (e₁, e₂, e₃, drop-cons b at 0 (omega arith), drop-cons b (suc at) 0 (omega arith), drop-cons b (suc (suc at)) 0 (omega arith), drop-cons b (suc (suc (suc at))) 0 (omega arith))
+
+pub number-back : (b : List ℕ) (at : ℕ) → ((i : ℕ) → getD b i 0 < 256) → at + 4 ≤ length b → le32 (u32At b at) ≡ part b at 4
+unfolding le32 u32At
+number-back b at h l =
+    let w = getD b at 0 in
+    let x = getD b (at + 1) 0 in
+    let y = getD b (at + 2) 0 in
+    let z = getD b (at + 3) 0 in
+    rw (part-4 b at l, digit-0 w x y z (h at), digit-1 w x y z (h at) (h (at + 1)), digit-2 w x y z (h at) (h (at + 1)) (h (at + 2)), digit-3 w x y z (h at) (h (at + 1)) (h (at + 2)) (h (at + 3)))
 
 -- two puts, the second where the first ends, are one
 pub splice-join : (c : List ℕ) (at : ℕ) (x : List ℕ) (b : ℕ) (y : List ℕ) → at + length x ≡ b → b + length y ≤ length c → splice (splice c at x) b y ≡ splice c at (x ++ y)

@@ -13,11 +13,12 @@ use Rattle.blocks.specs.Pick.{pick, same}
 use Rattle.blocks.specs.Bytes.{blockCount}
 use Rattle.blocks.specs.Descriptor.{physical, tableCount, cost, costOf, descriptorAt}
 use Rattle.blocks.specs.Name.{keyOf}
-use Rattle.blocks.specs.Chain.{activeOf, formOk, regionOk, named, sound, Unsound, Sound, descriptorsAt, chainFrom, chain, ends, startsOf, regionsOf}
-use Rattle.blocks.specs.Walk.{Walked, Keyed}
+use Rattle.blocks.specs.Chain.{activeOf, formOk, regionOk, named, sound, Unsound, Sound, descriptorsAt, chainFrom, chain, ends, startsOf, regionsOf, chainSound, descriptors}
+use Rattle.blocks.specs.Walk.{Keyed}
 use Rattle.blocks.specs.declared.descriptor.Descriptor.{Descriptor}
 use Rattle.blocks.specs.declared.chain.Regions.{Regions}
 use Rattle.blocks.proofs.Tests.{and-left, and-right}
+use Rattle.blocks.proofs.BoolLaws.{and-false-mid}
 use Rattle.blocks.proofs.ListLaws.{same-equal}
 
 -- whether one of the blocks from index j up to index k holds a descriptor with the name
@@ -64,7 +65,7 @@ module _ (c starts : List ℕ) (k : ℕ) (keys : List Bool) (keyed : Keyed c sta
       let g : getD keys (keyOf name) false ≡ false = ap (λ (x : ℕ). getD keys x false) (sym e) ∙ not-true (getD keys key false) h in
       sym (named-start c starts k name ∙ none-from-key g k 0 (omega arith))
 
-pub keyed-none : (c starts : List ℕ) (keys : List Bool) → length keys ≡ 2048 → Keyed c starts 0 keys
+pub keyed-none : (c starts : List ℕ) (keys : List Bool) → length keys ≡ 1024 → Keyed c starts 0 keys
 keyed-none c starts keys long = record { long = long; each = λ j h. absurd (omega arith) }
 
 -- descriptors of one more block, and how many there are
@@ -159,15 +160,11 @@ region-none : (first d : Descriptor) (p : ℕ) (t : Bool) → regionOk first 0 p
 region-none first d p true e = absurd (omega (arith, region-long first 0 p d e, region-end first 0 p d e, cost-least (d .layout) (d .volume)))
 region-none first d p false e = refl
 
-sound-none : (a b : Bool) → (a && false && b) ≡ false
-sound-none true b = refl
-sound-none false b = refl
-
 none-from : (c : List ℕ) (n f : ℕ) → n ≡ 0 → blockCount c ≡ n → chainFrom c (suc f) [] 0 ≡ Unsound 0
 unfolding chainFrom sound
 none-from c n f h e =
     let z = region-none (descriptorAt c 0) (descriptorAt c 0) 0 (regionOk (descriptorAt c 0) 0 0 (descriptorAt c 0)) refl in
-    rw (e, h, z, sound-none (formOk c 0 (descriptorAt c 0)))
+    rw (e, h, z, and-false-mid (formOk c 0 (descriptorAt c 0)))
 
 pub walk-none : (c : List ℕ) → length c / 512 ≡ 0 → (r : Regions) → r ≡ regionsOf (Unsound 0) → r ≡ regionsOf (chain c)
 unfolding chain blockCount
@@ -177,12 +174,30 @@ regions-equal : (d e : Descriptor) (a b : ℕ) (x y : List ℕ) → d ≡ e → 
     → _≡_ {A = Regions} (record { sound = true; place = physical 0; active = d; count = a; starts = x }) (record { sound = true; place = physical 0; active = e; count = b; starts = y })
 regions-equal d e a b x y o p q = rw (o, p, q)
 
+-- a sound chain, and its descriptors
+pub is-sound : (c : List ℕ) (ds : List Descriptor) → chain c ≡ Sound ds → chainSound (chain c) ≡ true
+unfolding chainSound
+is-sound c ds e = ap chainSound e
+
+pub descriptors-are : (c : List ℕ) (ds : List Descriptor) → chain c ≡ Sound ds → descriptors (chain c) ≡ ds
+unfolding descriptors
+descriptors-are c ds e = ap descriptors e
+
 -- the last of a list
 pub active-snoc : (ds : List Descriptor) (d : Descriptor) → activeOf (ds ++ (d ∷ [])) ≡ d
 unfolding activeOf
 active-snoc [] d = refl
 active-snoc (e ∷ []) d = refl
 active-snoc (e ∷ f ∷ ds) d = active-snoc (f ∷ ds) d
+
+-- where the walk stands after k sound descriptors: block p is next, and starts holds the regions so far
+pub record Walked (c starts : List ℕ) (p k : ℕ) : Type 0 where
+  pub few : k ≤ 256
+  pub long : length starts ≡ 257
+  pub here : getD starts k 0 ≡ p
+  pub inside : (j : ℕ) → j ≤ k → 512 * getD starts j 0 + 512 ≤ length c
+  pub so-far : starts ≡ startsOf (descriptorsAt c (take k starts))
+  pub rest : chain c ≡ chainFrom c (256 - k) (descriptorsAt c (take k starts)) p
 
 pub walked-none : (c : List ℕ) → (length c / 512 ≡ 0 → ⊥) → Walked c (replicate 257 0) 0 0
 unfolding chain startsOf ends descriptorsAt
@@ -197,7 +212,7 @@ walked-none c h =
     }
 
 -- one more name passed
-pub keyed-more : (c starts : List ℕ) (k : ℕ) (keys : List Bool) → Keyed c starts k keys → (name : List ℕ) → name ≡ descriptorAt c (getD starts k 0) .name → (key : ℕ) → key ≡ keyOf name → key < 2048
+pub keyed-more : (c starts : List ℕ) (k : ℕ) (keys : List Bool) → Keyed c starts k keys → (name : List ℕ) → name ≡ descriptorAt c (getD starts k 0) .name → (key : ℕ) → key ≡ keyOf name → key < 1024
     → Keyed c starts (k + 1) (set keys key true)
 keyed-more c starts k keys keyed name name-is key key-is low = record { long = length-set keys key true ∙ keyed .long; each = λ j h. each-by j h (ltb j k) refl }
   where
@@ -212,9 +227,6 @@ keyed-more c starts k keys keyed name name-is key key-is low = record { long = l
         let at : descriptorAt c (getD starts j 0) .name ≡ name = ap (λ (x : ℕ). descriptorAt c (getD starts x 0) .name) q ∙ sym name-is in
         ap (λ (x : List ℕ). getD (set keys key true) (keyOf x) false) at ∙ ap (λ (x : ℕ). getD (set keys key true) x false) (sym key-is)
         ∙ getD-set-same keys key true false (omega (arith, keyed .long))
-
-pub keyed-all : (c starts : List ℕ) (j k : ℕ) (keys : List Bool) → Keyed c starts j keys → j ≤ k → k ≤ j → Keyed c starts k keys
-keyed-all c starts j k keys keyed h l = let q : j ≡ k = omega arith in rw (← q) keyed
 
 -- starts changed past those
 pub keyed-starts : (c starts : List ℕ) (k : ℕ) (keys : List Bool) → Keyed c starts k keys → (i v : ℕ) → k ≤ i → Keyed c (set starts i v) k keys

@@ -5,14 +5,14 @@ use mathlib.Core.List.{List, _++_}
 use Prim.Native.Nat.{ℕ, _+_, _*_, _≤_, _<_, _^_}
 use native.Mathlib.Omega.{arith}
 use native.Mathlib.Nat.{add-zero}
-use lib.ListN.{length, drop, length-append, length-drop}
+use lib.ListN.{length, drop, length-append, length-drop, getD}
 use lib.Seq.{take-all}
 use Rattle.blocks.specs.Pick.{same}
 use Rattle.blocks.specs.Bytes.{u32At, u64At, le32, splice, part, blockAt, storeBlock}
 use Rattle.blocks.specs.Descriptor.{mark, descriptorAt, headBytes, tailAt, descriptorBlock}
 use Rattle.blocks.specs.declared.descriptor.Descriptor.{Descriptor}
 use Rattle.blocks.proofs.ListLaws.{same-equal}
-use Rattle.blocks.proofs.ByteLaws.{put-next, u32-part, u32-within, part-within, digits, splice-start, length-part, part-part, store-length, store-same, store-other, store-over, put-block, length-blockAt}
+use Rattle.blocks.proofs.ByteLaws.{put-next, u32-part, u32-within, part-within, digits, splice-start, length-part, part-part, store-length, store-same, store-other, store-over, put-block, length-blockAt, part-join, number-back}
 
 -- the fields, put one after the other from the start of a block
 pub head-put : (c₀ c₁ c₂ c₃ c₄ c₅ c₆ c₇ : List ℕ) (d : Descriptor) → 40 ≤ length c₀ → length (d .name) ≡ 16
@@ -41,6 +41,9 @@ head-put c₀ c₁ c₂ c₃ c₄ c₅ c₆ c₇ d h n e₁ e₂ e₃ e₄ e₅ 
 pub head-length : (d : Descriptor) → length (d .name) ≡ 16 → length (headBytes d) ≡ 40
 unfolding headBytes le32
 head-length d n = rw n
+
+pub tail-length : (c : List ℕ) (p : ℕ) → 512 * p + 512 ≤ length c → length (tailAt c p) ≡ 472
+tail-length c p h = length-part c (512 * p + 40) 472 (omega arith)
 
 -- a block whose first 40 bytes are replaced keeps its tail
 pub block-made : (c : List ℕ) (p : ℕ) (b b′ : List ℕ) (d : Descriptor) → 512 * p + 512 ≤ length c → length (headBytes d) ≡ 40 → b ≡ blockAt c p → b′ ≡ splice b 0 (headBytes d)
@@ -107,10 +110,28 @@ module _ (d : Descriptor) (f : Fits d) where
         at-name,
       )
 
+-- a marked block of bytes is that of the descriptor that is read from it, and its tail
+pub block-back : (c : List ℕ) (p : ℕ) → ((i : ℕ) → getD c i 0 < 256) → 512 * p + 512 ≤ length c → part c (512 * p) 4 ≡ mark → descriptorBlock (descriptorAt c p) (tailAt c p) ≡ blockAt c p
+unfolding descriptorBlock headBytes descriptorAt blockAt
+block-back c p bytes h m =
+    let a = 512 * p in
+    let x₁ = mark ++ le32 (u32At c (a + 4)) in
+    let x₂ = x₁ ++ le32 (u32At c (a + 8)) in
+    let x₃ = x₂ ++ le32 (u32At c (a + 12)) in
+    let x₄ = x₃ ++ le32 (u32At c (a + 16)) in
+    let x₅ = x₄ ++ le32 (u32At c (a + 20)) in
+    let e₁ = part-join c a 4 4 8 mark (le32 (u32At c (a + 4))) (omega arith) (sym m) (number-back c (a + 4) bytes (omega arith)) in
+    let e₂ = part-join c a 8 4 12 x₁ (le32 (u32At c (a + 8))) (omega arith) e₁ (number-back c (a + 8) bytes (omega arith)) in
+    let e₃ = part-join c a 12 4 16 x₂ (le32 (u32At c (a + 12))) (omega arith) e₂ (number-back c (a + 12) bytes (omega arith)) in
+    let e₄ = part-join c a 16 4 20 x₃ (le32 (u32At c (a + 16))) (omega arith) e₃ (number-back c (a + 16) bytes (omega arith)) in
+    let e₅ = part-join c a 20 4 24 x₄ (le32 (u32At c (a + 20))) (omega arith) e₄ (number-back c (a + 20) bytes (omega arith)) in
+    let e₆ = part-join c a 24 16 40 x₅ (part c (a + 24) 16) (omega arith) e₅ refl in
+    part-join c a 40 472 512 (x₅ ++ part c (a + 24) 16) (tailAt c p) (omega arith) e₆ refl
+
 -- a descriptor's block is a whole block
 pub block-length : (c : List ℕ) (p : ℕ) (d : Descriptor) (b : List ℕ) → 512 * p + 512 ≤ length c → length (headBytes d) ≡ 40 → b ≡ descriptorBlock d (tailAt c p) → length b ≡ 512
 unfolding descriptorBlock
-block-length c p d b h n e = ap length e ∙ length-append (headBytes d) (tailAt c p) ∙ omega (arith, n, length-part c (512 * p + 40) 472 (omega arith))
+block-length c p d b h n e = ap length e ∙ length-append (headBytes d) (tailAt c p) ∙ omega (arith, n, tail-length c p h)
 
 -- bytes 40 to 511 of a block, and what a store of another block leaves of them
 pub tail-block : (c : List ℕ) (p : ℕ) → 512 * p + 512 ≤ length c → part (blockAt c p) 40 472 ≡ tailAt c p

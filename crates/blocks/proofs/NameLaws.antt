@@ -44,6 +44,11 @@ module _ (b : ℕ) where
       by true = rw (le-leb 97 b h)
       by false = rw (le-leb 97 b h, lt-leb b 57 (omega arith), le-leb 48 b (omega arith), ne-eqb b 46 (omega arith), ne-eqb b 45 (omega arith))
 
+-- a name has sixteen bytes
+pub name-size : (n : List ℕ) → isName n ≡ true → length n ≡ 16
+unfolding isName
+name-size n h = eqb-true (length n) 16 (and-left (eqb (length n) 16) (ltb 0 (nameLength n)) (and-left (eqb (length n) 16 && ltb 0 (nameLength n)) (allZero (drop (nameLength n) n)) h))
+
 -- isName, by the tests of the code
 module _ (n : List ℕ) where
   pub name-wrong-length : (length n ≡ 16 → ⊥) → false ≡ isName n

@@ -1,5 +1,5 @@
 -- Laws of soundness: the tests of the code, in their order, and what a sound descriptor's fields satisfy.
-use mathlib.Core.Path.{_≡_, refl, sym, _∙_}
+use mathlib.Core.Path.{_≡_, refl, sym, ap, _∙_}
 use mathlib.Core.Bool.{Bool, true, false, not, _&&_, _||_}
 use mathlib.Core.List.{List}
 use Prim.Native.Nat.{ℕ, _+_, _*_, _-_, _≤_, _<_}
@@ -10,10 +10,16 @@ use borrow.Author.Tests.{eq-eqb, ne-eqb, lt-ltb, le-leb, lt-leb, eqb-false, ltb-
 use Rattle.blocks.specs.Pick.{same, allZero}
 use Rattle.blocks.specs.Bytes.{part}
 use Rattle.blocks.specs.Name.{isName}
-use Rattle.blocks.specs.Descriptor.{mark, reservedOk, phiOk}
+use Rattle.blocks.specs.Descriptor.{mark, descriptorAt, reservedOk, phiOk}
 use Rattle.blocks.specs.Chain.{formOk, sound}
 use Rattle.blocks.specs.declared.descriptor.Descriptor.{Descriptor}
 use Rattle.blocks.proofs.Tests.{and-left, and-right}
+use Rattle.blocks.proofs.ListLaws.{same-equal}
+
+-- the name where it stands
+pub called-at : (c : List ℕ) (p : ℕ) (n : Bool) → n ≡ isName (take (512 * p + 40 - (512 * p + 24)) (drop (512 * p + 24) c)) → n ≡ isName (descriptorAt c p .name)
+unfolding descriptorAt
+called-at c p n e = let f : 512 * p + 40 - (512 * p + 24) ≡ 16 = omega arith in e ∙ rw f
 
 -- formOk, by the tests of the code
 module _ (c : List ℕ) (p : ℕ) (d : Descriptor) (m : Bool) (marked : m ≡ same (part c (512 * p) 4) mark) where
@@ -50,7 +56,10 @@ module _ (c : List ℕ) (p : ℕ) (d : Descriptor) (m : Bool) (marked : m ≡ sa
         unfolding formOk
         form-large-volume h = rw (← marked, not-false m is, layout-ok, volume-ok, lt-leb (d .volume) 14336 h)
 
-        module _ (most : d .volume ≤ 14336) (n : Bool) (called : n ≡ isName (d .name)) where
+        module _ (most : d .volume ≤ 14336) (at : d ≡ descriptorAt c p) (n : Bool) (name-is : n ≡ isName (descriptorAt c p .name)) where
+          called : n ≡ isName (d .name)
+          called = name-is ∙ ap (λ (x : Descriptor). isName (x .name)) (sym at)
+
           pub form-unnamed : not n ≡ true → false ≡ formOk c p d
           unfolding formOk
           form-unnamed h = rw (← marked, not-false m is, layout-ok, volume-ok, le-leb (d .volume) 14336 most, ← called, not-true n h)
@@ -98,6 +107,9 @@ module _ (c : List ℕ) (p : ℕ) (d : Descriptor) (ok : formOk c p d ≡ true) 
 
   form-to-least : (of-mark && of-layout && ltb 0 (d .volume)) ≡ true
   form-to-least = and-left (of-mark && of-layout && ltb 0 (d .volume)) (leb (d .volume) 14336) form-to-volume
+
+  pub form-mark : part c (512 * p) 4 ≡ mark
+  form-mark = same-equal (part c (512 * p) 4) mark (and-left of-mark of-layout (and-left (of-mark && of-layout) (ltb 0 (d .volume)) form-to-least))
 
   pub form-most : d .volume ≤ 14336
   form-most = leb-true _ _ (and-right (of-mark && of-layout && ltb 0 (d .volume)) (leb (d .volume) 14336) form-to-volume)

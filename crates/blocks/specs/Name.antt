@@ -38,7 +38,7 @@ padded t = pick (isText t) (t ++ replicate (nameSize - length t) 0) noName
 
 -- a number for sixteen bytes, one of keyCount, by which the walk in code tells most names apart
 abbrev pub keyCount : ℕ
-keyCount = 2048
+keyCount = 1024
 
 unfoldable pub keyOf : List ℕ → ℕ
-keyOf n = (u64At n 0 % 2039 + u64At n 8 % 2029) % keyCount
+keyOf n = (u64At n 0 % 997 + u64At n 8 % 991) % keyCount

@@ -11,10 +11,10 @@ ghost use lib.ListN.{length, take, getD};
 ghost use lib.Dec.{eqb};
 ghost use Rattle.blocks.specs.Pick.{pick, same};
 ghost use Rattle.blocks.specs.Bytes.{part};
-ghost use Rattle.blocks.specs.Name.{keyCount};
+ghost use Rattle.blocks.specs.Name.{isName};
 ghost use Rattle.blocks.specs.Descriptor.{physical, mark, descriptorAt, reservedOk};
 ghost use Rattle.blocks.specs.Chain.{formOk, regionOk, named, descriptorsAt, chain, regionsOf, Unsound};
-ghost use Rattle.blocks.specs.Walk.{Walked, Keyed};
+ghost use Rattle.blocks.specs.Walk.{Keyed};
 
 // What a walk along the chain finds. Where every descriptor is sound, `active` is the last, and region k of the chain runs
 // from block `starts[k]` up to `starts[k + 1]`, for k below `count`; otherwise `place` is the block of the unsound descriptor.
@@ -42,9 +42,18 @@ pub fn is_reserved(reserved: &[u8]) -> bool
     bytes::all_zero(reserved)
 }
 
+// Whether the name in block `p` is one. It is judged where it stands: a copy would have to be stored first.
+pub fn is_called(card: &[u8], p: Physical) -> bool
+    requires { ⌜ 512 * p .0 + 512 ≤ length (now card) ⌝ }
+    ensures { λ r. ⌜ r ≡ isName (descriptorAt (now (card .entry)) (p .0) .name) ⌝ }
+{
+    let at = 512 * (p.0 as usize);
+    name::are_name(&card[at + 24..at + 40])
+}
+
 // Whether mark, layout, L, name and zero bytes of block `p` are those of a descriptor; `d` is what its bytes say.
 pub fn is_formed(card: &[u8], p: Physical, d: Descriptor) -> bool
-    requires { ⌜ 512 * p .0 + 512 ≤ length (now card) ⌝ }
+    requires { ⌜ (512 * p .0 + 512 ≤ length (now card)) × (d ≡ descriptorAt (now card) (p .0)) ⌝ }
     ensures { λ r. ⌜ r ≡ formOk (now (card .entry)) (p .0) d ⌝ }
 {
     let at = 512 * (p.0 as usize);
@@ -65,8 +74,7 @@ pub fn is_formed(card: &[u8], p: Physical, d: Descriptor) -> bool
     if 14336 < volume {
         return false;
     }
-    let name = d.name;
-    if !name::is_name(name) {
+    if !is_called(card, p) {
         return false;
     }
     if !is_reserved(&card[at + 40..at + 64]) {
@@ -176,7 +184,7 @@ fn unsound(p: u32) -> Regions
 
 // Whether the descriptor `d` in block `p` of `n` is formed and placed as it must be.
 pub fn is_right(card: &[u8], first: Descriptor, n: usize, p: Physical, d: Descriptor) -> bool
-    requires { ⌜ 512 * p .0 + 512 ≤ length (now card) ⌝ }
+    requires { ⌜ (512 * p .0 + 512 ≤ length (now card)) × (d ≡ descriptorAt (now card) (p .0)) ⌝ }
     ensures { λ r. ⌜ r ≡ (formOk (now (card .entry)) (p .0) d && regionOk first n (p .0) d) ⌝ }
 {
     if !is_formed(card, p, d) {
@@ -195,40 +203,20 @@ fn name_at(card: &[u8], p: Physical) -> [u8; 16]
     name
 }
 
-// The keys of the names in the first `k` blocks of `starts` get their flags.
-fn keep_names(card: &[u8], starts: &[u32], k: usize, keys: &mut [bool])
-    requires { ⌜ (length (now keys) ≡ keyCount) × (k ≤ length (now starts)) × ((j : ℕ) → j < k → 512 * getD (now starts) j 0 + 512 ≤ length (now card)) ⌝ }
-    ensures { λ _. ⌜ Keyed (now (card .entry)) (now (starts .entry)) k (now (keys .exit)) ⌝ }
-{
-    let mut j = 0;
-    while j < k {
-        let p = starts[j];
-        let name = name_at(card, Physical(p));
-        keys[name::key(name)] = true;
-        j += 1;
-    }
-}
-
-// Walks on where `k` descriptors have passed and `d` is the one in block `p`. A flag for each name's key says of most names
-// that no earlier descriptor has them.
-fn walk_on(
-    card: &[u8],
-    first: Descriptor,
-    passed: [u32; 257],
-    k: usize,
-    p: u32,
-    d: Descriptor,
-) -> Regions
-    requires { ⌜ Walked (now card) passed p k × (first ≡ descriptorAt (now card) 0) × (d ≡ descriptorAt (now card) p) ⌝ }
+// Walks the chain of the card. A flag for each name's key says of most names that no earlier descriptor has them.
+pub fn walk_chain(card: &[u8]) -> Regions
     ensures { λ r. ⌜ r ≡ regionsOf (chain (now (card .entry))) ⌝ }
 {
     let n = card.len() / 512;
-    let mut starts = passed;
-    let mut keys = [false; 2048];
-    keep_names(card, &starts, k, &mut keys);
-    let mut d = d;
-    let mut p = p;
-    let mut k = k;
+    if n == 0 {
+        return unsound(0);
+    }
+    let first = descriptor::read_descriptor(card, Physical(0));
+    let mut d = first;
+    let mut starts = [0u32; 257];
+    let mut keys = [false; 1024];
+    let mut p: u32 = 0;
+    let mut k: usize = 0;
     while k < 256 {
         if !is_right(card, first, n, Physical(p), d) {
             return unsound(p);
@@ -255,46 +243,6 @@ fn walk_on(
         d = descriptor::read_descriptor(card, Physical(p));
     }
     unsound(p)
-}
-
-// Walks the chain of the card: the first 4 descriptors here, any others in `walk_on`.
-pub fn walk_chain(card: &[u8]) -> Regions
-    ensures { λ r. ⌜ r ≡ regionsOf (chain (now (card .entry))) ⌝ }
-{
-    let n = card.len() / 512;
-    if n == 0 {
-        return unsound(0);
-    }
-    let first = descriptor::read_descriptor(card, Physical(0));
-    let mut d = first;
-    let mut starts = [0u32; 257];
-    let mut p: u32 = 0;
-    let mut k: usize = 0;
-    while k < 4 {
-        if !is_right(card, first, n, Physical(p), d) {
-            return unsound(p);
-        }
-        let name = d.name;
-        if is_named(card, &starts, k, name) {
-            return unsound(p);
-        }
-        let beta = d.beta.0;
-        let next = d.next.0;
-        k += 1;
-        starts[k] = beta;
-        if next == 0 {
-            return Regions {
-                sound: true,
-                place: Physical(0),
-                active: d,
-                count: k,
-                starts,
-            };
-        }
-        p = next;
-        d = descriptor::read_descriptor(card, Physical(p));
-    }
-    walk_on(card, first, starts, k, p, d)
 }
 
 // The next of region `k` of `count`, which ends at block `end`.

@@ -86,7 +86,7 @@ pub fn key(name: [u8; 16]) -> usize
     ensures { λ r. ⌜ r ≡ keyOf name ⌝ }
     ensures { λ r. ⌜ r < keyCount ⌝ }
 {
-    let first = bytes::get_u64(&name, 0) % 2039;
-    let second = bytes::get_u64(&name, 8) % 2029;
-    ((first + second) % 2048) as usize
+    let first = bytes::get_u64(&name, 0) % 997;
+    let second = bytes::get_u64(&name, 8) % 991;
+    ((first + second) % 1024) as usize
 }

@@ -14,9 +14,6 @@ use Rattle.calls.specs.Call.{Call, Ream, Read, Write, Snap, Revert, List
 use Rattle.calls.specs.Ladder.{Row, row, firstRow, reamRows, readRows, writeRows, snapRows, revertRows, listRows, checkRows, rowsOf, answerOf}
 use Rattle.calls.specs.Step.{isAccepted}
 
-pub no : {A : Type 0} → false ≡ true → A
-no e = let z : _≡_ {A = ℕ} 0 1 = cc in absurd (omega arith)
-
 -- no row of the list has the number; the numbers of a list are set and each its own
 unfoldable pub fresh : ℕ → List Row → Bool
 fresh n [] = true

@@ -1,6 +1,6 @@
 -- Laws of step: what a refusal leaves, what an accepted call does; and laws of lists of stores.
 use mathlib.Core.Path.{_≡_, refl, ap}
-use mathlib.Core.Bool.{true, false}
+use mathlib.Core.Bool.{Bool, true, false}
 use mathlib.Core.List.{List, [], _∷_, _++_}
 use Prim.Native.Nat.{ℕ, zero, suc, _+_, _/_, _%_, _≤_, _<_}
 use native.Mathlib.Numerals.{add-one}
@@ -8,6 +8,7 @@ use native.Mathlib.Omega.{arith}
 use lib.ListN.{length}
 use lib.Dec.{eqb, ltb}
 use borrow.Author.Tests.{eq-eqb, ne-eqb, lt-ltb, le-ltb}
+use Rattle.blocks.specs.Pick.{pick}
 use Rattle.blocks.specs.Bytes.{Store, store, storeBlock, storeAll, zeroBlock, blockCount}
 use Rattle.blocks.specs.Descriptor.{clearing}
 use Rattle.calls.specs.declared.answer.Answer.{Answer}
@@ -15,7 +16,7 @@ use Rattle.calls.specs.Call.{Call, Lent, answer, accepted}
 use Rattle.calls.specs.Parts.{areaBad}
 use Rattle.calls.specs.Ladder.{answerOf}
 use Rattle.calls.specs.Effect.{storesOf, lentOf, filledOf}
-use Rattle.calls.specs.Step.{Done, step}
+use Rattle.calls.specs.Step.{Done, step, isAccepted}
 
 -- what a call does, given its answer
 module _ (k : Call) (c : List ℕ) where
@@ -29,6 +30,31 @@ module _ (k : Call) (c : List ℕ) where
   pub step-accepted : answerOf k c ≡ accepted → (l : Lent) → l ≡ filledOf k c → (card : List ℕ) → card ≡ storeAll c (storesOf k c) → done accepted l card ≡ step k c
   unfolding step
   step-accepted e l f card g = rw (e, f, g)
+
+  -- the answer is that of the rows, and what was lent is filled where it is accepted
+  abbrev by-test : Bool → Done
+  by-test t = pick t (done (answerOf k c) (filledOf k c) (storeAll c (storesOf k c))) (done (answerOf k c) (lentOf k) c)
+
+  -- the card after an accepted call
+  pub accepted-card : isAccepted (answerOf k c) ≡ true → step k c .card ≡ storeAll c (storesOf k c)
+  unfolding step
+  accepted-card e = rw e
+
+  pub step-answer : step k c .outcome .answer ≡ answerOf k c
+  unfolding step
+  step-answer = by (isAccepted (answerOf k c))
+    where
+      by : (t : Bool) → by-test t .outcome .answer ≡ answerOf k c
+      by true = refl
+      by false = refl
+
+  pub step-lent : step k c .outcome .lent ≡ pick (isAccepted (answerOf k c)) (filledOf k c) (lentOf k)
+  unfolding step
+  step-lent = by (isAccepted (answerOf k c))
+    where
+      by : (t : Bool) → by-test t .outcome .lent ≡ pick t (filledOf k c) (lentOf k)
+      by true = refl
+      by false = refl
 
 -- the area, by the tests of the code
 module _ (c : List ℕ) where

@@ -6,6 +6,7 @@ use lib.ListN.{length, drop}
 use Rattle.blocks.specs.Pick.{pick}
 use lib.Dec.{ltb}
 use Rattle.blocks.specs.Bytes.{blockSize, Store, store, blockCount, storeAll}
+use Rattle.blocks.specs.Name.{noName}
 use Rattle.blocks.specs.Descriptor.{physical, mostVolume, costOf, tailAt, descriptorBlock, renamedOf, linkedOf, reopenedOf, copying, opening}
 use Rattle.blocks.specs.declared.descriptor.Descriptor.{Descriptor}
 use Rattle.blocks.specs.Chain.{activeOf}
@@ -37,6 +38,10 @@ storesOf (Snap name) c = snapping c (activeOf (descriptorsOf c)) name
 storesOf (Revert name) c = let ds = descriptorsOf c in reverting c (withName (snapshotsOf ds) name) (activeOf ds .name)
 storesOf (Listing records) c = []
 storesOf Check c = []
+
+-- a record of zeros
+abbrev pub noRecord : Record
+noRecord = record { name = noName; alpha = 0; beta = 0; next = 0 }
 
 -- the record of a descriptor, and those of a chain followed by the records that a listing leaves unchanged
 abbrev pub recordOf : Descriptor → Record

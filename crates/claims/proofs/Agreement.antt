@@ -7,10 +7,10 @@ use native.Mathlib.Omega.{arith}
 use lib.ListN.{length, take, getD}
 use lib.Seq.{length-take-le, getD-take}
 use lib.Dec.{ltb, leb}
-use borrow.Author.Tests.{eq-eqb, ltb-true, leb-false, not-false}
+use borrow.Author.Tests.{ltb-true, leb-false, not-false}
 use Rattle.blocks.specs.Pick.{pick}
 use Rattle.blocks.specs.Bytes.{part, blockCount, blockAt, storeAll}
-use Rattle.blocks.specs.Descriptor.{tableCount, cost, costOf, noDescriptor, descriptorAt}
+use Rattle.blocks.specs.Descriptor.{noDescriptor, descriptorAt}
 use Rattle.blocks.specs.Chain.{Sound, chain, descriptors, named, activeOf}
 use Rattle.blocks.specs.declared.descriptor.Descriptor.{Descriptor}
 use Rattle.blocks.proofs.ByteLaws.{part-part}
@@ -34,6 +34,7 @@ use Rattle.calls.proofs.CardLaws.{snapshots-at, chain-is}
 use Rattle.calls.proofs.RowLaws.{rows-passed}
 use Rattle.claims.proofs.Local.{Below, below-linked, linked-chain}
 use Rattle.claims.proofs.LocalEntries.{Region, local-find, local-block, local-check}
+use Rattle.claims.proofs.ChainBlocks.{own-inside, few-tables}
 
 -- the last region ends at the active beta
 pub end-from : (p : ℕ) (d : Descriptor) (ds : List Descriptor) → regionStart p (d ∷ ds) (length (d ∷ ds)) ≡ activeOf (d ∷ ds) .beta .0
@@ -138,14 +139,6 @@ module _ (s t : List ℕ) (agree : Agree s t) where
   unfolding blockCount
   agree-count = rw (agree .long)
 
-  own-by : (d : Descriptor) (a b : ℕ) → d .layout ≡ 1 → a + costOf d ≤ b → a + tableCount (d .volume) < b
-  unfolding cost
-  own-by d a b e h = let q : a + (1 + tableCount (d .volume)) ≤ b = rw (eq-eqb (d .layout) 1 e) at h in omega arith
-
-  few-by : (v : ℕ) → v ≤ 14336 → tableCount v ≤ 112
-  unfolding tableCount
-  few-by v h = omega arith
-
   pub agree-region : (k : ℕ) → k < length ds → Region (getD ds k noDescriptor) (betaOf s)
   agree-region k h =
       let d = getD ds k noDescriptor in
@@ -155,8 +148,8 @@ module _ (s t : List ℕ) (agree : Agree s t) where
       record {
         some = omega (arith, a, l, r .beta, cost-least (d .layout) (d .volume));
         upto = omega (arith, r .beta, linked-rise linked (suc k) (length ds) (omega arith) (omega arith), end-is);
-        own = λ e. own-by d (d .alpha .0) (d .beta .0) e (omega (arith, a, l, r .beta));
-        few = few-by (d .volume) (form-most s _ d (r .form));
+        own = λ e. own-inside d (d .alpha .0) (d .beta .0) e (omega (arith, a, l, r .beta));
+        few = few-tables (d .volume) (form-most s _ d (r .form));
       }
 
   -- L is one for all descriptors

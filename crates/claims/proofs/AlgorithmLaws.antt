@@ -1,33 +1,36 @@
 -- Accepted reads, writes, snaps and reverts are the paper's algorithms, block by block.
 use mathlib.Core.Path.{_≡_, refl, sym, ap, _∙_, subst}
-use mathlib.Core.Bool.{Bool, true, false, not, _&&_, _||_}
+use mathlib.Core.Bool.{Bool, true, false, not, _&&_}
 use mathlib.Core.List.{List, [], _∷_, _++_, append-assoc}
 use Prim.Native.Nat.{ℕ, zero, suc, _+_, _*_, _-_, _/_, _%_, _≤_, _<_}
 use native.Mathlib.Omega.{arith}
 use lib.ListN.{length, take, drop, getD, length-replicate}
-use lib.Seq.{take-append-add, drop-append-add, take-add, drop-drop, drop-cons, drop-at}
+use lib.Seq.{take-append-add, drop-append-add, drop-at}
 use lib.Dec.{eqb, ltb, leb}
 use borrow.Author.Tests.{eq-eqb, ne-eqb, le-leb, lt-leb, lt-ltb, le-ltb, eqb-true, eqb-false, ltb-true, ltb-false, leb-true, leb-false, not-true, not-false}
-use Rattle.blocks.specs.Pick.{pick, same}
-use Rattle.blocks.specs.Bytes.{u32At, le32, splice, part, Store, store, blockCount, blockAt, zeroBlock, storeBlock, storeAll}
+use Rattle.blocks.specs.Pick.{pick}
+use Rattle.blocks.specs.Bytes.{u32At, le32, splice, store, blockCount, blockAt, zeroBlock, storeBlock, storeAll}
 use Rattle.blocks.specs.Name.{isName}
-use Rattle.blocks.specs.Descriptor.{physical, mark, tableCount, cost, costOf, noDescriptor, descriptorAt, headBytes, tailAt, descriptorBlock, renamedOf, linkedOf, extendedOf, reopenedOf, copying, reservedOk, phiOk}
-use Rattle.blocks.specs.Chain.{formOk, chain, chainSound, named, regionsOf, activeOf}
+use Rattle.blocks.specs.Descriptor.{physical, tableCount, cost, costOf, noDescriptor, descriptorAt, headBytes, tailAt, descriptorBlock, renamedOf, linkedOf, extendedOf, reopenedOf, copying}
+use Rattle.blocks.specs.Chain.{chain, chainSound, named, regionsOf, activeOf}
 use Rattle.blocks.specs.declared.descriptor.Descriptor.{Descriptor}
 use Rattle.blocks.specs.declared.chain.Regions.{Regions}
-use Rattle.blocks.proofs.Tests.{and-left, and-right}
-use Rattle.blocks.proofs.ListLaws.{same-equal}
+use Rattle.blocks.proofs.Tests.{and-left}
+use Rattle.blocks.proofs.BoolLaws.{no, or-true}
 use Rattle.blocks.proofs.ByteLaws.{u32-part, store-length, store-same, store-other, length-blockAt}
-use Rattle.blocks.proofs.DescriptorLaws.{head-length}
+use Rattle.blocks.proofs.DescriptorLaws.{head-length, block-back, tail-length}
 use Rattle.blocks.proofs.ChainLaws.{cost-least}
 use Rattle.blocks.proofs.LinkedLaws.{at-alpha, RegionAt}
-use Rattle.entries.specs.InPlace.{isDescriptor, isTable, inPlace}
+use Rattle.blocks.proofs.SoundLaws.{form-mark}
+use Rattle.blocks.proofs.NameLaws.{name-size}
+use Rattle.entries.specs.InPlace.{isDescriptor, inPlace}
 use Rattle.entries.specs.Entry.{entryAt, phiAt, tableOf, entryFound, find, tableIsNew, need, tableWith, tailWith, setInTable, setInNewTable, writing}
 use Rattle.entries.specs.Through.{Through}
 use Rattle.entries.specs.declared.find.Found.{Found}
 use Rattle.entries.specs.declared.find.Found.the-variants.{Misplaced, Entry}
 use Rattle.entries.proofs.RegionLaws.{through-region, through-count, through-member}
-use Rattle.entries.proofs.EntryLaws.{through-alpha, through-beta, through-end, through-volume, found-table, found-entry}
+use Rattle.entries.proofs.EntryLaws.{through-alpha, through-beta, through-end, through-volume, found-table, found-entry, placed-other}
+use Rattle.entries.proofs.SetLaws.{table-length, tail-with-length}
 use Rattle.calls.specs.declared.answer.Target.{Target}
 use Rattle.calls.specs.Call.{Call, Read, Write, Snap, Revert, Block}
 use Rattle.calls.specs.Parts.{areaBad, descriptorsOf, snapshotsOf, withName, indexOf, targetOf, foundThrough, isMisplaced, blockFound}
@@ -39,15 +42,12 @@ use Rattle.claims.specs.History.{AreBytes}
 use Rattle.claims.specs.Claims.{AlgorithmClaim}
 use Rattle.calls.proofs.NamedLaws.{named-index, with-name-index}
 use Rattle.calls.proofs.CardLaws.{card-through, card-snapshot, card-snapshot-count}
-use Rattle.calls.proofs.RowLaws.{no, rows-passed}
+use Rattle.calls.proofs.RowLaws.{rows-passed}
+use Rattle.calls.proofs.StepLaws.{stored-append, accepted-card}
 use Rattle.claims.proofs.Stored.{form-name}
-use Rattle.claims.proofs.Frame.{regions-ok, active-through, active-name, block-whole, name-length, tail-length, table-length, tail-with-length}
+use Rattle.claims.proofs.Frame.{regions-ok, active-through, active-name, block-whole}
 
 -- an accepted call: the card after it, and what was lent
-accepted-card : (k : Call) (c : List ℕ) → isAccepted (answerOf k c) ≡ true → step k c .card ≡ storeAll c (storesOf k c)
-unfolding step
-accepted-card k c e = rw e
-
 accepted-lent : (k : Call) (c : List ℕ) → isAccepted (answerOf k c) ≡ true → step k c .outcome .lent ≡ filledOf k c
 unfolding step
 accepted-lent k c e = rw e
@@ -112,88 +112,13 @@ algorithm-read c bytes target name l block e =
     accepted-lent (Read target name l block) c e
     ∙ ap Block (read-by c (descriptorsOf c) d l (omega (arith, most, below)) (eqb (d .layout) 1) refl (rows 6 (omega arith)))
 
--- four bytes below 256 are those of the number that they make
-module _ (a b c d : ℕ) (ha : a < 256) (hb : b < 256) (hc : c < 256) (hd : d < 256) where
-  digit-0 : (a + 256 * b + 65536 * c + 16777216 * d) % 256 ≡ a
-  digit-0 = omega arith
-
-  digit-1 : (a + 256 * b + 65536 * c + 16777216 * d) / 256 % 256 ≡ b
-  digit-1 = let q : (a + 256 * b + 65536 * c + 16777216 * d) / 256 ≡ b + 256 * c + 65536 * d = omega arith in rw q (omega arith)
-
-  digit-2 : (a + 256 * b + 65536 * c + 16777216 * d) / 65536 % 256 ≡ c
-  digit-2 = let q : (a + 256 * b + 65536 * c + 16777216 * d) / 65536 ≡ c + 256 * d = omega arith in rw q (omega arith)
-
-  digit-3 : (a + 256 * b + 65536 * c + 16777216 * d) / 16777216 % 256 ≡ d
-  digit-3 = let q : (a + 256 * b + 65536 * c + 16777216 * d) / 16777216 ≡ d = omega arith in rw q (omega arith)
-
-drop-next : (c : List ℕ) (k j : ℕ) → k < length c → suc k ≡ j → drop k c ≡ getD c k 0 ∷ drop j c
-drop-next c k j h e = rw (← e) (drop-cons c k 0 h)
-
-four-bytes : (c : List ℕ) (k : ℕ) → k + 4 ≤ length c → part c k 4 ≡ getD c k 0 ∷ getD c (k + 1) 0 ∷ getD c (k + 2) 0 ∷ getD c (k + 3) 0 ∷ []
-four-bytes c k h =
-    ap (take 4)
-    (drop-next c k (k + 1) (omega arith) (omega arith)
-    ∙ ap (λ (r : List ℕ). getD c k 0 ∷ r)
-    (drop-next c (k + 1) (k + 2) (omega arith) (omega arith)
-    ∙ ap (λ (r : List ℕ). getD c (k + 1) 0 ∷ r)
-    (drop-next c (k + 2) (k + 3) (omega arith) (omega arith) ∙ ap (λ (r : List ℕ). getD c (k + 2) 0 ∷ r) (drop-next c (k + 3) (k + 4) (omega arith) (omega arith)))))
-
--- a number that is read, put again, is its bytes
-part-number : (c : List ℕ) → AreBytes c → (k : ℕ) → k + 4 ≤ length c → part c k 4 ≡ le32 (u32At c k)
-unfolding le32 u32At
-part-number c bytes k h =
-    let x₀ = bytes k in
-    let x₁ = bytes (k + 1) in
-    let x₂ = bytes (k + 2) in
-    let x₃ = bytes (k + 3) in
-    rw (
-      digit-0 (getD c k 0) (getD c (k + 1) 0) (getD c (k + 2) 0) (getD c (k + 3) 0) x₀ x₁ x₂ x₃,
-      digit-1 (getD c k 0) (getD c (k + 1) 0) (getD c (k + 2) 0) (getD c (k + 3) 0) x₀ x₁ x₂ x₃,
-      digit-2 (getD c k 0) (getD c (k + 1) 0) (getD c (k + 2) 0) (getD c (k + 3) 0) x₀ x₁ x₂ x₃,
-      digit-3 (getD c k 0) (getD c (k + 1) 0) (getD c (k + 2) 0) (getD c (k + 3) 0) x₀ x₁ x₂ x₃,
-    )
-    (four-bytes c k h)
-
--- a part of known bytes, and the part after it
-part-next : (c : List ℕ) (k j n m : ℕ) (xs ys : List ℕ) → k + n ≡ j → part c k n ≡ xs → part c j m ≡ ys → part c k (n + m) ≡ xs ++ ys
-part-next c k j n m xs ys e f g =
-    take-add n m (drop k c)
-    ∙ ap (λ (x : List ℕ). take n (drop k c) ++ take m x) (drop-drop n k c)
-    ∙ ap (λ (i : ℕ). take n (drop k c) ++ take m (drop i c)) e
-    ∙ rw (f, g)
-
--- a marked block of bytes is that of its descriptor and its tail
-block-bytes : (c : List ℕ) → AreBytes c → (p : ℕ) → 512 * p + 512 ≤ length c → part c (512 * p) 4 ≡ mark → blockAt c p ≡ descriptorBlock (descriptorAt c p) (tailAt c p)
-unfolding blockAt descriptorBlock headBytes descriptorAt le32
-block-bytes c bytes p h marked =
-    part-next c (512 * p) (512 * p + 4) 4 508 mark _ refl marked
-    (part-next c (512 * p + 4) (512 * p + 8) 4 504 (le32 (u32At c (512 * p + 4))) _ (omega arith) (part-number c bytes (512 * p + 4) (omega arith))
-    (part-next c (512 * p + 8) (512 * p + 12) 4 500 (le32 (u32At c (512 * p + 8))) _ (omega arith) (part-number c bytes (512 * p + 8) (omega arith))
-    (part-next c (512 * p + 12) (512 * p + 16) 4 496 (le32 (u32At c (512 * p + 12))) _ (omega arith) (part-number c bytes (512 * p + 12) (omega arith))
-    (part-next c (512 * p + 16) (512 * p + 20) 4 492 (le32 (u32At c (512 * p + 16))) _ (omega arith) (part-number c bytes (512 * p + 16) (omega arith))
-    (part-next c (512 * p + 20) (512 * p + 24) 4 488 (le32 (u32At c (512 * p + 20))) _ (omega arith) (part-number c bytes (512 * p + 20) (omega arith))
-    (part-next c (512 * p + 24) (512 * p + 40) 16 472 (part c (512 * p + 24) 16) (tailAt c p) (omega arith) refl refl))))))
-
-form-mark : (c : List ℕ) (p : ℕ) (d : Descriptor) → formOk c p d ≡ true → part c (512 * p) 4 ≡ mark
-unfolding formOk
-form-mark c p d ok =
-    same-equal (part c (512 * p) 4) mark
-    (and-left (same (part c (512 * p) 4) mark) (eqb (d .layout) 1 || eqb (d .layout) 2)
-    (and-left (same (part c (512 * p) 4) mark && (eqb (d .layout) 1 || eqb (d .layout) 2)) (ltb 0 (d .volume))
-    (and-left (same (part c (512 * p) 4) mark && (eqb (d .layout) 1 || eqb (d .layout) 2) && ltb 0 (d .volume)) (leb (d .volume) 14336)
-    (and-left (same (part c (512 * p) 4) mark && (eqb (d .layout) 1 || eqb (d .layout) 2) && ltb 0 (d .volume) && leb (d .volume) 14336) (isName (d .name))
-    (and-left (same (part c (512 * p) 4) mark && (eqb (d .layout) 1 || eqb (d .layout) 2) && ltb 0 (d .volume) && leb (d .volume) 14336 && isName (d .name)) (reservedOk (part c (512 * p + 40) 24))
-    (and-left
-    (same (part c (512 * p) 4) mark && (eqb (d .layout) 1 || eqb (d .layout) 2) && ltb 0 (d .volume) && leb (d .volume) 14336 && isName (d .name) && reservedOk (part c (512 * p + 40) 24))
-    (phiOk (d .layout) (part c (512 * p + 64) 448)) ok))))))
-
 -- the block of a descriptor of the chain
 region-block : (c : List ℕ) → AreBytes c → (p end : ℕ) (d : Descriptor) → RegionAt c p end d → 512 * d .alpha .0 + 512 ≤ length c → blockAt c (d .alpha .0) ≡ descriptorBlock d (tailAt c (d .alpha .0))
 region-block c bytes p end d r inside =
     let a = at-alpha c p end d r in
     let h : 512 * p + 512 ≤ length c = omega (arith, a, inside) in
     subst (λ (n : ℕ). blockAt c n ≡ descriptorBlock d (tailAt c n)) (sym a)
-    (block-bytes c bytes p h (form-mark c p d (r .form)) ∙ ap (λ (x : Descriptor). descriptorBlock x (tailAt c p)) (sym (r .is)))
+    (sym (block-back c p bytes h (form-mark c p d (r .form))) ∙ ap (λ (x : Descriptor). descriptorBlock x (tailAt c p)) (sym (r .is)))
 
 through-block : (c : List ℕ) → AreBytes c → (starts : List ℕ) (count : ℕ) (d : Descriptor) → Through c starts count d → blockAt c (d .alpha .0) ≡ descriptorBlock d (tailAt c (d .alpha .0))
 through-block c bytes starts count d t = region-block c bytes _ _ d (through-region c starts count d t) (through-alpha c starts count d t)
@@ -245,7 +170,7 @@ module _ (c : List ℕ) (area : areaBad c ≡ false) (sound : chainSound (chain 
       card-through c r refl area ok (indexOf ss name) (omega arith) (withName ss name) (with-name-index ss name ∙ card-snapshot c r refl area ok (indexOf ss name) h)
 
 through-name : (c starts : List ℕ) (count : ℕ) (d : Descriptor) → Through c starts count d → length (d .name) ≡ 16
-through-name c starts count d t = name-length (d .name) (form-name c _ d (through-region c starts count d t .form))
+through-name c starts count d t = name-size (d .name) (form-name c _ d (through-region c starts count d t .form))
 
 reverted : (c : List ℕ) (v : Descriptor) (name : List ℕ) → blockAt c (v .alpha .0) ≡ descriptorBlock v (tailAt c (v .alpha .0)) → 512 * v .alpha .0 + 512 ≤ length c → length (v .name) ≡ 16 → length name ≡ 16
     → (p : ℕ) → blockAt (storeAll c (reverting c v name)) p ≡ closeRegion (blockAt c) (v .alpha .0) 0 name p
@@ -272,12 +197,6 @@ algorithm-revert c bytes name e p h =
     let t = snapshot-through c area sound name called in
     ap (λ (x : List ℕ). blockAt x p) (accepted-card (Revert name) c e)
     ∙ reverted c v (activeOf (descriptorsOf c) .name) (through-block c bytes starts count v t) (through-alpha c starts count v t) (through-name c starts count v t) (active-name c area sound) p
-
--- stores of lists joined
-store-joined : (c : List ℕ) (xs ys : List Store) → storeAll c (xs ++ ys) ≡ storeAll (storeAll c xs) ys
-unfolding storeAll
-store-joined c [] ys = refl
-store-joined c (x ∷ xs) ys = store-joined (storeBlock c (x .at) (x .bytes)) xs ys
 
 -- copies of blocks: the others stay, and each copy is its block
 module _ (c : List ℕ) where
@@ -405,7 +324,7 @@ module _ (c : List ℕ) (bytes : AreBytes c) (starts : List ℕ) (count : ℕ) (
   snapped : (p : ℕ) → blockAt (storeAll c (snapping c d name)) p ≡ pick (eqb p (d .alpha .0)) old-block (pick (eqb p (d .beta .0)) new-block (blockAt copy p))
   unfolding snapping storeAll
   snapped p =
-      ap (λ (x : List ℕ). blockAt x p) (store-joined c (copying c (d .alpha .0 + 1) (d .beta .0 + 1) (costOf d - 1)) (store (d .beta .0) new-block ∷ store (d .alpha .0) old-block ∷ []))
+      ap (λ (x : List ℕ). blockAt x p) (stored-append c (copying c (d .alpha .0 + 1) (d .beta .0 + 1) (costOf d - 1)) (store (d .beta .0) new-block ∷ store (d .alpha .0) old-block ∷ []))
       ∙ store-by (storeBlock copy (d .beta .0) new-block) (d .alpha .0) old-block old-long (omega (arith, new-length, inside)) p (eqb p (d .alpha .0)) refl
       ∙ ap (λ (x : List ℕ). pick (eqb p (d .alpha .0)) old-block x) (store-by copy (d .beta .0) new-block new-long beta-inside p (eqb p (d .beta .0)) refl)
 
@@ -480,7 +399,7 @@ algorithm-snap c bytes name e p h =
     let area : areaBad c ≡ false = rows 0 (omega arith) in
     let sound : chainSound (chain c) ≡ true = not-false (chainSound (chain c)) (rows 2 (omega arith)) in
     let d : Descriptor = activeOf (descriptorsOf c) in
-    let long : length name ≡ 16 = name-length name (not-false (isName name) (rows 1 (omega arith))) in
+    let long : length name ≡ 16 = name-size name (not-false (isName name) (rows 1 (omega arith))) in
     let room : d .beta .0 + costOf d ≤ length c / 512 = ltb-false (length c / 512) (d .beta .0 + costOf d) (rows 5 (omega arith)) in
     ap (λ (x : List ℕ). blockAt x p) (accepted-card (Snap name) c e)
     ∙ snap-by c bytes (regionsOf (chain c) .starts) (regionsOf (chain c) .count) d (active-through c area sound) name long (omega arith) p (eqb (d .layout) 1) refl
@@ -534,24 +453,11 @@ order-new q b t e s true false f g = refl
 order-new q b t e s false z f g = refl
 
 -- a descriptor of the list is one of its descriptor blocks, and no set entry in place names it
-or-true : (b : Bool) → (b || true) ≡ true
-or-true true = refl
-or-true false = refl
-
 descriptor-block : (ds : List Descriptor) (k : ℕ) → k < length ds → isDescriptor ds (getD ds k noDescriptor .alpha .0) ≡ true
 unfolding isDescriptor
 descriptor-block [] k h = absurd (omega arith)
 descriptor-block (d ∷ ds) zero h = rw (eq-eqb (d .alpha .0) (d .alpha .0) refl)
 descriptor-block (d ∷ ds) (suc k) h = rw (descriptor-block ds k (omega arith)) (or-true (eqb (getD ds k noDescriptor .alpha .0) (d .alpha .0)))
-
-or-none : (a b : Bool) → (a || b) ≡ false → a ≡ false
-or-none true b e = e
-or-none false b e = refl
-
-placed-other : (ds : List Descriptor) (d : Descriptor) (m : ℕ) → inPlace ds d m ≡ true → eqb m 0 ≡ false → isDescriptor ds m ≡ false
-unfolding inPlace
-placed-other ds d m h z =
-    or-none (isDescriptor ds m) (isTable ds m) (not-true (isDescriptor ds m || isTable ds m) (and-right (ltb m (d .beta .0)) (not (isDescriptor ds m || isTable ds m)) (rw z at h)))
 
 through-descriptor : (c starts : List ℕ) (count : ℕ) (d : Descriptor) → Through c starts count d → isDescriptor (descriptorsOf c) (d .alpha .0) ≡ true
 through-descriptor c starts count d t =
@@ -619,7 +525,7 @@ module _ (c : List ℕ) (bytes : AreBytes c) (starts : List ℕ) (count : ℕ) (
     head-long = block-whole (extendedOf d 1) (tailAt c (d .alpha .0)) region-name (tail-length c (d .alpha .0) region-inside)
 
     table-long : length set-table ≡ 512
-    table-long = table-length (blockAt c m) (l % 128) (d .beta .0) (omega arith) (length-blockAt c m m-inside)
+    table-long = table-length (blockAt c m) (l % 128) (d .beta .0) (length-blockAt c m m-inside) (omega arith)
 
     data-length : length (storeBlock c (d .beta .0) block) ≡ length c
     data-length = store-length c (d .beta .0) block whole room
@@ -657,10 +563,10 @@ module _ (c : List ℕ) (bytes : AreBytes c) (starts : List ℕ) (count : ℕ) (
     new-head-long : length new-head ≡ 512
     new-head-long =
         block-whole (extendedOf d 2) (tailWith (tailAt c (d .alpha .0)) (l / 128) (d .beta .0)) region-name
-        (tail-with-length (tailAt c (d .alpha .0)) (l / 128) (d .beta .0) group (tail-length c (d .alpha .0) region-inside))
+        (tail-with-length (tailAt c (d .alpha .0)) (l / 128) (d .beta .0) (tail-length c (d .alpha .0) region-inside) group)
 
     new-table-long : length new-table ≡ 512
-    new-table-long = table-length table (l % 128) (d .beta .0 + 1) (omega arith) table-whole
+    new-table-long = table-length table (l % 128) (d .beta .0 + 1) table-whole (omega arith)
 
     new-data-length : length (storeBlock c (d .beta .0 + 1) block) ≡ length c
     new-data-length = store-length c (d .beta .0 + 1) block whole (omega arith)
@@ -764,7 +670,7 @@ module _ (c : List ℕ) (bytes : AreBytes c) (starts : List ℕ) (count : ℕ) (
 
     phi-other : inPlace (descriptorsOf c) d phi ≡ true → eqb phi 0 ≡ false → phi ≡ d .alpha .0 → ⊥
     phi-other i z e =
-        no (sym (placed-other (descriptorsOf c) d phi i z) ∙ ap (isDescriptor (descriptorsOf c)) e ∙ through-descriptor c starts count d t)
+        no (sym (placed-other (descriptorsOf c) d phi i (eqb-false phi 0 z)) ∙ ap (isDescriptor (descriptorsOf c)) e ∙ through-descriptor c starts count d t)
 
     write-2 : eqb (d .layout) 1 ≡ false → (q : ℕ) (z : Bool) → eqb phi 0 ≡ z
         → blockAt (storeAll c (writing c d (find c (descriptorsOf c) d l) l block)) q ≡ algorithm5 (blockAt c) (d .alpha .0) l block q

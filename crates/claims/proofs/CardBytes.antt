@@ -14,6 +14,7 @@ use Rattle.blocks.specs.Descriptor.{physical, tableSize, mark, cost, costOf, he
 use Rattle.blocks.specs.Chain.{chain, chainSound, activeOf}
 use Rattle.blocks.specs.declared.descriptor.Descriptor.{Descriptor}
 use Rattle.blocks.proofs.Tests.{and-left, and-right}
+use Rattle.blocks.proofs.BoolLaws.{no}
 use Rattle.entries.specs.Entry.{need, tableIsNew, tableWith, tailWith, setInTable, setInNewTable, writing}
 use Rattle.entries.specs.declared.find.Found.{Found}
 use Rattle.entries.specs.declared.find.Found.the-variants.{Misplaced, Entry}
@@ -23,7 +24,7 @@ use Rattle.calls.specs.Ladder.{rowsOf, writeRows, snapRows, revertRows, answerO
 use Rattle.calls.specs.Effect.{snapping, reverting, storesOf}
 use Rattle.calls.specs.Step.{step, after, isAccepted}
 use Rattle.claims.specs.History.{isFormat, AreBytes, writtenBy, Standing, none, more, formattable, formatted}
-use Rattle.calls.proofs.RowLaws.{no, rows-passed}
+use Rattle.calls.proofs.RowLaws.{rows-passed}
 use Rattle.claims.proofs.ChainAfter.{active-name}
 use Rattle.claims.proofs.Runs.{standing-length, step-length}
 

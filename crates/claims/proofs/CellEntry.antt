@@ -10,6 +10,7 @@ use Rattle.blocks.specs.Pick.{pick}
 use Rattle.blocks.specs.Bytes.{blockAt, zeroBlock}
 use Rattle.blocks.specs.Descriptor.{physical, noDescriptor}
 use Rattle.blocks.specs.declared.descriptor.Descriptor.{Descriptor}
+use Rattle.blocks.proofs.BoolLaws.{no}
 use Rattle.blocks.proofs.SoundLaws.{form-layout}
 use Rattle.entries.specs.InPlace.{inPlace}
 use Rattle.entries.specs.Entry.{entryAt, tableOf, entryFound, find}
@@ -17,9 +18,8 @@ use Rattle.entries.specs.Rules.{entryOf, Rules}
 use Rattle.entries.specs.declared.find.Found.the-variants.{Misplaced, Entry}
 use Rattle.calls.specs.Parts.{descriptorsOf, foundThrough, blockFound}
 use Rattle.calls.specs.Check.{Passes}
-use Rattle.calls.proofs.RowLaws.{no}
 use Rattle.claims.proofs.LedgerAnswers.{group-below, own-set, region-of}
-use Rattle.claims.proofs.PassesAfter.{layout-two, table-phi}
+use Rattle.claims.proofs.ChainBlocks.{table-phi, layout-two}
 
 -- the block that an entry names, zeros where it is nil
 abbrev pub blockNamed : List ℕ → ℕ → List ℕ
@@ -52,7 +52,7 @@ cell-rules c ds d layout r l h =
     let m = tableOf c d (l / 128) in
     named-by c ds d m (entryAt c m (l % 128)) (eqb (d .layout) 1) (inPlace ds d m) (eqb m 0)
     (λ o. own-set c d i o)
-    (λ o. rw (table-phi c d i o) (r .phi (layout-two (d .layout) (eqb (d .layout) 1) (eqb (d .layout) 2) refl refl layout o) .in-place i (group-below l (d .volume) h)))
+    (λ o. rw (table-phi c d i o) (r .phi (layout-two (d .layout) layout o) .in-place i (group-below l (d .volume) h)))
     (r .tables .in-place l h)
 
 -- through a descriptor of a card that passes

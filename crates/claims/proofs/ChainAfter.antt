@@ -13,10 +13,11 @@ use Rattle.blocks.specs.Name.{isName}
 use Rattle.blocks.specs.Descriptor.{physical, costOf, noDescriptor, descriptorAt, tailAt, descriptorBlock, renamedOf, linkedOf, copying, reservedOk, phiOk}
 use Rattle.blocks.specs.Chain.{formOk, regionOk, named, sound, Sound, chain, chainSound, activeOf}
 use Rattle.blocks.specs.declared.descriptor.Descriptor.{Descriptor}
-use Rattle.blocks.proofs.DescriptorLaws.{Fits}
+use Rattle.blocks.proofs.DescriptorLaws.{Fits, tail-length}
 use Rattle.blocks.proofs.SoundLaws.{form-most, form-layout}
 use Rattle.blocks.proofs.ChainLaws.{region-long, region-end, cost-least}
 use Rattle.blocks.proofs.LinkedLaws.{Linked, last, chain-linked, chain-few, linked-some, linked-rise, region-start-suc, region-start-zero}
+use Rattle.blocks.proofs.NameLaws.{name-size}
 use Rattle.calls.specs.Call.{Revert}
 use Rattle.calls.specs.Parts.{areaBad, descriptorsOf, snapshotsOf, withName, indexOf}
 use Rattle.calls.specs.Ladder.{rowsOf, revertRows, answerOf}
@@ -26,8 +27,8 @@ use Rattle.calls.proofs.NamedLaws.{named-index, with-name-index}
 use Rattle.calls.proofs.CardLaws.{card-most, chain-is}
 use Rattle.calls.proofs.RowLaws.{rows-passed}
 use Rattle.claims.proofs.Agreement.{end-from}
-use Rattle.claims.proofs.Stored.{block-long, tail-long, tail-part, form-kept, form-phi, form-name}
-use Rattle.claims.proofs.Changed.{name-long, layout-small, named-left, member-from, member-form, member-region, member-fresh, member-inside, changed-last}
+use Rattle.claims.proofs.Stored.{block-long, tail-part, form-kept, form-phi, form-name}
+use Rattle.claims.proofs.Changed.{layout-small, named-left, member-from, member-form, member-region, member-fresh, member-inside, changed-last}
 use Rattle.claims.proofs.StoreLists.{Whole, none, isStored, stored-length, stored-other, stored-last}
 use Rattle.claims.proofs.Frame.{stores-inside}
 
@@ -72,7 +73,7 @@ name-split ss name h =
 
 -- numbers that a card's descriptors have fit 32 bits
 pub fits-of : (e : Descriptor) → e .layout ≤ 2 → e .volume ≤ 14336 → e .alpha .0 ≤ 65536 → e .beta .0 ≤ 65536 → e .next .0 ≤ 65536 → isName (e .name) ≡ true → Fits e
-fits-of e l v a b n m = record { layout = omega arith; volume = omega arith; alpha = omega arith; beta = omega arith; next = omega arith; name = name-long (e .name) m }
+fits-of e l v a b n m = record { layout = omega arith; volume = omega arith; alpha = omega arith; beta = omega arith; next = omega arith; name = name-size (e .name) m }
 
 -- a card with a sound chain
 module _ (c : List ℕ) (area : areaBad c ≡ false) (ok : chainSound (chain c) ≡ true) where
@@ -212,7 +213,7 @@ module _ (c name : List ℕ) (e : isAccepted (answerOf (Revert name) c) ≡ true
         fits-of w (link-layout c area ok xs v ys revert-split) (link-volume c area ok xs v ys revert-split) (omega arith) (omega arith) (omega arith) (active-name c area ok)
 
     pub tail : length (tailAt c (v .alpha .0)) ≡ 472
-    tail = tail-long c (v .alpha .0) (link-inside c area ok xs v ys revert-split)
+    tail = tail-length c (v .alpha .0) (link-inside c area ok xs v ys revert-split)
 
     pub block : blockAt t (v .alpha .0) ≡ descriptorBlock w (tailAt c (v .alpha .0))
     block =

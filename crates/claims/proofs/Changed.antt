@@ -15,22 +15,15 @@ use Rattle.blocks.specs.Descriptor.{costOf, descriptorAt, descriptorBlock, rese
 use Rattle.blocks.specs.Chain.{formOk, regionOk, named, sound, Sound, chain}
 use Rattle.blocks.specs.declared.descriptor.Descriptor.{Descriptor}
 use Rattle.blocks.proofs.Tests.{and-right}
+use Rattle.blocks.proofs.BoolLaws.{or-assoc, or-false-left}
 use Rattle.blocks.proofs.DescriptorLaws.{Fits}
-use Rattle.blocks.proofs.NameLaws.{name-wrong-length}
 use Rattle.blocks.proofs.ChainLaws.{region-layout, region-volume, region-end, region-long, cost-least}
 use Rattle.blocks.proofs.LinkedLaws.{Linked, last, chain-linked, sound-form, sound-region}
 use Rattle.claims.proofs.Local.{linked-chain, shared-descriptor}
 use Rattle.claims.proofs.Relinked.{linked-from, linked-head, relinked}
 use Rattle.claims.proofs.Stored.{stored-descriptor, stored-form, region-ok}
 
--- a name has sixteen bytes; a layout is small
-pub name-long : (n : List ℕ) → isName n ≡ true → length n ≡ 16
-name-long n h = by (eqb (length n) 16) refl
-  where
-    by : (z : Bool) → eqb (length n) 16 ≡ z → length n ≡ 16
-    by true e = eqb-true (length n) 16 e
-    by false e = let f : false ≡ true = name-wrong-length n (eqb-false (length n) 16 e) ∙ h in let y : _≡_ {A = ℕ} 0 1 = cc in absurd (omega arith)
-
+-- a layout is small
 layout-by : (l : ℕ) (x y : Bool) → eqb l 1 ≡ x → eqb l 2 ≡ y → (x || y) ≡ true → l ≤ 2
 layout-by l true y e f h = omega (arith, eqb-true l 1 e)
 layout-by l false true e f h = omega (arith, eqb-true l 2 f)
@@ -40,21 +33,13 @@ pub layout-small : (l : ℕ) → (eqb l 1 || eqb l 2) ≡ true → l ≤ 2
 layout-small l h = layout-by l (eqb l 1) (eqb l 2) refl refl h
 
 -- names of lists joined
-named-by : (x : Bool) (b c : Bool) → (x || (b || c)) ≡ ((x || b) || c)
-named-by true b c = refl
-named-by false b c = refl
-
 pub named-append : (xs ys : List Descriptor) (n : List ℕ) → named (xs ++ ys) n ≡ (named xs n || named ys n)
 unfolding named
 named-append [] ys n = refl
-named-append (x ∷ xs) ys n = rw (named-append xs ys n) (named-by (same (x .name) n) (named xs n) (named ys n))
-
-or-left : (a b : Bool) → (a || b) ≡ false → a ≡ false
-or-left true b e = e
-or-left false b e = refl
+named-append (x ∷ xs) ys n = rw (named-append xs ys n) (or-assoc (same (x .name) n) (named xs n) (named ys n))
 
 pub named-left : (xs ys : List Descriptor) (n : List ℕ) → named (xs ++ ys) n ≡ false → named xs n ≡ false
-named-left xs ys n h = or-left (named xs n) (named ys n) (sym (named-append xs ys n) ∙ h)
+named-left xs ys n h = or-false-left (named xs n) (named ys n) (sym (named-append xs ys n) ∙ h)
 
 -- a descriptor of a chain, by its place in the list
 module _ (s : List ℕ) (ds xs : List Descriptor) (d : Descriptor) (ys : List Descriptor) (sound-s : chain s ≡ Sound ds) (split : ds ≡ xs ++ (d ∷ ys)) where

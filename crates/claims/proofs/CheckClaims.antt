@@ -14,6 +14,7 @@ use Rattle.blocks.specs.Descriptor.{physical, tableCount, noDescriptor}
 use Rattle.blocks.specs.Chain.{chain, chainSound}
 use Rattle.blocks.specs.declared.numbers.Physical.{Physical}
 use Rattle.blocks.specs.declared.descriptor.Descriptor.{Descriptor}
+use Rattle.blocks.proofs.BoolLaws.{no, or-true, and-false}
 use Rattle.blocks.proofs.SoundLaws.{form-most, form-layout}
 use Rattle.blocks.proofs.LinkedLaws.{chain-linked, linked-at}
 use Rattle.entries.specs.InPlace.{inPlace}
@@ -30,8 +31,8 @@ use Rattle.calls.specs.Check.{orElse, checkAll, checkCard, isFault, faultHolder
 use Rattle.calls.specs.Ladder.{firstRow, checkRows, rowsOf, answerOf}
 use Rattle.claims.specs.Claims.{TableClaim, CheckClaim, valuesOf, noNaming, FirstFault, FaultClaim}
 use Rattle.calls.proofs.CardLaws.{chain-is}
-use Rattle.calls.proofs.RowLaws.{no}
 use Rattle.claims.proofs.Rows.{table-claim}
+use Rattle.claims.proofs.ChainBlocks.{few-tables, table-two, layout-two}
 
 -- the parts of a fault, as tests: p in place, z nil, k counted, a named before, o against the rule on old tables
 fault-gives : (p z k a o : Bool) → (not p || (not z && (not k || a)) || o) ≡ false → (p ≡ true) × (z ≡ false → (k ≡ true) × (a ≡ false)) × (o ≡ false)
@@ -109,13 +110,9 @@ module _ (ds : List Descriptor) (d : Descriptor) (before : List ℕ) (e : Naming
   first-passed es k h = fault-later ds d before e es (clear-fault k) ∙ h
 
 -- values named
-or-end : (x : Bool) → (x || true) ≡ true
-or-end true = refl
-or-end false = refl
-
 among-keep : (v : ℕ) (before : List ℕ) (w : ℕ) → among before w ≡ true → among (v ∷ before) w ≡ true
 unfolding among
-among-keep v before w h = rw h (or-end (eqb v w))
+among-keep v before w h = rw h (or-true (eqb v w))
 
 among-head : (v : ℕ) (before : List ℕ) → among (v ∷ before) v ≡ true
 unfolding among
@@ -321,19 +318,11 @@ module _ (c : List ℕ) (ds : List Descriptor) (d : Descriptor) where
       subst (λ (m : ℕ). Flat c ds d 0 m) s (tables-pass one k (suc i) (r .0) (r .1) (r .2) (r .3))
 
   -- layout 2
-  table-phi : d .layout ≡ 2 → (i : ℕ) → tableOf c d i ≡ phiAt c d i
-  unfolding tableOf
-  table-phi e i = rw (ne-eqb (d .layout) 1 (omega (arith, e)))
-
   abbrev walked-table : ℕ → List Naming
   walked-table i = pick (ltb i (tableCount (d .volume)) && not (eqb (phiAt c d i) 0)) (tableNamings c d i (phiAt c d i) 128 0) []
 
-  and-off : (x : Bool) → (x && false) ≡ false
-  and-off true = refl
-  and-off false = refl
-
   walked-none : (i : ℕ) → phiAt c d i ≡ 0 → walked-table i ≡ []
-  walked-none i e = rw (eq-eqb (phiAt c d i) 0 e, and-off (ltb i (tableCount (d .volume))))
+  walked-none i e = rw (eq-eqb (phiAt c d i) 0 e, and-false (ltb i (tableCount (d .volume))))
 
   walked-all : (i : ℕ) → (phiAt c d i ≡ 0 → ⊥) → ltb i (tableCount (d .volume)) ≡ true → walked-table i ≡ tableNamings c d i (phiAt c d i) 128 0
   walked-all i n e = rw (ne-eqb (phiAt c d i) 0 n, e)
@@ -345,13 +334,13 @@ module _ (c : List ℕ) (ds : List Descriptor) (d : Descriptor) where
   phi-one two i rest before f h counted p true e =
       let q : 128 * i ≡ 128 * i + 0 = omega arith in
       let nil = eqb-true (phiAt c d i) 0 e in
-      let r = nil-passes (suc i) i (table-phi two i ∙ nil) before 128 0 (omega arith) (subst (λ (m : ℕ). Flat c ds d (suc i) m) q f) (subst (λ (m : ℕ). Held c d before (suc i) m) q h) in
+      let r = nil-passes (suc i) i (table-two c d i two ∙ nil) before 128 0 (omega arith) (subst (λ (m : ℕ). Flat c ds d (suc i) m) q f) (subst (λ (m : ℕ). Held c d before (suc i) m) q h) in
       (before, r .0, r .1, sym (ap (λ (es : List Naming). firstFault ds d before (es ++ rest)) (walked-none i nil)) ∙ p)
   phi-one two i rest before f h counted p false e =
       let q : 128 * i ≡ 128 * i + 0 = omega arith in
       let n = eqb-false (phiAt c d i) 0 e in
-      let t = walked-all i n (counted n) ∙ ap (λ (m : ℕ). tableNamings c d i m 128 0) (sym (table-phi two i)) in
-      table-passes (suc i) i (λ z. n (sym (table-phi two i) ∙ z)) rest 128 0 (omega arith) before
+      let t = walked-all i n (counted n) ∙ ap (λ (m : ℕ). tableNamings c d i m 128 0) (sym (table-two c d i two)) in
+      table-passes (suc i) i (λ z. n (sym (table-two c d i two) ∙ z)) rest 128 0 (omega arith) before
       (subst (λ (m : ℕ). Flat c ds d (suc i) m) q f)
       (subst (λ (m : ℕ). Held c d before (suc i) m) q h)
       (sym (ap (λ (es : List Naming). firstFault ds d before (es ++ rest)) t) ∙ p)
@@ -470,9 +459,9 @@ module _ (c : List ℕ) (ds : List Descriptor) (d : Descriptor) where
       let q : 128 * i ≡ 128 * i + 0 = omega arith in
       let n = eqb-false (phiAt c d i) 0 e in
       let counted = counted-by (phiAt c d i) i (tableCount (d .volume)) (f .phi-counted i l) n (ltb i (tableCount (d .volume))) refl in
-      let t = walked-all i n counted ∙ ap (λ (m : ℕ). tableNamings c d i m 128 0) (sym (table-phi two i)) in
+      let t = walked-all i n counted ∙ ap (λ (m : ℕ). tableNamings c d i m 128 0) (sym (table-two c d i two)) in
       ap (λ (es : List Naming). firstFault ds d before (es ++ rest)) t
-      ∙ table-kept big (128 * big) (suc i) i f (omega arith) (omega arith) (λ z. n (sym (table-phi two i) ∙ z)) rest later 128 0 (omega arith) before (subst (λ (m : ℕ). Only c d before (suc i) m) q o)
+      ∙ table-kept big (128 * big) (suc i) i f (omega arith) (omega arith) (λ z. n (sym (table-two c d i two) ∙ z)) rest later 128 0 (omega arith) before (subst (λ (m : ℕ). Only c d before (suc i) m) q o)
 
   phis-kept : d .layout ≡ 2 → (big : ℕ) → Flat c ds d big (128 * big) → (k i : ℕ) → i + k ≤ big → (before : List ℕ) → Only c d before i (128 * i) → firstFault ds d before (phiNamings c d k i) ≡ Passed
   unfolding phiNamings firstFault
@@ -581,18 +570,11 @@ module _ (c : List ℕ) (ds : List Descriptor) (d : Descriptor) where
 
   -- one descriptor, of either layout
   module _ (layout : (eqb (d .layout) 1 || eqb (d .layout) 2) ≡ true) (most : d .volume ≤ 14336) where
-    few-tables : tableCount (d .volume) ≤ 112
-    unfolding tableCount
-    few-tables = omega (arith, most)
-
-    is-two : eqb (d .layout) 1 ≡ false → d .layout ≡ 2
-    is-two e = eqb-true (d .layout) 2 (rw e at layout)
-
     two-nil : d .layout ≡ 2 → Rules c ds d → (l : ℕ) → l < 14336 → d .volume ≤ l → (t : Bool) → ltb l (128 * tableCount (d .volume)) ≡ t → entryOf c d l ≡ 0
     two-nil two r l h k true q = r .tables .past-volume l k (ltb-true l (128 * tableCount (d .volume)) q)
     two-nil two r l h k false q =
         let b = ltb-false l (128 * tableCount (d .volume)) q in
-        table-nil-entry l (table-phi c ds d two (l / 128) ∙ r .phi two .past-n (l / 128) (omega arith) (omega arith))
+        table-nil-entry l (table-two c d (l / 128) two ∙ r .phi two .past-n (l / 128) (omega arith) (omega arith))
 
     passed-rules : (o : Bool) → eqb (d .layout) 1 ≡ o → firstFault ds d [] (pick o (tablesNamings c d (tableCount (d .volume)) 0) (phiNamings c d 112 0)) ≡ Passed → Rules c ds d
     passed-rules true e p =
@@ -600,9 +582,9 @@ module _ (c : List ℕ) (ds : List Descriptor) (d : Descriptor) where
         let f = tables-pass c ds d one (tableCount (d .volume)) 0 [] (start-flat c ds d) (start-held c d) p in
         record { phi = λ two. absurd (omega (arith, one, two)); tables = flat-tables 0 (128 * (0 + tableCount (d .volume))) f (omega arith) }
     passed-rules false e p =
-        let two = is-two e in
+        let two = layout-two (d .layout) layout e in
         let f = phis-pass c ds d two 112 0 [] (start-flat c ds d) (start-held c d) p in
-        record { phi = λ q. flat-phis (128 * (0 + 112)) f (omega (arith, few-tables)) few-tables q; tables = flat-tables 112 (128 * (0 + 112)) f (omega (arith, few-tables)) }
+        record { phi = λ q. flat-phis (128 * (0 + 112)) f (omega (arith, few-tables (d .volume) most)) (few-tables (d .volume) most) q; tables = flat-tables 112 (128 * (0 + 112)) f (omega (arith, few-tables (d .volume) most)) }
 
     rules-passed : (o : Bool) → eqb (d .layout) 1 ≡ o → Rules c ds d → firstFault ds d [] (pick o (tablesNamings c d (tableCount (d .volume)) 0) (phiNamings c d 112 0)) ≡ Passed
     rules-passed true e r =
@@ -611,7 +593,7 @@ module _ (c : List ℕ) (ds : List Descriptor) (d : Descriptor) where
         (rules-flat 0 (128 * tableCount (d .volume)) (r .tables) (λ l h k. r .tables .past-volume l k h) (omega arith) (λ h. absurd (omega arith)) (r .phi))
         (tableCount (d .volume)) 0 (omega arith) [] (start-only c d)
     rules-passed false e r =
-        let two = is-two e in
+        let two = layout-two (d .layout) layout e in
         phis-kept c ds d two 112
         (rules-flat 112 14336 (r .tables) (λ l h k. two-nil two r l h k (ltb l (128 * tableCount (d .volume))) refl) (omega arith) (λ h. r .phi two) (r .phi))
         112 0 (omega arith) [] (start-only c d)

@@ -6,11 +6,11 @@ use Prim.Native.Nat.{ℕ, suc, _<_}
 use lib.ListN.{take}
 use Rattle.blocks.specs.Chain.{chain, chainSound, named}
 use Rattle.blocks.specs.declared.descriptor.Descriptor.{Descriptor}
+use Rattle.blocks.proofs.BoolLaws.{no}
 use Rattle.calls.specs.Call.{Call}
 use Rattle.calls.specs.Parts.{descriptorsOf, snapshotsOf}
 use Rattle.claims.specs.History.{AreBytes, Standing, Position, Nowhere, At, latestSnap, without, formattable, formatted}
 use Rattle.claims.specs.Claims.{Matched, LastSnap, Forgets, RevertedAt, RollbackClaim, SnapshotClaim, Demand3}
-use Rattle.calls.proofs.RowLaws.{no}
 use Rattle.claims.proofs.Runs.{standing-take}
 use Rattle.claims.proofs.Latest.{latest-nowhere, latest-at}
 use Rattle.claims.proofs.Format.{formatted-passes, formatted-descriptors}

@@ -20,7 +20,7 @@ use Rattle.blocks.specs.declared.descriptor.Descriptor.{Descriptor}
 use Rattle.blocks.proofs.Tests.{and-left, and-right}
 use Rattle.blocks.proofs.ByteLaws.{length-splice, splice-after, store-length, store-same, store-other, u32-part}
 use Rattle.blocks.proofs.ListLaws.{same-self}
-use Rattle.blocks.proofs.NameLaws.{drop-replicate}
+use Rattle.blocks.proofs.NameLaws.{drop-replicate, name-size}
 use Rattle.blocks.proofs.DescriptorLaws.{Fits}
 use Rattle.blocks.proofs.ChainLaws.{cost-least}
 use Rattle.blocks.proofs.LinkedLaws.{last}
@@ -37,7 +37,7 @@ use Rattle.calls.proofs.StepLaws.{stored-append, stored-one}
 use Rattle.calls.proofs.CardLaws.{card-most}
 use Rattle.claims.proofs.Local.{linked-chain}
 use Rattle.claims.proofs.Stored.{block-tail, stored-descriptor, stored-bytes, stored-mark, region-ok}
-use Rattle.claims.proofs.Changed.{name-long, layout-small}
+use Rattle.claims.proofs.Changed.{layout-small}
 use Rattle.claims.proofs.StoreLists.{isStored, stored-length, stored-other}
 use Rattle.claims.proofs.Frame.{inside-clearing, block-whole}
 
@@ -167,7 +167,7 @@ module _ (area : List ℕ) (layout volume : ℕ) (name : List ℕ) (ok : formatt
   cleared = storeAll area (clearing 1 (cost layout volume - 1))
 
   first-long : length firstBytes ≡ 512
-  first-long = block-whole first (replicate 472 0) (name-long name format-name) (length-replicate {A = ℕ} 472 0)
+  first-long = block-whole first (replicate 472 0) (name-size name format-name) (length-replicate {A = ℕ} 472 0)
 
   cleared-room : 512 * (1 + (cost layout volume - 1)) ≤ length area
   cleared-room = omega (arith, room-bytes, cost-least layout volume)
@@ -234,7 +234,7 @@ module _ (area : List ℕ) (layout volume : ℕ) (name : List ℕ) (ok : formatt
         alpha = omega arith;
         beta = omega (arith, format-room, card-most area format-area);
         next = omega arith;
-        name = name-long name format-name;
+        name = name-size name format-name;
       }
 
   formatted-inside : 512 * 0 + 512 ≤ length card

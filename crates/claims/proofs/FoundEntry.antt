@@ -10,11 +10,11 @@ use Rattle.blocks.specs.Pick.{pick}
 use Rattle.blocks.specs.Descriptor.{physical}
 use Rattle.blocks.specs.declared.numbers.Physical.{Physical}
 use Rattle.blocks.specs.declared.descriptor.Descriptor.{Descriptor}
+use Rattle.blocks.proofs.BoolLaws.{no}
 use Rattle.entries.specs.InPlace.{inPlace}
 use Rattle.entries.specs.Entry.{tableOf, entryAt, entryFound, find}
 use Rattle.entries.specs.Rules.{entryOf}
 use Rattle.entries.specs.declared.find.Found.the-variants.{Misplaced, Entry}
-use Rattle.calls.proofs.RowLaws.{no}
 use Rattle.claims.proofs.LedgerAnswers.{own-set}
 
 -- the parts of an entry that was found

@@ -1,41 +1,44 @@
 -- What calls leave alone: no call alters the card's length, quiet calls alter no byte of it, and lent memory is only filled by a read or a listing.
 -- What a listing fills: the descriptors' own records, and the records after them as they were.
 use mathlib.Core.Path.{_≡_, refl, sym, _∙_, subst}
-use mathlib.Core.Bool.{Bool, true, false, not, _&&_}
+use mathlib.Core.Bool.{Bool, true, false}
 use mathlib.Core.List.{List, [], _∷_}
 use Prim.Native.Nat.{ℕ, zero, suc, _+_, _*_, _-_, _/_, _%_, _≤_, _<_}
 use native.Mathlib.Omega.{arith}
 use lib.ListN.{length, drop, getD, replicate, length-drop, length-append, length-replicate}
-use lib.Dec.{eqb, leb}
+use lib.Dec.{eqb}
 use borrow.Author.Tests.{eqb-true, eqb-false, ltb-true, ltb-false, leb-false, not-false}
 use Rattle.blocks.specs.Pick.{pick}
-use Rattle.blocks.specs.Bytes.{le32, store, blockCount, blockAt, zeroBlock, storeAll}
+use Rattle.blocks.specs.Bytes.{store, blockCount, blockAt, zeroBlock, storeAll}
 use Rattle.blocks.specs.Name.{isName}
 use Rattle.blocks.specs.Descriptor.{physical, cost, costOf, noDescriptor, descriptorAt, firstOf, headBytes, tailAt, descriptorBlock, renamedOf, linkedOf, extendedOf, reopenedOf, clearing, copying, opening}
 use Rattle.blocks.specs.Chain.{Chain, Sound, Unsound, chain, chainSound, named, regionsOf, activeOf}
 use Rattle.blocks.specs.declared.numbers.Physical.{Physical}
 use Rattle.blocks.specs.declared.descriptor.Descriptor.{Descriptor}
 use Rattle.blocks.specs.declared.chain.Regions.{Regions}
-use Rattle.blocks.proofs.Tests.{and-left}
-use Rattle.blocks.proofs.ByteLaws.{length-part, length-splice, length-le32, length-blockAt}
+use Rattle.blocks.proofs.BoolLaws.{no}
+use Rattle.blocks.proofs.ByteLaws.{length-part, length-blockAt}
 use Rattle.blocks.proofs.ChainLaws.{cost-least}
-use Rattle.blocks.proofs.DescriptorLaws.{head-length}
+use Rattle.blocks.proofs.DescriptorLaws.{head-length, tail-length}
+use Rattle.blocks.proofs.NameLaws.{name-size}
 use Rattle.entries.specs.Through.{Through}
-use Rattle.entries.specs.Entry.{find, tableIsNew, need, tableWith, tailWith, setInTable, setInNewTable, writing}
+use Rattle.entries.specs.Entry.{find, tableIsNew, need, tailWith, setInTable, setInNewTable, writing}
 use Rattle.entries.specs.declared.find.Found.{Found}
 use Rattle.entries.specs.declared.find.Found.the-variants.{Misplaced, Entry}
-use Rattle.entries.proofs.EntryLaws.{through-alpha, through-beta}
+use Rattle.entries.proofs.EntryLaws.{through-alpha, through-beta, need-more}
+use Rattle.entries.proofs.SetLaws.{table-length, tail-with-length}
 use Rattle.calls.specs.declared.answer.Record.{Record}
 use Rattle.calls.specs.Call.{Call, Ream, Read, Write, Snap, Revert, Listing, Check, Records, accepted}
 use Rattle.calls.specs.Parts.{areaBad, descriptorsOf, snapshotsOf, withName, indexOf, foundThrough}
 use Rattle.calls.specs.Ladder.{reamRows, writeRows, snapRows, revertRows, listRows, rowsOf, answerOf}
-use Rattle.calls.specs.Effect.{WriteReady, snapping, reverting, storesOf, recordOf, listed, lentOf, filledOf}
+use Rattle.calls.specs.Effect.{WriteReady, snapping, reverting, storesOf, recordOf, listed, filledOf}
 use Rattle.calls.specs.Step.{step, isAccepted}
-use Rattle.claims.specs.Claims.{ListClaim, isQuiet, fills, FrameClaim}
+use Rattle.claims.specs.Claims.{lentAtEntry, ListClaim, isQuiet, fills, FrameClaim}
 use Rattle.calls.proofs.NamedLaws.{named-index, with-name-index}
 use Rattle.calls.proofs.CardLaws.{card-some, card-found, card-active, card-through, card-inside, card-snapshot, card-snapshot-count}
 use Rattle.calls.proofs.WriteLaws.{put-inside, write-ready}
-use Rattle.calls.proofs.RowLaws.{no, rows-passed}
+use Rattle.calls.proofs.RowLaws.{rows-passed}
+use Rattle.claims.proofs.Rows.{lent-entry}
 use Rattle.claims.proofs.StoreLists.{Whole, none, also, whole-append, stored-length}
 
 -- the records of descriptors, then the rest
@@ -99,21 +102,6 @@ pub block-whole : (d : Descriptor) (tail : List ℕ) → length (d .name) ≡ 16
 unfolding descriptorBlock
 block-whole d tail n t = length-append (headBytes d) tail ∙ omega (arith, head-length d n, t)
 
-pub name-length : (name : List ℕ) → isName name ≡ true → length name ≡ 16
-unfolding isName
-name-length name h = eqb-true (length name) 16 (and-left _ _ (and-left _ _ h))
-
-pub tail-length : (c : List ℕ) (p : ℕ) → 512 * p + 512 ≤ length c → length (tailAt c p) ≡ 472
-tail-length c p h = length-part c (512 * p + 40) 472 (omega arith)
-
-pub table-length : (table : List ℕ) (j q : ℕ) → j < 128 → length table ≡ 512 → length (tableWith table j q) ≡ 512
-unfolding tableWith
-table-length table j q h e = length-splice table (4 * j) (le32 q) (omega (arith, length-le32 q)) ∙ e
-
-pub tail-with-length : (tail : List ℕ) (i m : ℕ) → i < 112 → length tail ≡ 472 → length (tailWith tail i m) ≡ 472
-unfolding tailWith
-tail-with-length tail i m h e = length-splice tail (24 + 4 * i) (le32 m) (omega (arith, length-le32 m)) ∙ e
-
 -- a format
 module _ (c : List ℕ) (layout volume : ℕ) (name : List ℕ) where
   ream-inside : isName name ≡ true → cost layout volume ≤ blockCount c → Whole (length c) (opening layout volume name)
@@ -121,16 +109,7 @@ module _ (c : List ℕ) (layout volume : ℕ) (name : List ℕ) where
   ream-inside called room =
       let least = cost-least layout volume in
       whole-append (inside-clearing (length c) 1 (cost layout volume - 1) (omega arith))
-      (also 0 (descriptorBlock (firstOf layout volume name) (replicate 472 0)) (block-whole (firstOf layout volume name) (replicate 472 0) (name-length name called) (length-replicate {A = ℕ} 472 0)) (omega arith) none)
-
--- what a write takes, where it takes blocks
-need-size : (s t : Bool) (n : ℕ) → n ≡ pick s 0 (pick t 2 1) → (n ≡ 0 → ⊥) → n ≡ pick t 2 1
-need-size true t n e z = absurd (z e)
-need-size false t n e z = e
-
-need-is : (alpha : ℕ) (m p : Physical) → (need alpha (Entry m p) ≡ 0 → ⊥) → need alpha (Entry m p) ≡ pick (tableIsNew alpha (m .0)) 2 1
-unfolding need
-need-is alpha m p z = need-size (not (eqb (p .0) 0) && leb alpha (p .0)) (tableIsNew alpha (m .0)) (need alpha (Entry m p)) refl z
+      (also 0 (descriptorBlock (firstOf layout volume name) (replicate 472 0)) (block-whole (firstOf layout volume name) (replicate 472 0) (name-size name called) (length-replicate {A = ℕ} 472 0)) (omega arith) none)
 
 -- a write through an entry
 module _ (c : List ℕ) (d : Descriptor) (m p : Physical) (l : ℕ) (block : List ℕ) (ready : WriteReady c d (m .0) (p .0) l block) (called : length (d .name) ≡ 16) where
@@ -144,7 +123,7 @@ module _ (c : List ℕ) (d : Descriptor) (m p : Physical) (l : ℕ) (block : Lis
   unfolding setInTable
   set-inside =
       also (d .alpha .0) _ (block-whole (extendedOf d 1) (tailAt c (d .alpha .0)) called (tail-length c (d .alpha .0) alpha-inside)) alpha-inside
-      (also (m .0) _ (table-length (blockAt c (m .0)) (l % 128) (d .beta .0) (omega arith) (length-blockAt c (m .0) table-inside)) table-inside none)
+      (also (m .0) _ (table-length (blockAt c (m .0)) (l % 128) (d .beta .0) (length-blockAt c (m .0) table-inside) (omega arith)) table-inside none)
 
   old-length : (t : Bool) → length (pick t zeroBlock (blockAt c (m .0))) ≡ 512
   old-length true = length-replicate {A = ℕ} 512 0
@@ -153,9 +132,9 @@ module _ (c : List ℕ) (d : Descriptor) (m p : Physical) (l : ℕ) (block : Lis
   new-set-inside : 512 * d .beta .0 + 512 ≤ length c → Whole (length c) (setInNewTable c d (m .0) l)
   unfolding setInNewTable
   new-set-inside h =
-      also (d .beta .0) _ (table-length (pick (eqb (m .0) 0) zeroBlock (blockAt c (m .0))) (l % 128) (d .beta .0 + 1) (omega arith) (old-length (eqb (m .0) 0))) h
+      also (d .beta .0) _ (table-length (pick (eqb (m .0) 0) zeroBlock (blockAt c (m .0))) (l % 128) (d .beta .0 + 1) (old-length (eqb (m .0) 0)) (omega arith)) h
       (also (d .alpha .0) _
-      (block-whole (extendedOf d 2) (tailWith (tailAt c (d .alpha .0)) (l / 128) (d .beta .0)) called (tail-with-length (tailAt c (d .alpha .0)) (l / 128) (d .beta .0) (omega (arith, ready .number)) (tail-length c (d .alpha .0) alpha-inside)))
+      (block-whole (extendedOf d 2) (tailWith (tailAt c (d .alpha .0)) (l / 128) (d .beta .0)) called (tail-with-length (tailAt c (d .alpha .0)) (l / 128) (d .beta .0) (tail-length c (d .alpha .0) alpha-inside) (omega (arith, ready .number))))
       alpha-inside none)
 
   module _ (room : d .beta .0 + need (d .alpha .0) (Entry m p) ≤ length c / 512) where
@@ -167,7 +146,7 @@ module _ (c : List ℕ) (d : Descriptor) (m p : Physical) (l : ℕ) (block : Lis
     entry-by : (z : Bool) → eqb (need (d .alpha .0) (Entry m p)) 0 ≡ z
         → Whole (length c) (pick z (store (p .0) block ∷ []) (pick (tableIsNew (d .alpha .0) (m .0)) (store (d .beta .0 + 1) block ∷ setInNewTable c d (m .0) l) (store (d .beta .0) block ∷ setInTable c d (m .0) l)))
     entry-by true e = also (p .0) block (ready .whole) (put-inside c d m p l block ready (need (d .alpha .0) (Entry m p)) refl (eqb-true _ _ e) .1) none
-    entry-by false e = new-by (tableIsNew (d .alpha .0) (m .0)) (rw (← (need-is (d .alpha .0) m p (eqb-false _ _ e))) room)
+    entry-by false e = new-by (tableIsNew (d .alpha .0) (m .0)) (rw (← (need-more (d .alpha .0) m p (eqb-false _ _ e))) room)
 
     entry-inside : Whole (length c) (writing c d (Entry m p) l block)
     unfolding writing
@@ -218,7 +197,7 @@ module _ (c : List ℕ) (area : areaBad c ≡ false) (sound : chainSound (chain 
       let tail = tail-length c (active .alpha .0) active-alpha in
       whole-append (inside-copying c (active .alpha .0 + 1) (active .beta .0 + 1) (costOf active - 1) (omega (arith, through-beta c (r .starts) (r .count) active active-through)) (omega arith))
       (also (active .beta .0) _ (block-whole (reopenedOf active) (tailAt c (active .alpha .0)) active-name tail) (omega arith)
-      (also (active .alpha .0) _ (block-whole (linkedOf (renamedOf active name) (active .beta)) (tailAt c (active .alpha .0)) (name-length name called) tail) active-alpha none))
+      (also (active .alpha .0) _ (block-whole (linkedOf (renamedOf active name) (active .beta)) (tailAt c (active .alpha .0)) (name-size name called) tail) active-alpha none))
 
   revert-inside : (name : List ℕ) → named (snapshotsOf (descriptorsOf c)) name ≡ true → Whole (length c) (reverting c (withName (snapshotsOf (descriptorsOf c)) name) (active .name))
   unfolding reverting
@@ -284,8 +263,8 @@ unfolding step
 quiet-kept k c q true e = rw e (quiet-stores k c q)
 quiet-kept k c q false e = rw e
 
-unfilled : (k : Call) (c : List ℕ) → fills k ≡ false → filledOf k c ≡ lentOf k
-unfolding fills filledOf lentOf
+unfilled : (k : Call) (c : List ℕ) → fills k ≡ false → filledOf k c ≡ lentAtEntry k
+unfolding fills filledOf lentAtEntry
 unfilled (Ream layout volume name) c q = refl
 unfilled (Read target name l block) c q = no (sym q)
 unfilled (Write l block) c q = refl
@@ -294,10 +273,10 @@ unfilled (Revert name) c q = refl
 unfilled (Listing records) c q = no (sym q)
 unfilled Check c q = refl
 
-lent-kept : (k : Call) (c : List ℕ) → fills k ≡ false → (t : Bool) → isAccepted (answerOf k c) ≡ t → step k c .outcome .lent ≡ lentOf k
+lent-kept : (k : Call) (c : List ℕ) → fills k ≡ false → (t : Bool) → isAccepted (answerOf k c) ≡ t → step k c .outcome .lent ≡ lentAtEntry k
 unfolding step
 lent-kept k c q true e = rw e (unfilled k c q)
-lent-kept k c q false e = rw e
+lent-kept k c q false e = rw (e, lent-entry k)
 
 pub frame-claim : FrameClaim
 unfolding FrameClaim

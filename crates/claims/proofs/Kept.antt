@@ -2,7 +2,7 @@
 -- below its beta; and so does the active name.
 use mathlib.Core.Path.{_≡_, refl, sym, ap, _∙_}
 use mathlib.Core.Logic.{_⊎_, inl, inr}
-use mathlib.Core.Bool.{Bool, true, false, not, _&&_, _||_}
+use mathlib.Core.Bool.{Bool, true, false, not, _&&_}
 use mathlib.Core.List.{List, [], _∷_, _++_, append-assoc}
 use Prim.Native.Nat.{ℕ, suc, _+_, _-_, _≤_, _<_}
 use native.Mathlib.Omega.{arith}
@@ -13,11 +13,12 @@ use borrow.Author.Tests.{ne-eqb, leb-true, leb-false, ltb-false, not-false}
 use Rattle.blocks.specs.Pick.{pick}
 use Rattle.blocks.specs.Bytes.{blockAt, store, storeAll}
 use Rattle.blocks.specs.Descriptor.{physical, renamedOf, linkedOf, extendedOf, reopenedOf}
-use Rattle.blocks.specs.Chain.{Sound, chain, chainSound, descriptors, named, activeOf}
+use Rattle.blocks.specs.Chain.{Sound, chain, chainSound, named, activeOf}
 use Rattle.blocks.specs.declared.descriptor.Descriptor.{Descriptor}
 use Rattle.blocks.proofs.Tests.{and-right}
+use Rattle.blocks.proofs.BoolLaws.{no, or-false-right}
 use Rattle.blocks.proofs.LinkedLaws.{Linked, last, more, sound-next}
-use Rattle.blocks.proofs.ChainLaws.{active-snoc}
+use Rattle.blocks.proofs.ChainLaws.{active-snoc, descriptors-are}
 use Rattle.entries.specs.Entry.{tableIsNew, need, setInTable, setInNewTable, writing}
 use Rattle.entries.specs.declared.find.Found.{Found}
 use Rattle.entries.specs.declared.find.Found.the-variants.{Misplaced, Entry}
@@ -27,7 +28,7 @@ use Rattle.calls.specs.Ladder.{rowsOf, writeRows, answerOf}
 use Rattle.calls.specs.Effect.{storesOf, reverting}
 use Rattle.calls.specs.Step.{step, isAccepted}
 use Rattle.claims.specs.History.{isFormat}
-use Rattle.calls.proofs.RowLaws.{no, rows-passed}
+use Rattle.calls.proofs.RowLaws.{rows-passed}
 use Rattle.claims.proofs.Relinked.{later-alpha}
 use Rattle.claims.proofs.Changed.{named-left, member-from, member-fresh}
 use Rattle.claims.proofs.StoreLists.{isStored, stored-length, stored-other}
@@ -46,10 +47,6 @@ beta-before {c = c} (more {es = es} {p = p} {d = e} {ds = ds} is ok z rest) v us
     omega (arith, later-alpha c rest us u ws k, sound-next c es p e is ok z, ap (λ (y : Descriptor). y .beta .0) x)
 
 -- a write stores no block below the active alpha
-or-right : (a b : Bool) → (a || b) ≡ false → b ≡ false
-or-right true b e = no (sym e)
-or-right false b e = e
-
 module _ (c : List ℕ) (d : Descriptor) (low : d .alpha .0 < d .beta .0) (l : ℕ) (block : List ℕ) (q : ℕ) (h : q < d .alpha .0) where
   above-by : (m o : ℕ) (a n : Bool) → (a ≡ true → d .alpha .0 ≤ o) → (n ≡ false → d .alpha .0 ≤ m)
       → isStored (pick (eqb (pick a 0 (pick n 2 1)) 0) (store o block ∷ []) (pick n (store (d .beta .0 + 1) block ∷ setInNewTable c d m l) (store (d .beta .0) block ∷ setInTable c d m l))) q ≡ false
@@ -60,7 +57,7 @@ module _ (c : List ℕ) (d : Descriptor) (low : d .alpha .0 < d .beta .0) (l : �
 
   not-new : (m : ℕ) → tableIsNew (d .alpha .0) m ≡ false → d .alpha .0 ≤ m
   unfolding tableIsNew
-  not-new m e = ltb-false m (d .alpha .0) (or-right (eqb m 0) (ltb m (d .alpha .0)) e)
+  not-new m e = ltb-false m (d .alpha .0) (or-false-right (eqb m 0) (ltb m (d .alpha .0)) e)
 
   pub writing-above : (f : Found) → isStored (writing c d f l block) q ≡ false
   unfolding writing need isStored
@@ -91,10 +88,6 @@ pub record Stands (s : List ℕ) (xs : List Descriptor) (v : Descriptor) (n : Li
   pub is : chain t ≡ Sound (xs ++ (v ∷ rest))
   pub active : activeOf rest .name ≡ n
   pub blocks : (p : ℕ) → p < v .beta .0 → blockAt s p ≡ blockAt t p
-
-pub descriptors-are : (c : List ℕ) (ds : List Descriptor) → chain c ≡ Sound ds → descriptorsOf c ≡ ds
-unfolding descriptors
-descriptors-are c ds e = ap descriptors e
 
 module _ (s : List ℕ) (xs : List Descriptor) (v : Descriptor) (n : List ℕ) (t : List ℕ) (h : Stands s xs v n t) where
   abbrev rest : List Descriptor

@@ -12,7 +12,9 @@ use Rattle.blocks.specs.Bytes.{storeAll}
 use Rattle.blocks.specs.Descriptor.{renamedOf, linkedOf, reopenedOf}
 use Rattle.blocks.specs.Chain.{Sound, chain, named, activeOf}
 use Rattle.blocks.specs.declared.descriptor.Descriptor.{Descriptor}
+use Rattle.blocks.proofs.BoolLaws.{no}
 use Rattle.blocks.proofs.ListLaws.{same-equal}
+use Rattle.blocks.proofs.ChainLaws.{descriptors-are}
 use Rattle.calls.specs.Call.{Call, Ream, Read, Write, Snap, Revert, Listing, Check}
 use Rattle.calls.specs.Parts.{descriptorsOf, snapshotsOf, indexOf}
 use Rattle.calls.specs.Ladder.{answerOf}
@@ -20,12 +22,11 @@ use Rattle.calls.specs.Effect.{storesOf}
 use Rattle.calls.specs.Step.{step, after, isAccepted}
 use Rattle.claims.specs.History.{isFormat, Standing, none, more, isSnapOf, Position, Nowhere, At, latestFrom, latestSnap}
 use Rattle.claims.specs.Claims.{Unsnapped, end, then, LastSnap}
-use Rattle.calls.proofs.RowLaws.{no}
 use Rattle.claims.proofs.Changed.{named-append, named-left}
 use Rattle.claims.proofs.ChainAfter.{before, snapshots-snoc, reverted-chain}
 use Rattle.claims.proofs.SnappedChain.{snapped-chain}
 use Rattle.claims.proofs.WrittenChain.{written-chain}
-use Rattle.claims.proofs.Kept.{Stands, descriptors-are, stands-step}
+use Rattle.claims.proofs.Kept.{Stands, stands-step}
 use Rattle.claims.proofs.Runs.{standing-length, step-length}
 
 -- a call that is no accepted snap of the name makes no snapshot of it

@@ -14,11 +14,12 @@ use Rattle.blocks.specs.Descriptor.{physical, tableCount, noDescriptor, descrip
 use Rattle.blocks.specs.Chain.{chain, named, activeOf}
 use Rattle.blocks.specs.declared.descriptor.Descriptor.{Descriptor}
 use Rattle.blocks.proofs.Tests.{and-left, and-right}
+use Rattle.blocks.proofs.BoolLaws.{no, or-nil}
 use Rattle.blocks.proofs.ChainLaws.{region-volume}
 use Rattle.blocks.proofs.SoundLaws.{form-layout}
 use Rattle.blocks.proofs.LinkedLaws.{Linked, chain-linked, regionStart, linked-some, linked-end, linked-at, RegionAt, active-at}
 use Rattle.entries.specs.InPlace.{inPlace}
-use Rattle.entries.specs.Entry.{entryAt, phiAt, tableOf, entryFound, find}
+use Rattle.entries.specs.Entry.{entryAt, tableOf, entryFound, find}
 use Rattle.entries.specs.Rules.{entryOf}
 use Rattle.entries.specs.declared.find.Found.the-variants.{Misplaced, Entry}
 use Rattle.calls.specs.declared.answer.Answer.{Answer}
@@ -29,18 +30,19 @@ use Rattle.calls.specs.Call.{Call, Ream, Read, Write, Snap, Revert, Listing, Ch
 use Rattle.calls.specs.Parts.{descriptorsOf, snapshotsOf, withName, isSnapshot, targetOf, foundThrough, isMisplaced, blockFound}
 use Rattle.calls.specs.Check.{Passes}
 use Rattle.calls.specs.Ladder.{Row, row, firstRow, reamRows, readRows, writeRows, snapRows, revertRows, listRows, rowsOf, answerOf}
-use Rattle.calls.specs.Effect.{filledOf}
+use Rattle.calls.specs.Effect.{filledOf, noRecord}
 use Rattle.calls.specs.Step.{step, isAccepted}
 use Rattle.claims.specs.History.{betaOf}
 use Rattle.claims.specs.Ledger.{Volume, Ledger, hasVolume, volumeNamed, ledgerRows, ledgerNumber, volumeRead, cellRead, namesFrom, ledgerNames, cellsFrom, volumeOf, volumesOf, ledgerOf}
 use Rattle.claims.specs.Claims.{blocksNeeded, isReam, recordNames, CheckClaim, ListClaim}
 use Rattle.calls.proofs.CardLaws.{chain-is}
-use Rattle.calls.proofs.RowLaws.{no, rows-passed}
+use Rattle.calls.proofs.RowLaws.{rows-passed}
 use Rattle.claims.proofs.Agreement.{end-active, target-member, active-target}
 use Rattle.claims.proofs.Changed.{named-append}
 use Rattle.claims.proofs.Frame.{list-claim}
 use Rattle.claims.proofs.ChainAfter.{active-split}
 use Rattle.claims.proofs.CheckClaims.{check-claim}
+use Rattle.claims.proofs.ChainBlocks.{table-phi}
 
 -- what is followed is in place, by the tests of find
 placed-by : (ds : List Descriptor) (d : Descriptor) (m e : ℕ) (o i z : Bool) → (o ≡ true → z ≡ false) → (o ≡ false → i ≡ true) → inPlace ds d (pick z 0 e) ≡ true
@@ -55,10 +57,6 @@ placed-by ds d m e false false z own phi h = no (phi refl)
 pub own-set : (c : List ℕ) (d : Descriptor) (i : ℕ) → eqb (d .layout) 1 ≡ true → eqb (tableOf c d i) 0 ≡ false
 unfolding tableOf
 own-set c d i e = rw e (ne-eqb (d .alpha .0 + 1 + i) 0 (omega arith))
-
-phi-table : (c : List ℕ) (d : Descriptor) (i : ℕ) → eqb (d .layout) 1 ≡ false → tableOf c d i ≡ phiAt c d i
-unfolding tableOf
-phi-table c d i e = rw e
 
 pub group-below : (l v : ℕ) → l < v → l / 128 < tableCount v
 unfolding tableCount
@@ -94,7 +92,7 @@ module _ (c : List ℕ) (p : Passes c) where
   phi-placed j h l b e =
       let d = getD (descriptorsOf c) j noDescriptor in
       let two : d .layout ≡ 2 = eqb-true (d .layout) 2 (second-layout (eqb (d .layout) 1) (eqb (d .layout) 2) (form-layout c _ d (region-of j h .form)) e) in
-      rw (phi-table c d (l / 128) e) (p .rules j h .phi two .in-place (l / 128) (group-below l (d .volume) b))
+      rw (table-phi c d (l / 128) e) (p .rules j h .phi two .in-place (l / 128) (group-below l (d .volume) b))
 
 -- entries followed on a card that passes are in place
 pub passing-found : (c : List ℕ) → Passes c → (j : ℕ) → j < length (descriptorsOf c) → (l : ℕ)
@@ -206,9 +204,6 @@ list-fits : (c : List ℕ) (records : List Record) → isAccepted (answerOf (Lis
 unfolding rowsOf listRows
 list-fits c records ok = ltb-false (length records) (length (descriptorsOf c)) (rows-passed (Listing records) c ok 2 (omega arith))
 
-abbrev noRecord : Record
-noRecord = record { name = []; alpha = 0; beta = 0; next = 0 }
-
 -- an accepted listing gives the ledger's names in their order, and leaves the records after them
 pub ledger-lists : (c : List ℕ) → Passes c → (records : List Record) → isAccepted (answerOf (Listing records) c) ≡ true
     → let g = ledgerOf c in
@@ -310,13 +305,9 @@ roomy-by : (t n : Bool) (a b : Answer) → n ≡ false → b ≡ pick (t && n) a
 roomy-by true n a b e = rw e
 roomy-by false n a b e = refl
 
-or-nothing : (a : Bool) → (a || false) ≡ a
-or-nothing true = refl
-or-nothing false = refl
-
 named-active : (ss : List Descriptor) (d : Descriptor) (name : List ℕ) → named (ss ++ (d ∷ [])) name ≡ (named ss name || same (d .name) name)
 unfolding named
-named-active ss d name = named-append ss (d ∷ []) name ∙ ap (λ (b : Bool). named ss name || b) (or-nothing (same (d .name) name))
+named-active ss d name = named-append ss (d ∷ []) name ∙ ap (λ (b : Bool). named ss name || b) (or-nil (same (d .name) name))
 
 module _ (c : List ℕ) (p : Passes c) where
   read-answer : (target : Target) (name : List ℕ) (l : ℕ) (block : List ℕ) → answerOf (Read target name l block) c ≡ firstRow (ledgerRows (Read target name l block) (ledgerOf c))

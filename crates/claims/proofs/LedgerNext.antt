@@ -1,19 +1,20 @@
 -- The ledger of the card after a call is the ledger's own step.
 use mathlib.Core.Path.{_≡_, refl, sym, ap, _∙_, subst}
-use mathlib.Core.Bool.{Bool, true, false, not, _&&_, _||_}
+use mathlib.Core.Bool.{Bool, true, false}
 use mathlib.Core.List.{List, [], _∷_, _++_}
 use Prim.Native.Nat.{ℕ, zero, suc, _+_, _*_, _/_, _%_, _≤_, _<_}
 use native.Mathlib.Omega.{arith}
-use lib.ListN.{length, take, getD, length-append}
-use lib.Dec.{eqb, ltb, leb}
-use borrow.Author.Tests.{eq-eqb, eqb-true, eqb-false, ne-eqb}
+use lib.ListN.{length, take, getD, length-append, List·getD-append}
+use lib.Seq.{getD-append-seam}
+use lib.Dec.{eqb}
+use borrow.Author.Tests.{eq-eqb, eqb-true, eqb-false}
 use Rattle.blocks.specs.Pick.{pick, same}
 use Rattle.blocks.specs.Bytes.{u32At, part, blockCount, blockAt, zeroBlock, storeAll}
 use Rattle.blocks.specs.Descriptor.{physical, tableCount, noDescriptor, tailAt, descriptorBlock, linkedOf, renamedOf}
 use Rattle.blocks.specs.declared.numbers.Physical.{Physical}
 use Rattle.blocks.specs.declared.descriptor.Descriptor.{Descriptor}
 use Rattle.blocks.specs.Chain.{activeOf}
-use Rattle.entries.specs.InPlace.{inPlace, isDescriptor, isTable}
+use Rattle.entries.specs.InPlace.{inPlace}
 use Rattle.entries.specs.Entry.{entryAt, phiAt, tableOf, entryFound, find}
 use Rattle.entries.specs.declared.find.Found.{Found}
 use Rattle.entries.specs.declared.find.Found.the-variants.{Misplaced, Entry}
@@ -25,22 +26,22 @@ use Rattle.calls.specs.Check.{Passes}
 use Rattle.calls.specs.Ladder.{answerOf}
 use Rattle.calls.specs.Effect.{storesOf, reverting}
 use Rattle.calls.specs.Step.{step, isAccepted}
+use Rattle.calls.proofs.StepLaws.{accepted-card}
 use Rattle.claims.specs.History.{betaOf}
+use Rattle.blocks.proofs.BoolLaws.{no}
 use Rattle.blocks.proofs.LinkedLaws.{linked-at, linked-rise, at-alpha}
 use Rattle.claims.proofs.LocalEntries.{Region}
 use Rattle.claims.proofs.Agreement.{agree-region}
 use Rattle.claims.proofs.StoreLists.{stored-other}
 use Rattle.claims.proofs.ChainAfter.{before, behind, snapshots-snoc, link-inside, one-stored, revert-rows, revert-split, reverted-chain, fits, block, same-long, whole}
-use Rattle.claims.proofs.Kept.{descriptors-are}
-use Rattle.claims.proofs.Room.{accepted-card}
 use Rattle.claims.proofs.SoundStep.{agree-self}
 use Rattle.claims.proofs.LedgerAnswers.{linked-of, beta-upto, group-below, passing-found, volume-named}
-use Rattle.calls.proofs.RowLaws.{no}
 use Rattle.claims.proofs.Local.{shared-number}
 use Rattle.blocks.proofs.ByteLaws.{u32-part}
-use Rattle.blocks.proofs.DescriptorLaws.{Fits}
-use Rattle.blocks.proofs.ChainLaws.{active-snoc}
-use Rattle.claims.proofs.Stored.{stored-bytes, block-tail, tail-part, tail-long}
+use Rattle.blocks.proofs.DescriptorLaws.{Fits, tail-length}
+use Rattle.blocks.proofs.ChainLaws.{active-snoc, descriptors-are}
+use Rattle.claims.proofs.Stored.{stored-bytes, block-tail, tail-part}
+use Rattle.claims.proofs.ChainBlocks.{fewer-placed, placed-apart, table-own}
 
 -- the volumes before a name are those of the descriptors before it
 before-by : (c : List ℕ) (d : Descriptor) (ds : List Descriptor) (name : List ℕ) (vs : List Volume) (b : Bool) → vs ≡ volumesOf c (take (indexOf ds name) ds)
@@ -142,90 +143,13 @@ module _ (ds es : List Descriptor) (d e : Descriptor) (kept : (p : ℕ) → inPl
       pub cell-kept : isMisplaced (find s ds d l) ≡ false → blockFound t (find t es e l) ≡ blockFound s (find s ds d l)
       cell-kept h = ap (blockFound t) (find-kept h) ∙ block-by (find s ds d l) (λ m p q. find-placed s ds d l m p q)
 
--- fewer descriptors: what is in place stays in place
-or-both : (a b : Bool) → (a || b) ≡ false → (a ≡ false) × (b ≡ false)
-or-both true b e = no (sym e)
-or-both false b e = (refl, e)
-
-or-none : (a b : Bool) → a ≡ false → b ≡ false → (a || b) ≡ false
-or-none true b e f = e
-or-none false b e f = f
-
-module _ (v w : Descriptor) (ys : List Descriptor) (alpha : w .alpha ≡ v .alpha) (layout : w .layout ≡ v .layout) (volume : w .volume ≡ v .volume) (p : ℕ) where
-  fewer-descriptors : (xs : List Descriptor) → isDescriptor (xs ++ (v ∷ ys)) p ≡ false → isDescriptor (xs ++ (w ∷ [])) p ≡ false
-  unfolding isDescriptor
-  fewer-descriptors [] h = or-none (eqb p (w .alpha .0)) false (ap (λ (x : Physical). eqb p (x .0)) alpha ∙ or-both (eqb p (v .alpha .0)) (isDescriptor ys p) h .0) refl
-  fewer-descriptors (x ∷ xs) h =
-      let r = or-both (eqb p (x .alpha .0)) (isDescriptor (xs ++ (v ∷ ys)) p) h in
-      or-none (eqb p (x .alpha .0)) (isDescriptor (xs ++ (w ∷ [])) p) (r .0) (fewer-descriptors xs (r .1))
-
-  abbrev tables : ℕ → Physical → ℕ → Bool
-  tables k a n = eqb k 1 && ltb (a .0) p && leb p (a .0 + tableCount n)
-
-  fewer-tables : (xs : List Descriptor) → isTable (xs ++ (v ∷ ys)) p ≡ false → isTable (xs ++ (w ∷ [])) p ≡ false
-  unfolding isTable
-  fewer-tables [] h =
-      or-none (tables (w .layout) (w .alpha) (w .volume)) false
-      (ap (λ (k : ℕ). tables k (w .alpha) (w .volume)) layout ∙ ap (λ (a : Physical). tables (v .layout) a (w .volume)) alpha ∙ ap (λ (n : ℕ). tables (v .layout) (v .alpha) n) volume
-      ∙ or-both (tables (v .layout) (v .alpha) (v .volume)) (isTable ys p) h .0) refl
-  fewer-tables (x ∷ xs) h =
-      let r = or-both (tables (x .layout) (x .alpha) (x .volume)) (isTable (xs ++ (v ∷ ys)) p) h in
-      or-none (tables (x .layout) (x .alpha) (x .volume)) (isTable (xs ++ (w ∷ [])) p) (r .0) (fewer-tables xs (r .1))
-
-  place-by : (z b x y : Bool) → (x ≡ false → y ≡ false) → (z || (b && not x)) ≡ true → (z || (b && not y)) ≡ true
-  place-by true b x y f h = refl
-  place-by false true true y f h = no h
-  place-by false true false y f h = rw (f refl)
-  place-by false false x y f h = h
-
-  pub fewer-placed : (xs : List Descriptor) (d e : Descriptor) → e .beta ≡ d .beta → inPlace (xs ++ (v ∷ ys)) d p ≡ true → inPlace (xs ++ (w ∷ [])) e p ≡ true
-  unfolding inPlace
-  fewer-placed xs d e q h =
-      ap (λ (b : Physical). eqb p 0 || (ltb p (b .0) && not (isDescriptor (xs ++ (w ∷ [])) p || isTable (xs ++ (w ∷ [])) p))) q
-      ∙ place-by (eqb p 0) (ltb p (d .beta .0)) (isDescriptor (xs ++ (v ∷ ys)) p || isTable (xs ++ (v ∷ ys)) p) (isDescriptor (xs ++ (w ∷ [])) p || isTable (xs ++ (w ∷ [])) p)
-      (λ k. let r = or-both (isDescriptor (xs ++ (v ∷ ys)) p) (isTable (xs ++ (v ∷ ys)) p) k in or-none (isDescriptor (xs ++ (w ∷ [])) p) (isTable (xs ++ (w ∷ [])) p) (fewer-descriptors xs (r .0)) (fewer-tables xs (r .1))) h
-
--- what is in place is no descriptor
-is-descriptor : (xs : List Descriptor) (v : Descriptor) (ys : List Descriptor) → isDescriptor (xs ++ (v ∷ ys)) (v .alpha .0) ≡ true
-unfolding isDescriptor
-is-descriptor [] v ys = rw (eq-eqb (v .alpha .0) (v .alpha .0) refl)
-is-descriptor (x ∷ xs) v ys = or-true (eqb (v .alpha .0) (x .alpha .0)) (isDescriptor (xs ++ (v ∷ ys)) (v .alpha .0)) (is-descriptor xs v ys)
-  where
-    or-true : (a b : Bool) → b ≡ true → (a || b) ≡ true
-    or-true true b h = refl
-    or-true false b h = h
-
-no-descriptor-by : (b i t : Bool) → i ≡ true → (b && not (i || t)) ≡ false
-no-descriptor-by true true t e = refl
-no-descriptor-by true false t e = no e
-no-descriptor-by false i t e = refl
-
-pub placed-apart : (xs : List Descriptor) (v : Descriptor) (ys : List Descriptor) (d : Descriptor) (p : ℕ) → inPlace (xs ++ (v ∷ ys)) d p ≡ true → (p ≡ 0 → ⊥) → v .alpha .0 ≡ p → ⊥
-unfolding inPlace
-placed-apart xs v ys d p h n e =
-    let a : isDescriptor (xs ++ (v ∷ ys)) p ≡ true = subst (λ (x : ℕ). isDescriptor (xs ++ (v ∷ ys)) x ≡ true) e (is-descriptor xs v ys) in
-    no (sym (no-descriptor-by (ltb p (d .beta .0)) (isDescriptor (xs ++ (v ∷ ys)) p) (isTable (xs ++ (v ∷ ys)) p) a) ∙ (rw (ne-eqb p 0 n) at h))
-
-pub get-left : (xs ys : List Descriptor) (i : ℕ) → i < length xs → getD (xs ++ ys) i noDescriptor ≡ getD xs i noDescriptor
-get-left [] ys i h = absurd (omega arith)
-get-left (x ∷ xs) ys zero h = refl
-get-left (x ∷ xs) ys (suc i) h = get-left xs ys i (omega arith)
-
-get-mid : (xs : List Descriptor) (v : Descriptor) (ys : List Descriptor) → getD (xs ++ (v ∷ ys)) (length xs) noDescriptor ≡ v
-get-mid [] v ys = refl
-get-mid (x ∷ xs) v ys = get-mid xs v ys
-
-own-is : (c : List ℕ) (d : Descriptor) (i : ℕ) → d .layout ≡ 1 → tableOf c d i ≡ d .alpha .0 + 1 + i
-unfolding tableOf
-own-is c d i q = rw (eq-eqb (d .layout) 1 q)
-
 -- Phi of a descriptor block stored with its own tail
 pub phi-stored : (c t : List ℕ) (w v : Descriptor) → w .alpha ≡ v .alpha → 512 * v .alpha .0 + 512 ≤ length c → length c ≡ length t → blockAt t (v .alpha .0) ≡ descriptorBlock w (tailAt c (v .alpha .0)) → Fits w
     → (i : ℕ) → i < 112 → phiAt t w i ≡ phiAt c v i
 unfolding phiAt
 phi-stored c t w v q inside long is f i h =
     let a = v .alpha .0 in
-    let whole = tail-long c a inside in
+    let whole = tail-length c a inside in
     let n : 512 * a + 64 + 4 * i + 0 ≡ 512 * a + 64 + 4 * i = omega arith in
     let k : 512 * a + (64 + 4 * i) ≡ 512 * a + 64 + 4 * i = omega arith in
     let m : 512 * a + 40 + (24 + 4 * i) ≡ 512 * a + 64 + 4 * i = omega arith in
@@ -292,7 +216,7 @@ module _ (c name : List ℕ) (p : Passes c) (acc : isAccepted (answerOf (Revert 
   some-before = omega (arith, ap length split, length-append xs (v ∷ ys))
 
   at-v : getD ds (length xs) noDescriptor ≡ v
-  at-v = ap (λ (zs : List Descriptor). getD zs (length xs) noDescriptor) split ∙ get-mid xs v ys
+  at-v = ap (λ (zs : List Descriptor). getD zs (length xs) noDescriptor) split ∙ getD-append-seam xs v ys noDescriptor
 
   region : (k : ℕ) → k < length ds → Region (getD ds k noDescriptor) (betaOf c)
   region k h = agree-region c c (agree-self c (p .sound)) k h
@@ -316,7 +240,7 @@ module _ (c name : List ℕ) (p : Passes c) (acc : isAccepted (answerOf (Revert 
       let r = subst (λ (x : Descriptor). Region x (betaOf c)) is (region k h) in
       cell-kept ds (descriptorsOf t) d e (kept d e b) c t long (subst (λ (x : Descriptor). 512 * x .beta .0 ≤ length c) is (long-at k h)) (blocks d) l y
       (table-as c t d e (l / 128) y a (phi (l / 128) (groups-few l (d .volume) m (r .few))))
-      (λ q. let o = own-is c d (l / 128) q in let u : d .alpha .0 + 1 + l / 128 < d .beta .0 = omega (arith, r .own q, group-below l (d .volume) m) in
+      (λ q. let o = table-own c d (l / 128) (eq-eqb (d .layout) 1 q) in let u : d .alpha .0 + 1 + l / 128 < d .beta .0 = omega (arith, r .own q, group-below l (d .volume) m) in
       (omega arith, other (tableOf c d (l / 128)) (λ z. apart (l / 128) u (z ∙ o))))
       (subst (λ (x : Descriptor). isMisplaced (foundThrough c x l) ≡ false) is (passing-found c p k h l (subst (λ (x : Descriptor). l < x .volume) (sym is) m)))
 
@@ -326,7 +250,7 @@ module _ (c name : List ℕ) (p : Passes c) (acc : isAccepted (answerOf (Revert 
       (phi-stored c t w v refl (link-inside c (p .area) (p .sound) xs v ys split) long (block c name acc (p .area) (p .sound)) (fits c name acc (p .area) (p .sound))) (λ i h q. omega arith)
 
   get-is : (k : ℕ) → k < length xs → getD ds k noDescriptor ≡ getD xs k noDescriptor
-  get-is k h = ap (λ (zs : List Descriptor). getD zs k noDescriptor) split ∙ get-left xs (v ∷ ys) k h
+  get-is k h = ap (λ (zs : List Descriptor). getD zs k noDescriptor) split ∙ List·getD-append xs (v ∷ ys) noDescriptor k h
 
   under : (k : ℕ) → k < length xs → getD ds k noDescriptor .beta .0 ≤ v .alpha .0
   under k h =

@@ -7,6 +7,7 @@ use native.Mathlib.Omega.{arith}
 use lib.ListN.{length, take, drop, getD}
 use Rattle.blocks.specs.Pick.{pick}
 use Rattle.blocks.specs.Bytes.{storeAll}
+use Rattle.blocks.proofs.BoolLaws.{no}
 use Rattle.calls.specs.declared.answer.Target.{Target}
 use Rattle.calls.specs.declared.answer.Record.{Record}
 use Rattle.calls.specs.Call.{Call, Ream, Read, Write, Snap, Revert, Listing, Check, Block, Records}
@@ -17,7 +18,6 @@ use Rattle.calls.specs.Step.{step, after, isAccepted}
 use Rattle.claims.specs.History.{Standing, more, isFormat, formatted}
 use Rattle.claims.specs.Ledger.{Ledger, ledgerStep, ledgerOf, ledgerNames, cellRead}
 use Rattle.claims.specs.Claims.{ledgerAfter, recordNames, firstLedger, LedgerStep, LedgerClaim, FormatClaim, FormatLedgerClaim}
-use Rattle.calls.proofs.RowLaws.{no}
 use Rattle.claims.proofs.Runs.{standing-length, step-length}
 use Rattle.claims.proofs.Format.{format-claim}
 use Rattle.claims.proofs.LedgerAnswers.{ledger-reads, ledger-lists, ledger-number, ledger-place, ledger-no-room}

@@ -7,11 +7,11 @@ use native.Mathlib.Omega.{arith}
 use lib.ListN.{length, getD, List·getD-append}
 use lib.Dec.{eqb}
 use Rattle.blocks.specs.Bytes.{blockAt, storeAll}
-use Rattle.blocks.specs.Descriptor.{physical, tableCount, noDescriptor, renamedOf, linkedOf, reopenedOf}
+use Rattle.blocks.specs.Descriptor.{tableCount, noDescriptor, renamedOf, linkedOf, reopenedOf}
 use Rattle.blocks.specs.declared.descriptor.Descriptor.{Descriptor}
 use Rattle.blocks.specs.Chain.{activeOf}
 use Rattle.blocks.proofs.SoundLaws.{form-most, form-layout}
-use Rattle.blocks.proofs.ChainLaws.{cost-least, active-snoc}
+use Rattle.blocks.proofs.ChainLaws.{cost-least, active-snoc, descriptors-are}
 use Rattle.blocks.proofs.LinkedLaws.{RegionAt, regionStart, linked-at, linked-rise, at-alpha, at-long}
 use Rattle.entries.specs.InPlace.{inPlace}
 use Rattle.entries.specs.Entry.{phiAt, tableOf, find}
@@ -23,16 +23,16 @@ use Rattle.calls.specs.Check.{Passes}
 use Rattle.calls.specs.Ladder.{answerOf}
 use Rattle.calls.specs.Effect.{storesOf}
 use Rattle.calls.specs.Step.{step, isAccepted}
+use Rattle.calls.proofs.StepLaws.{accepted-card}
 use Rattle.claims.specs.Ledger.{Volume, ledgerStep, volumeOf, volumesOf, ledgerOf}
 use Rattle.claims.proofs.ChainAfter.{snapshots-snoc}
 use Rattle.claims.proofs.SnappedChain.{snapped-chain}
-use Rattle.claims.proofs.Kept.{descriptors-are}
-use Rattle.claims.proofs.Room.{accepted-card}
-use Rattle.claims.proofs.PassesAfter.{under, own-inside, few-tables, placed-not, same-below}
+use Rattle.claims.proofs.PassesAfter.{same-below}
 use Rattle.claims.proofs.PassesSnapped.{same-entry, placed-longer, block-entry, cut, low, old-phi, new-phi, kept, copied}
 use Rattle.claims.proofs.PassesSnapped.{placed-entry, linked, counted, act-at, act-rules, rules-old, rules-new, rules-first, phi-shared}
 use Rattle.claims.proofs.LedgerNext.{cells-same, volumes-same, volumes-append, ledger-parts}
 use Rattle.claims.proofs.CellEntry.{blockNamed, named-same, cell-rules}
+use Rattle.claims.proofs.ChainBlocks.{placed-apart, own-inside, few-tables, under}
 
 module _ (c name : List ℕ) (pass : Passes c) (e : isAccepted (answerOf (Snap name) c) ≡ true) where
   abbrev ds : List Descriptor
@@ -65,7 +65,7 @@ module _ (c name : List ℕ) (pass : Passes c) (e : isAccepted (answerOf (Snap n
   -- blocks in place of a region that stood before are those of the card before
   block-same : (d : Descriptor) → d .beta .0 ≤ act .beta .0 → (p : ℕ) → inPlace ds d p ≡ true → (p ≡ 0 → ⊥) → blockAt t p ≡ blockAt c p
   block-same d b p h set =
-      kept c name pass e p (λ k. placed-not act name (physical 0) [] p snaps d (subst (λ (zs : List Descriptor). inPlace zs d p ≡ true) (cut c name pass e) h) set (sym k))
+      kept c name pass e p (placed-apart snaps act [] d p (subst (λ (zs : List Descriptor). inPlace zs d p ≡ true) (cut c name pass e) h) set)
       (omega (arith, placed-below ds d p h set, b))
 
   -- the same entry before and after gives the same cell

@@ -4,7 +4,7 @@ use mathlib.Core.Bool.{Bool, true, false, not, _&&_}
 use mathlib.Core.List.{List, [], _∷_, _++_}
 use Prim.Native.Nat.{ℕ, zero, suc, _+_, _-_, _≤_, _<_}
 use native.Mathlib.Omega.{arith}
-use lib.ListN.{length, getD, set, length-append}
+use lib.ListN.{length, getD, set, length-append, List·getD-append}
 use lib.Dec.{eqb, leb}
 use borrow.Author.Tests.{ne-eqb, eqb-true, eqb-false, leb-false}
 use Rattle.blocks.specs.Pick.{pick}
@@ -13,9 +13,10 @@ use Rattle.blocks.specs.Descriptor.{noDescriptor, extendedOf}
 use Rattle.blocks.specs.declared.numbers.Physical.{Physical}
 use Rattle.blocks.specs.declared.descriptor.Descriptor.{Descriptor}
 use Rattle.blocks.specs.Chain.{activeOf}
+use Rattle.blocks.proofs.BoolLaws.{no}
 use Rattle.blocks.proofs.SoundLaws.{form-layout}
 use Rattle.blocks.proofs.LinkedLaws.{linked-at, active-at}
-use Rattle.blocks.proofs.ChainLaws.{active-snoc}
+use Rattle.blocks.proofs.ChainLaws.{active-snoc, descriptors-are}
 use Rattle.entries.specs.Entry.{tableIsNew, need}
 use Rattle.entries.specs.declared.find.Found.{Found}
 use Rattle.entries.specs.declared.find.Found.the-variants.{Misplaced, Entry}
@@ -28,17 +29,16 @@ use Rattle.calls.specs.Check.{Passes}
 use Rattle.calls.specs.Ladder.{writeRows, rowsOf, answerOf}
 use Rattle.calls.specs.Effect.{storesOf}
 use Rattle.calls.specs.Step.{step, isAccepted}
-use Rattle.calls.proofs.RowLaws.{no, rows-passed}
+use Rattle.calls.proofs.RowLaws.{rows-passed}
+use Rattle.calls.proofs.StepLaws.{accepted-card}
 use Rattle.claims.proofs.ChainAfter.{active-split, snapshots-snoc}
 use Rattle.claims.proofs.WrittenChain.{written-chain}
-use Rattle.claims.proofs.Kept.{descriptors-are}
-use Rattle.claims.proofs.Room.{accepted-card}
 use Rattle.claims.proofs.LedgerAnswers.{group-below, linked-of, some-of}
 use Rattle.claims.proofs.PassesWrite.{shared-entry, snapshot-region, write-below, passes-write-by}
 use Rattle.claims.proofs.WriteFacts.{WriteFacts}
 use Rattle.claims.proofs.WriteOwn.{own-none, own-one}
 use Rattle.claims.proofs.WriteNew.{new-two}
-use Rattle.claims.proofs.LedgerNext.{cells-same, volumes-same, get-left, ledger-parts}
+use Rattle.claims.proofs.LedgerNext.{cells-same, volumes-same, ledger-parts}
 use Rattle.claims.proofs.CellEntry.{blockNamed, named-same, cell-entry}
 
 -- what a read gives through a descriptor that stands at k
@@ -102,10 +102,10 @@ module _ (c : List ℕ) (passes : Passes c) (l : ℕ) (block : List ℕ) (ok : i
   count-after = ap length after ∙ length-append xs (x ∷ [])
 
   at-before : (k : ℕ) → k < length xs → getD ds k noDescriptor ≡ getD xs k noDescriptor
-  at-before k h = ap (λ (zs : List Descriptor). getD zs k noDescriptor) split ∙ get-left xs (d ∷ []) k h
+  at-before k h = ap (λ (zs : List Descriptor). getD zs k noDescriptor) split ∙ List·getD-append xs (d ∷ []) noDescriptor k h
 
   at-after : (k : ℕ) → k < length xs → getD (descriptorsOf t) k noDescriptor ≡ getD ds k noDescriptor
-  at-after k h = ap (λ (zs : List Descriptor). getD zs k noDescriptor) after ∙ get-left xs (x ∷ []) k h ∙ sym (at-before k h)
+  at-after k h = ap (λ (zs : List Descriptor). getD zs k noDescriptor) after ∙ List·getD-append xs (x ∷ []) noDescriptor k h ∙ sym (at-before k h)
 
   module _ (facts : WriteFacts c t (xs ++ (x ∷ [])) d x l block) where
     passes-after : Passes t

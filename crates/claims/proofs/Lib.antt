@@ -2,11 +2,12 @@
 pub mod Running
 pub mod Bench
 pub mod Example
-pub mod Edges
+pub mod Areas
 pub mod Rows
 pub mod Local
 pub mod LocalEntries
 pub mod Relinked
+pub mod ChainBlocks
 pub mod Agreement
 pub mod Stored
 pub mod Changed

@@ -1,24 +1,24 @@
 -- Cards that pass check still do after an accepted revert.
 use mathlib.Core.Path.{_≡_, refl, sym, ap, _∙_, subst}
-use mathlib.Core.Bool.{Bool, true, false, not, _&&_, _||_}
+use mathlib.Core.Bool.{Bool, true, false, _||_}
 use mathlib.Core.List.{List, [], _∷_, _++_}
 use Prim.Native.Nat.{ℕ, suc, _+_, _*_, _/_, _%_, _≤_, _<_}
 use native.Mathlib.Omega.{arith}
 use lib.ListN.{length, getD, length-append, List·getD-append}
-use lib.Seq.{getD-append-add}
-use lib.Dec.{eqb, ltb, leb}
-use borrow.Author.Tests.{eq-eqb, ne-eqb, eqb-true, eqb-false, ltb-true, ltb-false}
+use lib.Seq.{getD-append-seam}
+use lib.Dec.{eqb, ltb}
+use borrow.Author.Tests.{eqb-true, eqb-false, ltb-true, ltb-false}
 use Rattle.blocks.specs.Pick.{pick}
 use Rattle.blocks.specs.Bytes.{u32At, part, blockCount, blockAt, storeAll}
-use Rattle.blocks.specs.Descriptor.{physical, tableCount, cost, costOf, noDescriptor, tailAt, descriptorBlock, renamedOf, linkedOf}
-use Rattle.blocks.specs.Chain.{chain, chainSound, Sound, activeOf}
+use Rattle.blocks.specs.Descriptor.{physical, tableCount, noDescriptor, tailAt, descriptorBlock, renamedOf, linkedOf}
+use Rattle.blocks.specs.Chain.{activeOf}
 use Rattle.blocks.specs.declared.numbers.Physical.{Physical}
 use Rattle.blocks.specs.declared.descriptor.Descriptor.{Descriptor}
 use Rattle.blocks.proofs.ByteLaws.{u32-part}
 use Rattle.blocks.proofs.SoundLaws.{form-most, form-layout}
-use Rattle.blocks.proofs.ChainLaws.{cost-least}
+use Rattle.blocks.proofs.ChainLaws.{cost-least, descriptors-are, is-sound}
 use Rattle.blocks.proofs.LinkedLaws.{Linked, RegionAt, regionStart, chain-linked, linked-at, linked-rise, at-alpha, at-long, at-end}
-use Rattle.entries.specs.InPlace.{isDescriptor, isTable, inPlace}
+use Rattle.entries.specs.InPlace.{inPlace}
 use Rattle.entries.specs.Entry.{entryAt, phiAt, tableOf}
 use Rattle.entries.specs.Rules.{entryOf, Rules}
 use Rattle.entries.proofs.EntryLaws.{placed-below}
@@ -28,77 +28,13 @@ use Rattle.calls.specs.Check.{Passes}
 use Rattle.calls.specs.Ladder.{answerOf}
 use Rattle.calls.specs.Effect.{storesOf}
 use Rattle.calls.specs.Step.{step, isAccepted}
-use Rattle.calls.proofs.RowLaws.{no}
+use Rattle.calls.proofs.StepLaws.{accepted-card}
 use Rattle.claims.proofs.Local.{shared-number}
 use Rattle.claims.proofs.Stored.{block-tail, stored-bytes, tail-part}
 use Rattle.claims.proofs.StoreLists.{stored-other}
 use Rattle.claims.proofs.ChainAfter.{before, behind, sound-is, link-inside, one-stored, revert-split, stores-are, whole, fits, tail, block, same-long, reverted-chain}
-use Rattle.claims.proofs.Kept.{descriptors-are}
 use Rattle.claims.proofs.Undone.{area-kept}
-use Rattle.claims.proofs.Room.{accepted-card}
-
--- in place in a chain that ends sooner
-pub or-false : (x y : Bool) → (x || y) ≡ false → (x ≡ false) × (y ≡ false)
-or-false false y h = (refl, h)
-or-false true y h = no (sym h)
-
-pub false-or : (x y : Bool) → x ≡ false → y ≡ false → (x || y) ≡ false
-false-or x y e f = rw (e, f)
-
-placed-by : (z b x y u v : Bool) → (x ≡ false → u ≡ false) → (y ≡ false → v ≡ false) → (z || (b && not (x || y))) ≡ true → (z || (b && not (u || v))) ≡ true
-placed-by true b x y u v f g h = refl
-placed-by false true false false u v f g h = rw (f refl, g refl)
-placed-by false true true y u v f g h = no h
-placed-by false true false true u v f g h = no h
-placed-by false false x y u v f g h = no h
-
--- the descriptors xs, then one with the numbers of v
-module _ (v : Descriptor) (n : List ℕ) (q : Physical) (ys : List Descriptor) (p : ℕ) where
-  abbrev w : Descriptor
-  w = linkedOf (renamedOf v n) q
-
-  shorter-descriptor : (xs : List Descriptor) → isDescriptor (xs ++ (v ∷ ys)) p ≡ false → isDescriptor (xs ++ (w ∷ [])) p ≡ false
-  unfolding isDescriptor
-  shorter-descriptor [] h = false-or (eqb p (v .alpha .0)) false (or-false (eqb p (v .alpha .0)) (isDescriptor ys p) h .0) refl
-  shorter-descriptor (x ∷ xs) h =
-      let g = or-false (eqb p (x .alpha .0)) (isDescriptor (xs ++ (v ∷ ys)) p) h in
-      false-or (eqb p (x .alpha .0)) (isDescriptor (xs ++ (w ∷ [])) p) (g .0) (shorter-descriptor xs (g .1))
-
-  abbrev in-table : Descriptor → Bool
-  in-table x = eqb (x .layout) 1 && ltb (x .alpha .0) p && leb p (x .alpha .0 + tableCount (x .volume))
-
-  shorter-table : (xs : List Descriptor) → isTable (xs ++ (v ∷ ys)) p ≡ false → isTable (xs ++ (w ∷ [])) p ≡ false
-  unfolding isTable
-  shorter-table [] h = false-or (in-table v) false (or-false (in-table v) (isTable ys p) h .0) refl
-  shorter-table (x ∷ xs) h =
-      let g = or-false (in-table x) (isTable (xs ++ (v ∷ ys)) p) h in
-      false-or (in-table x) (isTable (xs ++ (w ∷ [])) p) (g .0) (shorter-table xs (g .1))
-
-  pub placed-shorter : (xs : List Descriptor) (d : Descriptor) → inPlace (xs ++ (v ∷ ys)) d p ≡ true → inPlace (xs ++ (w ∷ [])) d p ≡ true
-  unfolding inPlace
-  placed-shorter xs d h =
-      placed-by (eqb p 0) (ltb p (d .beta .0)) (isDescriptor (xs ++ (v ∷ ys)) p) (isTable (xs ++ (v ∷ ys)) p) (isDescriptor (xs ++ (w ∷ [])) p) (isTable (xs ++ (w ∷ [])) p)
-      (shorter-descriptor xs) (shorter-table xs) h
-
-  -- a block in place is no descriptor of the chain
-  member-not : (xs : List Descriptor) → p ≡ v .alpha .0 → isDescriptor (xs ++ (v ∷ ys)) p ≡ true
-  unfolding isDescriptor
-  member-not [] e = rw (eq-eqb p (v .alpha .0) e)
-  member-not (x ∷ xs) e = or-true (eqb p (x .alpha .0)) (isDescriptor (xs ++ (v ∷ ys)) p) (member-not xs e)
-    where
-      or-true : (x y : Bool) → y ≡ true → (x || y) ≡ true
-      or-true true y h = refl
-      or-true false y h = h
-
-  apart-by : (z b x y : Bool) → z ≡ false → x ≡ true → (z || (b && not (x || y))) ≡ true → ⊥
-  apart-by true b x y e f h = no (sym e)
-  apart-by false b false y e f h = no f
-  apart-by false true true y e f h = no h
-  apart-by false false true y e f h = no h
-
-  pub placed-not : (xs : List Descriptor) (d : Descriptor) → inPlace (xs ++ (v ∷ ys)) d p ≡ true → (p ≡ 0 → ⊥) → p ≡ v .alpha .0 → ⊥
-  unfolding inPlace
-  placed-not xs d h z e = apart-by (eqb p 0) (ltb p (d .beta .0)) (isDescriptor (xs ++ (v ∷ ys)) p) (isTable (xs ++ (v ∷ ys)) p) (ne-eqb p 0 z) (member-not xs e) h
+use Rattle.claims.proofs.ChainBlocks.{fewer-placed, placed-apart, table-own, table-phi, own-inside, few-tables, layout-two, under}
 
 -- the rules of a renamed descriptor
 pub rules-renamed : (c : List ℕ) (ds : List Descriptor) (v : Descriptor) (n : List ℕ) (q : Physical) → Rules c ds v → Rules c ds (linkedOf (renamedOf v n) q)
@@ -116,23 +52,6 @@ rules-renamed c ds v n q r =
     }
 
 -- the same entries on another card
-pub under : (l n : ℕ) → l < n → l < 128 * tableCount n
-unfolding tableCount
-under l n h = omega arith
-
-pub table-own : (c : List ℕ) (d : Descriptor) (i : ℕ) → eqb (d .layout) 1 ≡ true → tableOf c d i ≡ d .alpha .0 + 1 + i
-unfolding tableOf
-table-own c d i e = rw e
-
-pub table-phi : (c : List ℕ) (d : Descriptor) (i : ℕ) → eqb (d .layout) 1 ≡ false → tableOf c d i ≡ phiAt c d i
-unfolding tableOf
-table-phi c d i e = rw e
-
-pub layout-two : (l : ℕ) (x y : Bool) → eqb l 1 ≡ x → eqb l 2 ≡ y → (x || y) ≡ true → x ≡ false → l ≡ 2
-layout-two l true y e f h g = no (sym g)
-layout-two l false true e f h g = eqb-true l 2 f
-layout-two l false false e f h g = no h
-
 module _ (c t : List ℕ) (ds : List Descriptor) (d : Descriptor) (layout : (eqb (d .layout) 1 || eqb (d .layout) 2) ≡ true) (few : tableCount (d .volume) ≤ 112) (r : Rules c ds d)
     (phi : (i : ℕ) → i < 112 → phiAt t d i ≡ phiAt c d i)
     (own : d .layout ≡ 1 → (i : ℕ) → i < tableCount (d .volume) → (j : ℕ) → j < 128 → entryAt t (d .alpha .0 + 1 + i) j ≡ entryAt c (d .alpha .0 + 1 + i) j)
@@ -146,7 +65,7 @@ module _ (c t : List ℕ) (ds : List Descriptor) (d : Descriptor) (layout : (eqb
   entry-by i j h k true false e q = rw (table-own c d i e) (own (eqb-true (d .layout) 1 e) i h j k)
   entry-by i j h k false false e q =
       rw (table-phi c d i e)
-      (placed (phiAt c d i) (r .phi (layout-two (d .layout) (eqb (d .layout) 1) (eqb (d .layout) 2) refl refl layout e) .in-place i h) (λ z. eqb-false (tableOf c d i) 0 q (table-phi c d i e ∙ z)) j k)
+      (placed (phiAt c d i) (r .phi (layout-two (d .layout) layout e) .in-place i h) (λ z. eqb-false (tableOf c d i) 0 q (table-phi c d i e ∙ z)) j k)
 
   same-entry : (l : ℕ) → l < 128 * tableCount (d .volume) → entryOf t d l ≡ entryOf c d l
   unfolding entryOf
@@ -179,25 +98,8 @@ module _ (c t : List ℕ) (ds : List Descriptor) (d : Descriptor) (layout : (eqb
         };
       }
 
-pub own-inside : (d : Descriptor) (a b : ℕ) → d .layout ≡ 1 → a + costOf d ≤ b → a + tableCount (d .volume) < b
-unfolding cost
-own-inside d a b e h = let q : a + (1 + tableCount (d .volume)) ≤ b = rw (eq-eqb (d .layout) 1 e) at h in omega arith
-
-pub few-tables : (v : ℕ) → v ≤ 14336 → tableCount v ≤ 112
-unfolding tableCount
-few-tables v h = omega arith
-
 pub number-of : (b : List ℕ) (at : ℕ) → u32At (part b at 4) 0 ≡ u32At b at
 number-of b at = let e : at + 0 ≡ at = omega arith in subst (λ (n : ℕ). u32At (part b at 4) 0 ≡ u32At b n) e (u32-part b at 4 0 (omega arith))
-
-pub get-mid : (xs : List Descriptor) (v : Descriptor) (ys : List Descriptor) → getD (xs ++ (v ∷ ys)) (length xs) noDescriptor ≡ v
-get-mid xs v ys =
-    let e : length xs ≡ length xs + 0 = omega arith in
-    ap (λ (k : ℕ). getD (xs ++ (v ∷ ys)) k noDescriptor) e ∙ getD-append-add xs (v ∷ ys) 0 noDescriptor
-
-pub sound-by : (c : List ℕ) (ds : List Descriptor) → chain c ≡ Sound ds → chainSound (chain c) ≡ true
-unfolding chainSound
-sound-by c ds e = ap chainSound e
 
 -- a revert
 module _ (c name : List ℕ) (pass : Passes c) (e : isAccepted (answerOf (Revert name) c) ≡ true) where
@@ -272,10 +174,10 @@ module _ (c name : List ℕ) (pass : Passes c) (e : isAccepted (answerOf (Revert
       rules-moved c t ds d (form-layout c p d (r .form)) (few-tables (d .volume) (form-most c p d (r .form))) rule phi
       (λ one i h j l. kept-entry (d .alpha .0 + 1 + i) j (apart one i h) (omega (arith, own-inside d p end one (at-long c p end d r), at-alpha c p end d r, at-end c p end d r)) l)
       (λ m q z j l. kept-entry m j
-      (λ k. placed-not old (activeOf (descriptorsOf c) .name) (physical 0) ys m xs d (subst (λ (zs : List Descriptor). inPlace zs d m ≡ true) split q) z (sym k))
+      (placed-apart xs old ys d m (subst (λ (zs : List Descriptor). inPlace zs d m ≡ true) split q) z)
       (omega (arith, placed-below ds d m q z, r .beta, at-end c p end d r)) l)
       es
-      (λ q h. placed-shorter old (activeOf (descriptorsOf c) .name) (physical 0) ys q xs d (subst (λ (zs : List Descriptor). inPlace zs d q ≡ true) split h))
+      (λ q h. fewer-placed old made ys refl refl refl q xs d d refl (subst (λ (zs : List Descriptor). inPlace zs d q ≡ true) split h))
 
   linked : Linked c [] 0 ds
   linked = chain-linked c ds (sound-is c (pass .area) (pass .sound))
@@ -284,7 +186,7 @@ module _ (c name : List ℕ) (pass : Passes c) (e : isAccepted (answerOf (Revert
   counted = omega (arith, ap length split, length-append xs (old ∷ ys))
 
   old-is : getD ds (length xs) noDescriptor ≡ old
-  old-is = ap (λ (zs : List Descriptor). getD zs (length xs) noDescriptor) split ∙ get-mid xs old ys
+  old-is = ap (λ (zs : List Descriptor). getD zs (length xs) noDescriptor) split ∙ getD-append-seam xs old ys noDescriptor
 
   old-at : RegionAt c (regionStart 0 ds (length xs)) (regionStart 0 ds (suc (length xs))) old
   old-at = subst (λ (d : Descriptor). RegionAt c (regionStart 0 ds (length xs)) (regionStart 0 ds (suc (length xs))) d) old-is (linked-at linked (length xs) counted)
@@ -315,7 +217,7 @@ module _ (c name : List ℕ) (pass : Passes c) (e : isAccepted (answerOf (Revert
       subst (λ (x : Descriptor). Rules t es x) (sym (List·getD-append xs (made ∷ []) noDescriptor k l)) (rules-first k l)
   rules-by k h false q =
       let is : k ≡ length xs = omega (arith, ltb-false k (length xs) q, length-append xs (made ∷ [])) in
-      subst (λ (x : Descriptor). Rules t es x) (sym (ap (λ (n : ℕ). getD es n noDescriptor) is ∙ get-mid xs made [])) rules-last
+      subst (λ (x : Descriptor). Rules t es x) (sym (ap (λ (n : ℕ). getD es n noDescriptor) is ∙ getD-append-seam xs made [] noDescriptor)) rules-last
 
   reverted-rules : (k : ℕ) → k < length (descriptorsOf t) → Rules t (descriptorsOf t) (getD (descriptorsOf t) k noDescriptor)
   reverted-rules =
@@ -323,7 +225,7 @@ module _ (c name : List ℕ) (pass : Passes c) (e : isAccepted (answerOf (Revert
       (λ k h. rules-by k h (ltb k (length xs)) refl)
 
   passes-stored : Passes t
-  passes-stored = record { area = sym (area-kept c t long) ∙ pass .area; sound = sound-by t es (reverted-chain c name e); rules = reverted-rules }
+  passes-stored = record { area = sym (area-kept c t long) ∙ pass .area; sound = is-sound t es (reverted-chain c name e); rules = reverted-rules }
 
 pub passes-revert : (c name : List ℕ) → Passes c → isAccepted (answerOf (Revert name) c) ≡ true → Passes (step (Revert name) c .card)
 passes-revert c name pass e = subst (λ (x : List ℕ). Passes x) (sym (accepted-card (Revert name) c e)) (passes-stored c name pass e)

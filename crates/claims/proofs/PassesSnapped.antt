@@ -5,19 +5,20 @@ use mathlib.Core.List.{List, [], _∷_, _++_}
 use Prim.Native.Nat.{ℕ, suc, _+_, _*_, _-_, _/_, _%_, _≤_, _<_}
 use native.Mathlib.Omega.{arith}
 use lib.ListN.{length, getD, length-append, List·getD-append}
-use lib.Seq.{getD-append-add}
+use lib.Seq.{getD-append-add, getD-append-seam}
 use lib.Dec.{eqb, ltb, leb}
 use borrow.Author.Tests.{eq-eqb, ne-eqb, le-ltb, lt-ltb, eqb-true, eqb-false, ltb-true, ltb-false}
 use Rattle.blocks.specs.Pick.{pick}
 use Rattle.blocks.specs.Bytes.{u32At, blockAt, Store, store, storeAll}
-use Rattle.blocks.specs.Descriptor.{physical, tableCount, cost, costOf, noDescriptor, tailAt, descriptorBlock, renamedOf, linkedOf, reopenedOf, copying}
+use Rattle.blocks.specs.Descriptor.{tableCount, cost, costOf, noDescriptor, tailAt, descriptorBlock, renamedOf, linkedOf, reopenedOf, copying}
 use Rattle.blocks.specs.declared.numbers.Physical.{Physical}
 use Rattle.blocks.specs.declared.descriptor.Descriptor.{Descriptor}
 use Rattle.blocks.specs.Chain.{activeOf}
+use Rattle.blocks.proofs.BoolLaws.{no, or-false-both, false-or}
 use Rattle.blocks.proofs.ByteLaws.{u32-part}
 use Rattle.blocks.proofs.DescriptorLaws.{Fits}
 use Rattle.blocks.proofs.SoundLaws.{form-most, form-layout}
-use Rattle.blocks.proofs.ChainLaws.{cost-least}
+use Rattle.blocks.proofs.ChainLaws.{cost-least, descriptors-are, is-sound}
 use Rattle.blocks.proofs.LinkedLaws.{Linked, RegionAt, regionStart, chain-linked, linked-at, linked-rise, at-alpha, at-long}
 use Rattle.entries.specs.InPlace.{isDescriptor, isTable, inPlace}
 use Rattle.entries.specs.Entry.{entryAt, phiAt, tableOf}
@@ -29,18 +30,16 @@ use Rattle.calls.specs.Check.{Passes}
 use Rattle.calls.specs.Ladder.{answerOf}
 use Rattle.calls.specs.Effect.{storesOf}
 use Rattle.calls.specs.Step.{step, isAccepted}
-use Rattle.calls.proofs.RowLaws.{no}
 use Rattle.claims.proofs.Local.{shared-number}
 use Rattle.claims.proofs.Stored.{block-tail, stored-bytes, tail-part}
-use Rattle.calls.proofs.StepLaws.{stored-append}
+use Rattle.calls.proofs.StepLaws.{stored-append, accepted-card}
 use Rattle.claims.proofs.StoreLists.{Whole, none, also, isStored, stored-join, stored-length, stored-other}
 use Rattle.claims.proofs.ChainAfter.{sound-is, copies-stored}
 use Rattle.claims.proofs.SnappedChain.{snap-rows, stores-are, whole, d-low, room-bytes, old-fits, new-fits, old-long, new-long, new-inside, d-inside, copies-whole, old-block, new-block, tail-whole, same-long, split, snapped-chain}
 use Rattle.claims.proofs.AlgorithmLaws.{copied-in}
-use Rattle.claims.proofs.Kept.{descriptors-are}
 use Rattle.claims.proofs.Undone.{area-kept}
-use Rattle.claims.proofs.Room.{accepted-card}
-use Rattle.claims.proofs.PassesAfter.{or-false, false-or, under, table-own, table-phi, layout-two, own-inside, few-tables, number-of, get-mid, sound-by, placed-not, rules-renamed, rules-moved}
+use Rattle.claims.proofs.PassesAfter.{number-of, rules-renamed, rules-moved}
+use Rattle.claims.proofs.ChainBlocks.{placed-apart, table-own, table-phi, own-inside, few-tables, under, layout-two}
 
 and-mid : (x y z : Bool) → y ≡ false → (x && y && z) ≡ false
 and-mid true false z e = refl
@@ -65,18 +64,18 @@ module _ (v : Descriptor) (n : List ℕ) (q : Physical) (w : Descriptor) (p : �
   longer-descriptor : p < w .alpha .0 → (xs : List Descriptor) → isDescriptor (xs ++ (v ∷ [])) p ≡ false → isDescriptor (xs ++ (was ∷ w ∷ [])) p ≡ false
   unfolding isDescriptor
   longer-descriptor l [] h =
-      false-or (eqb p (v .alpha .0)) (eqb p (w .alpha .0) || false) (or-false (eqb p (v .alpha .0)) false h .0) (false-or (eqb p (w .alpha .0)) false (ne-eqb p (w .alpha .0) (λ k. omega (arith, l, k))) refl)
+      false-or (eqb p (v .alpha .0)) (eqb p (w .alpha .0) || false) (or-false-both (eqb p (v .alpha .0)) false h .0) (false-or (eqb p (w .alpha .0)) false (ne-eqb p (w .alpha .0) (λ k. omega (arith, l, k))) refl)
   longer-descriptor l (x ∷ xs) h =
-      let g = or-false (eqb p (x .alpha .0)) (isDescriptor (xs ++ (v ∷ [])) p) h in
+      let g = or-false-both (eqb p (x .alpha .0)) (isDescriptor (xs ++ (v ∷ [])) p) h in
       false-or (eqb p (x .alpha .0)) (isDescriptor (xs ++ (was ∷ w ∷ [])) p) (g .0) (longer-descriptor l xs (g .1))
 
   longer-table : p < w .alpha .0 → (xs : List Descriptor) → isTable (xs ++ (v ∷ [])) p ≡ false → isTable (xs ++ (was ∷ w ∷ [])) p ≡ false
   unfolding isTable
   longer-table l [] h =
-      false-or (in-table v) (in-table w || false) (or-false (in-table v) false h .0)
+      false-or (in-table v) (in-table w || false) (or-false-both (in-table v) false h .0)
       (false-or (in-table w) false (and-mid (eqb (w .layout) 1) (ltb (w .alpha .0) p) (leb p (w .alpha .0 + tableCount (w .volume))) (le-ltb (w .alpha .0) p (omega (arith, l)))) refl)
   longer-table l (x ∷ xs) h =
-      let g = or-false (in-table x) (isTable (xs ++ (v ∷ [])) p) h in
+      let g = or-false-both (in-table x) (isTable (xs ++ (v ∷ [])) p) h in
       false-or (in-table x) (isTable (xs ++ (was ∷ w ∷ [])) p) (g .0) (longer-table l xs (g .1))
 
   pub placed-longer : (xs : List Descriptor) (d x : Descriptor) → d .beta .0 ≤ w .alpha .0 → d .beta .0 ≤ x .beta .0 → inPlace (xs ++ (v ∷ [])) d p ≡ true → inPlace (xs ++ (was ∷ w ∷ [])) x p ≡ true
@@ -105,7 +104,7 @@ module _ (c s : List ℕ) (ds es : List Descriptor) (d : Descriptor) (layout : (
   new-by i j h k false true e q = rw (table-phi s new i e, table-phi c d i e, same-phi i h, q)
   new-by i j h k false false e q =
       rw (table-phi s new i e, table-phi c d i e, same-phi i h, q)
-      (placed (phiAt c d i) (r .phi (layout-two (d .layout) (eqb (d .layout) 1) (eqb (d .layout) 2) refl refl layout e) .in-place i h) (eqb-false (phiAt c d i) 0 q) j k)
+      (placed (phiAt c d i) (r .phi (layout-two (d .layout) layout e) .in-place i h) (eqb-false (phiAt c d i) 0 q) j k)
 
   pub same-entry : (l : ℕ) → l < 128 * tableCount (d .volume) → entryOf s new l ≡ entryOf c d l
   unfolding entryOf
@@ -250,7 +249,7 @@ module _ (c name : List ℕ) (pass : Passes c) (e : isAccepted (answerOf (Snap n
   pub placed-entry : (d : Descriptor) → d .beta .0 ≤ top → (m : ℕ) → inPlace chn d m ≡ true → (m ≡ 0 → ⊥) → (j : ℕ) → j < 128 → entryAt t m j ≡ entryAt c m j
   placed-entry d b m q z j l =
       block-entry t c m m j
-      (kept m (λ k. placed-not act name (physical 0) [] m snaps d (subst (λ (zs : List Descriptor). inPlace zs d m ≡ true) cut q) z (sym k)) (omega (arith, placed-below chn d m q z, b))) l
+      (kept m (placed-apart snaps act [] d m (subst (λ (zs : List Descriptor). inPlace zs d m ≡ true) cut q) z) (omega (arith, placed-below chn d m q z, b))) l
 
   moved : (d : Descriptor) (p end : ℕ) → RegionAt c p end d → end ≤ top → Rules c chn d → ((i : ℕ) → i < 112 → phiAt t d i ≡ phiAt c d i)
       → (d .layout ≡ 1 → (i : ℕ) → i < tableCount (d .volume) → base ≡ d .alpha .0 + 1 + i → ⊥) → Rules t then-chain d
@@ -268,7 +267,7 @@ module _ (c name : List ℕ) (pass : Passes c) (e : isAccepted (answerOf (Snap n
   counted = omega (arith, ap length cut, length-append snaps (act ∷ []))
 
   act-is : getD chn (length snaps) noDescriptor ≡ act
-  act-is = ap (λ (zs : List Descriptor). getD zs (length snaps) noDescriptor) cut ∙ get-mid snaps act []
+  act-is = ap (λ (zs : List Descriptor). getD zs (length snaps) noDescriptor) cut ∙ getD-append-seam snaps act [] noDescriptor
 
   pub act-at : RegionAt c (regionStart 0 chn (length snaps)) (regionStart 0 chn (suc (length snaps))) act
   act-at = subst (λ (d : Descriptor). RegionAt c (regionStart 0 chn (length snaps)) (regionStart 0 chn (suc (length snaps))) d) act-is (linked-at linked (length snaps) counted)
@@ -314,7 +313,7 @@ module _ (c name : List ℕ) (pass : Passes c) (e : isAccepted (answerOf (Snap n
       let l = ltb-true k (length snaps) q in
       subst (λ (x : Descriptor). Rules t then-chain x) (sym (List·getD-append snaps (old ∷ opened ∷ []) noDescriptor k l)) (rules-first k l)
   rules-by k h false true q u =
-      subst (λ (x : Descriptor). Rules t then-chain x) (sym (ap (λ (n : ℕ). getD then-chain n noDescriptor) (eqb-true k (length snaps) u) ∙ get-mid snaps old (opened ∷ []))) rules-old
+      subst (λ (x : Descriptor). Rules t then-chain x) (sym (ap (λ (n : ℕ). getD then-chain n noDescriptor) (eqb-true k (length snaps) u) ∙ getD-append-seam snaps old (opened ∷ []) noDescriptor)) rules-old
   rules-by k h false false q u =
       let is : k ≡ length snaps + 1 = omega (arith, ltb-false k (length snaps) q, eqb-false k (length snaps) u, length-append snaps (old ∷ opened ∷ [])) in
       subst (λ (x : Descriptor). Rules t then-chain x) (sym (ap (λ (n : ℕ). getD then-chain n noDescriptor) is ∙ getD-append-add snaps (old ∷ opened ∷ []) 1 noDescriptor)) rules-new
@@ -325,7 +324,7 @@ module _ (c name : List ℕ) (pass : Passes c) (e : isAccepted (answerOf (Snap n
       (λ k h. rules-by k h (ltb k (length snaps)) (eqb k (length snaps)) refl refl)
 
   passes-stored : Passes t
-  passes-stored = record { area = sym (area-kept c t long) ∙ pass .area; sound = sound-by t then-chain (snapped-chain c name e); rules = snapped-rules }
+  passes-stored = record { area = sym (area-kept c t long) ∙ pass .area; sound = is-sound t then-chain (snapped-chain c name e); rules = snapped-rules }
 
 pub passes-snap : (c name : List ℕ) → Passes c → isAccepted (answerOf (Snap name) c) ≡ true → Passes (step (Snap name) c .card)
 passes-snap c name pass e = subst (λ (x : List ℕ). Passes x) (sym (accepted-card (Snap name) c e)) (passes-stored c name pass e)

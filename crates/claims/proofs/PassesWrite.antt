@@ -12,8 +12,10 @@ use borrow.Author.Tests.{ne-eqb, eqb-true, eqb-false, ltb-true, ltb-false, lt-lt
 use Rattle.blocks.specs.Pick.{pick}
 use Rattle.blocks.specs.Bytes.{blockCount, blockAt, storeAll}
 use Rattle.blocks.specs.Chain.{Sound, chain, chainSound, activeOf}
+use Rattle.blocks.proofs.BoolLaws.{no, and-false}
 use Rattle.blocks.proofs.SoundLaws.{form-layout}
 use Rattle.blocks.proofs.LinkedLaws.{Linked, chain-linked, linked-some, linked-at, linked-rise, at-alpha, active-at}
+use Rattle.blocks.proofs.ChainLaws.{descriptors-are}
 use Rattle.blocks.specs.Descriptor.{extendedOf, tableCount, noDescriptor}
 use Rattle.blocks.specs.declared.descriptor.Descriptor.{Descriptor}
 use Rattle.entries.specs.InPlace.{isDescriptor, isTable, inPlace}
@@ -28,16 +30,16 @@ use Rattle.calls.specs.Effect.{storesOf}
 use Rattle.calls.specs.Step.{step, isAccepted}
 use Rattle.claims.specs.History.{betaOf}
 use Rattle.calls.proofs.CardLaws.{chain-is}
-use Rattle.calls.proofs.RowLaws.{no}
+use Rattle.calls.proofs.StepLaws.{accepted-card}
 use Rattle.claims.proofs.Agreement.{agree-region}
 use Rattle.claims.proofs.StoreLists.{isStored, stored-length, stored-other}
 use Rattle.claims.proofs.Frame.{stores-inside}
 use Rattle.claims.proofs.ChainAfter.{active-split}
 use Rattle.claims.proofs.WrittenChain.{active-rise, active-inside, written-chain}
-use Rattle.claims.proofs.Kept.{writing-above, descriptors-are}
-use Rattle.claims.proofs.Room.{accepted-card}
+use Rattle.claims.proofs.Kept.{writing-above}
 use Rattle.claims.proofs.Local.{shared-number, Below}
 use Rattle.claims.proofs.LocalEntries.{Region, local-entry, local-phi, local-table}
+use Rattle.claims.proofs.ChainBlocks.{table-two, under}
 
 -- the blocks of descriptors and of layout 1 tables are the same where the last region is longer
 pub extended-descriptor : (xs : List Descriptor) (d : Descriptor) (k p : ℕ) → isDescriptor (xs ++ (extendedOf d k ∷ [])) p ≡ isDescriptor (xs ++ (d ∷ [])) p
@@ -70,16 +72,12 @@ extended-stays xs d k p h =
 -- the rules depend on the entries and on what is in place
 module _ (s t : List ℕ) (ds es : List Descriptor) (d : Descriptor) (few : tableCount (d .volume) ≤ 112) (wider : (p : ℕ) → inPlace ds d p ≡ true → inPlace es d p ≡ true)
     (phi : (i : ℕ) → i < 112 → phiAt s d i ≡ phiAt t d i) (entry : (l : ℕ) → l < 128 * tableCount (d .volume) → entryOf s d l ≡ entryOf t d l) where
-  volume-inside : (l : ℕ) → l < d .volume → l < 128 * tableCount (d .volume)
-  unfolding tableCount
-  volume-inside l h = omega arith
-
   same-table : (i : ℕ) → i < 112 → tableOf s d i ≡ tableOf t d i
   unfolding tableOf
   same-table i h = rw (phi i h)
 
   group-few : (l : ℕ) → l < d .volume → l / 128 < 112
-  group-few l h = omega (arith, volume-inside l h, few)
+  group-few l h = omega (arith, under l (d .volume) h, few)
 
   phi-rules : PhiRules s ds d → PhiRules t es d
   phi-rules r =
@@ -87,17 +85,17 @@ module _ (s t : List ℕ) (ds es : List Descriptor) (d : Descriptor) (few : tabl
         in-place = λ i h. rw (← phi i (omega (arith, few))) (wider (phiAt s d i) (r .in-place i h));
         past-n = λ i h k. sym (phi i k) ∙ r .past-n i h k;
         once = λ i k h g e n. r .once i k h g (phi i (omega (arith, few)) ∙ e ∙ sym (phi k (omega (arith, few)))) (λ z. n (sym (phi i (omega (arith, few))) ∙ z));
-        tables-and-entries = λ i l h g e. sym (phi i (omega (arith, few))) ∙ r .tables-and-entries i l h g (phi i (omega (arith, few)) ∙ e ∙ sym (entry l (volume-inside l g)));
+        tables-and-entries = λ i l h g e. sym (phi i (omega (arith, few))) ∙ r .tables-and-entries i l h g (phi i (omega (arith, few)) ∙ e ∙ sym (entry l (under l (d .volume) g)));
         table-above = λ l h g n. subst (λ (m : ℕ). d .alpha .0 ≤ m) (same-table (l / 128) (group-few l h))
-            (r .table-above l h (subst (λ (m : ℕ). d .alpha .0 ≤ m) (sym (entry l (volume-inside l h))) g) (λ z. n (sym (entry l (volume-inside l h)) ∙ z)));
+            (r .table-above l h (subst (λ (m : ℕ). d .alpha .0 ≤ m) (sym (entry l (under l (d .volume) h))) g) (λ z. n (sym (entry l (under l (d .volume) h)) ∙ z)));
       }
 
   table-rules : TableRules s ds d → TableRules t es d
   table-rules r =
       record {
-        in-place = λ l h. rw (← entry l (volume-inside l h)) (wider (entryOf s d l) (r .in-place l h));
+        in-place = λ l h. rw (← entry l (under l (d .volume) h)) (wider (entryOf s d l) (r .in-place l h));
         past-volume = λ l h k. sym (entry l k) ∙ r .past-volume l h k;
-        once = λ l k h g e n. r .once l k h g (entry l (volume-inside l h) ∙ e ∙ sym (entry k (volume-inside k g))) (λ z. n (sym (entry l (volume-inside l h)) ∙ z));
+        once = λ l k h g e n. r .once l k h g (entry l (under l (d .volume) h) ∙ e ∙ sym (entry k (under k (d .volume) g))) (λ z. n (sym (entry l (under l (d .volume) h)) ∙ z));
       }
 
   pub same-rules : Rules s ds d → Rules t es d
@@ -129,11 +127,7 @@ module _ (s t : List ℕ) (b : ℕ) (below : Below s t b) (d : Descriptor) (regi
 
 -- no block at or above the end of all regions is a descriptor or a layout 1 table block
 no-own : (d : Descriptor) (b q : ℕ) → Region d b → b ≤ q → (o : Bool) → eqb (d .layout) 1 ≡ o → (o && ltb (d .alpha .0) q && leb q (d .alpha .0 + tableCount (d .volume))) ≡ false
-no-own d b q r h true e = rw (lt-leb q (d .alpha .0 + tableCount (d .volume)) (omega (arith, r .own (eqb-true (d .layout) 1 e), r .upto))) (and-none (ltb (d .alpha .0) q))
-  where
-    and-none : (a : Bool) → (a && false) ≡ false
-    and-none true = refl
-    and-none false = refl
+no-own d b q r h true e = rw (lt-leb q (d .alpha .0 + tableCount (d .volume)) (omega (arith, r .own (eqb-true (d .layout) 1 e), r .upto))) (and-false (ltb (d .alpha .0) q))
 no-own d b q r h false e = refl
 
 descriptors-above : (ds : List Descriptor) (b q : ℕ) → b ≤ q → ((k : ℕ) → k < length ds → Region (getD ds k noDescriptor) b) → isDescriptor ds q ≡ false
@@ -278,13 +272,9 @@ module _ (c : List ℕ) (passes : Passes c) (l : ℕ) (block : List ℕ) (ok : i
 module _ (c t : List ℕ) (ds es : List Descriptor) (d : Descriptor) (k : ℕ) (wider : (p : ℕ) → inPlace ds d p ≡ true → inPlace es (extendedOf d k) p ≡ true) (l q : ℕ) (inside : l < d .volume)
     (new : inPlace es (extendedOf d k) q ≡ true) (fresh : d .beta .0 ≤ q) (set : entryOf t (extendedOf d k) l ≡ q)
     (other : (i : ℕ) → i < 128 * tableCount (d .volume) → (i ≡ l → ⊥) → entryOf t (extendedOf d k) i ≡ entryOf c d i) (rules : TableRules c ds d) where
-  in-tables : (i : ℕ) → i < d .volume → i < 128 * tableCount (d .volume)
-  unfolding tableCount
-  in-tables i h = omega arith
-
   set-placed : (i : ℕ) → i < d .volume → (b : Bool) → eqb i l ≡ b → inPlace es (extendedOf d k) (entryOf t (extendedOf d k) i) ≡ true
   set-placed i h true e = subst (λ (n : ℕ). inPlace es (extendedOf d k) n ≡ true) (sym (ap (λ (n : ℕ). entryOf t (extendedOf d k) n) (eqb-true i l e) ∙ set)) new
-  set-placed i h false e = subst (λ (n : ℕ). inPlace es (extendedOf d k) n ≡ true) (sym (other i (in-tables i h) (eqb-false i l e))) (wider (entryOf c d i) (rules .in-place i h))
+  set-placed i h false e = subst (λ (n : ℕ). inPlace es (extendedOf d k) n ≡ true) (sym (other i (under i (d .volume) h) (eqb-false i l e))) (wider (entryOf c d i) (rules .in-place i h))
 
   -- an entry that stays is no block at or above beta
   old-other : (i : ℕ) → i < d .volume → entryOf c d i ≡ q → (q ≡ 0 → ⊥) → ⊥
@@ -295,13 +285,13 @@ module _ (c t : List ℕ) (ds es : List Descriptor) (d : Descriptor) (k : ℕ) (
   set-once i j h g e n true true u v = eqb-true i l u ∙ sym (eqb-true j l v)
   set-once i j h g e n true false u v =
       let w : entryOf t (extendedOf d k) i ≡ q = ap (λ (n : ℕ). entryOf t (extendedOf d k) n) (eqb-true i l u) ∙ set in
-      absurd (old-other j g (sym (other j (in-tables j g) (eqb-false j l v)) ∙ sym e ∙ w) (λ z. n (w ∙ z)))
+      absurd (old-other j g (sym (other j (under j (d .volume) g) (eqb-false j l v)) ∙ sym e ∙ w) (λ z. n (w ∙ z)))
   set-once i j h g e n false true u v =
       let w : entryOf t (extendedOf d k) j ≡ q = ap (λ (n : ℕ). entryOf t (extendedOf d k) n) (eqb-true j l v) ∙ set in
-      absurd (old-other i h (sym (other i (in-tables i h) (eqb-false i l u)) ∙ e ∙ w) (λ z. n (e ∙ w ∙ z)))
+      absurd (old-other i h (sym (other i (under i (d .volume) h) (eqb-false i l u)) ∙ e ∙ w) (λ z. n (e ∙ w ∙ z)))
   set-once i j h g e n false false u v =
-      let y = other i (in-tables i h) (eqb-false i l u) in
-      let w = other j (in-tables j g) (eqb-false j l v) in
+      let y = other i (under i (d .volume) h) (eqb-false i l u) in
+      let w = other j (under j (d .volume) g) (eqb-false j l v) in
       rules .once i j h g (sym y ∙ e ∙ w) (λ z. n (y ∙ z))
 
   pub set-table-rules : TableRules t es (extendedOf d k)
@@ -311,10 +301,6 @@ module _ (c t : List ℕ) (ds es : List Descriptor) (d : Descriptor) (k : ℕ) (
         past-volume = λ i h g. other i g (λ z. omega (arith, z)) ∙ rules .past-volume i h g;
         once = λ i j h g e n. set-once i j h g e n (eqb i l) (eqb j l) refl refl;
       }
-
-count-inside : (v j : ℕ) → j < v → j < 128 * tableCount v
-unfolding tableCount
-count-inside v j h = omega arith
 
 -- Phi's own rules where its entry g is as it was or names a block at or above beta, and the others stay
 module _ (c t : List ℕ) (ds es : List Descriptor) (d : Descriptor) (k : ℕ) (wider : (p : ℕ) → inPlace ds d p ≡ true → inPlace es (extendedOf d k) p ≡ true) (g : ℕ) (inside : g < tableCount (d .volume)) (few : tableCount (d .volume) ≤ 112)
@@ -361,19 +347,12 @@ module _ (c t : List ℕ) (ds es : List Descriptor) (d : Descriptor) (k : ℕ) (
     both-by i j h u e false false v w (inr a) =
         absurd (omega (arith, a .1, e, other j u (eqb-false j l v), placed-below ds d (entryOf c d j) (tables .in-place j u) (eqb-false (entryOf c d j) 0 w)))
 
-    two-table : (s : List ℕ) (y : Descriptor) (i : ℕ) → y .layout ≡ 2 → tableOf s y i ≡ phiAt s y i
-    unfolding tableOf
-    two-table s y i e = rw (ne-eqb (y .layout) 1 (λ z. omega (arith, z, e)))
-
     kept-above : (i : ℕ) → d .alpha .0 ≤ tableOf c d i → (phiAt t (extendedOf d k) i ≡ phiAt c d i) ⊎ New i → d .alpha .0 ≤ tableOf t (extendedOf d k) i
-    kept-above i h (inl a) = omega (arith, h, a, two-table c d i two, two-table t (extendedOf d k) i two)
-    kept-above i h (inr a) = omega (arith, a .1, low, two-table t (extendedOf d k) i two)
+    kept-above i h (inl a) = omega (arith, h, a, table-two c d i two, table-two t (extendedOf d k) i two)
+    kept-above i h (inr a) = omega (arith, a .1, low, table-two t (extendedOf d k) i two)
 
     few-group : (j : ℕ) → j < d .volume → j / 128 < 112
-    few-group j h = omega (arith, few, group-in j h)
-      where
-        group-in : (j : ℕ) → j < d .volume → j < 128 * tableCount (d .volume)
-        group-in j h = count-inside (d .volume) j h
+    few-group j h = omega (arith, few, under j (d .volume) h)
 
     above-by : (j : ℕ) → j < d .volume → d .alpha .0 ≤ entryOf t (extendedOf d k) j → (entryOf t (extendedOf d k) j ≡ 0 → ⊥) → (b : Bool) → eqb j l ≡ b → d .alpha .0 ≤ tableOf t (extendedOf d k) (j / 128)
     above-by j h u n true v = subst (λ (i : ℕ). d .alpha .0 ≤ tableOf t (extendedOf d k) (i / 128)) (sym (eqb-true j l v)) own

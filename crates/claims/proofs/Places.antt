@@ -15,6 +15,7 @@ use Rattle.blocks.specs.Descriptor.{physical, descriptorAt}
 use Rattle.blocks.specs.Chain.{sound, Chain, Unsound, Sound, chainFrom, chain, chainSound, chainPlace, named, activeOf}
 use Rattle.blocks.specs.declared.descriptor.Descriptor.{Descriptor}
 use Rattle.blocks.proofs.Tests.{and-left, and-right}
+use Rattle.blocks.proofs.BoolLaws.{no}
 use Rattle.blocks.proofs.SoundLaws.{form-layout}
 use Rattle.blocks.proofs.LinkedLaws.{chain-linked, linked-some, linked-at}
 use Rattle.entries.specs.InPlace.{inPlace}
@@ -27,9 +28,10 @@ use Rattle.calls.specs.Call.{Call, Ream, Read, Write, Snap, Revert, Listing, Ch
 use Rattle.calls.specs.Parts.{areaBad, descriptorsOf, snapshotsOf, isSnapshot, targetOf, foundThrough, isMisplaced, holderOf}
 use Rattle.calls.specs.Ladder.{Row, row, areaRow, nameRow, blockRow, chainRow, volumeRow, firstRow, reamRows, readRows, writeRows, snapRows, revertRows, listRows, checkRows, rowsOf, answerOf}
 use Rattle.claims.specs.Claims.{FirstUnsound, here, past, on, Chained, last, link, comesToChain, ChainClaim, Stray, phi, named-table, own-table, PlaceClaim}
-use Rattle.calls.proofs.RowLaws.{no, fresh, fresh-never}
+use Rattle.calls.proofs.RowLaws.{fresh, fresh-never}
 use Rattle.calls.proofs.CardLaws.{chain-is}
 use Rattle.claims.proofs.Agreement.{target-member}
+use Rattle.claims.proofs.ChainBlocks.{layout-two}
 
 -- no row of a list holds
 unfoldable clear : List Row → Bool
@@ -240,9 +242,6 @@ module _ (c : List ℕ) (d : Descriptor) (l : ℕ) where
   abbrev o : ℕ
   o = d .alpha .0 + 1 + l / 128
 
-  layout-two : (eqb (d .layout) 1 || eqb (d .layout) 2) ≡ true → eqb (d .layout) 1 ≡ false → d .layout ≡ 2
-  layout-two form e = eqb-true (d .layout) 2 (rw e at form)
-
   -- through Phi
   phi-by : (h : ℕ) → d .layout ≡ 2 → (i z : Bool) → inPlace ds d f ≡ i → eqb f 0 ≡ z
       → isMisplaced (pick i (pick z (Entry (physical 0) (physical 0)) (entryFound ds d f (entryAt c f (l % 128)))) (Misplaced (d .alpha))) ≡ true
@@ -261,7 +260,7 @@ module _ (c : List ℕ) (d : Descriptor) (l : ℕ) where
   stray-by h form true e q k =
       let r = misplaced-entry ds d o (entryAt c o (l % 128)) h (rw e at q) (rw e at k) in
       subst (Stray c d l) (r .1) (own-table (eqb-true (d .layout) 1 e) (r .0))
-  stray-by h form false e q k = phi-by h (layout-two form e) (inPlace ds d f) (eqb f 0) refl refl (rw e at q) (rw e at k)
+  stray-by h form false e q k = phi-by h (layout-two (d .layout) form e) (inPlace ds d f) (eqb f 0) refl refl (rw e at q) (rw e at k)
 
   found-stray : (h : ℕ) → Stray c d l h → (isMisplaced (foundThrough c d l) ≡ true) × (holderOf (foundThrough c d l) ≡ h)
   unfolding find tableOf isMisplaced holderOf

@@ -14,8 +14,9 @@ use Rattle.blocks.specs.Name.{isName}
 use Rattle.blocks.specs.Descriptor.{physical, noDescriptor, tailAt, descriptorBlock, renamedOf, linkedOf, reopenedOf}
 use Rattle.blocks.specs.Chain.{Sound, chain, chainSound, descriptors, named, activeOf}
 use Rattle.blocks.specs.declared.descriptor.Descriptor.{Descriptor}
+use Rattle.blocks.proofs.BoolLaws.{no, or-false-both}
 use Rattle.blocks.proofs.ListLaws.{same-equal, same-self}
-use Rattle.blocks.proofs.ChainLaws.{active-snoc}
+use Rattle.blocks.proofs.ChainLaws.{active-snoc, descriptors-are, is-sound}
 use Rattle.calls.specs.Call.{Call, Snap, Revert, Check}
 use Rattle.calls.specs.Parts.{descriptorsOf, snapshotsOf, withName, indexOf}
 use Rattle.calls.specs.Ladder.{rowsOf, revertRows, answerOf}
@@ -24,30 +25,26 @@ use Rattle.calls.specs.Step.{step, after, isAccepted}
 use Rattle.claims.specs.History.{betaOf, Agree, AreBytes, Standing, without}
 use Rattle.claims.specs.Claims.{Unsnapped, LastSnap, Matched, RevertedAt}
 use Rattle.calls.proofs.NamedLaws.{with-name-index}
-use Rattle.calls.proofs.RowLaws.{no, rows-passed}
+use Rattle.calls.proofs.RowLaws.{rows-passed}
 use Rattle.claims.proofs.Local.{shared-bytes}
 use Rattle.calls.proofs.CardLaws.{chain-is}
+use Rattle.calls.proofs.StepLaws.{accepted-card}
 use Rattle.claims.proofs.Changed.{member-fresh, member-inside}
 use Rattle.claims.proofs.StoreLists.{Whole, stored-length, stored-both, blocks-taken}
 use Rattle.claims.proofs.Frame.{stores-inside}
 use Rattle.claims.proofs.ChainAfter.{before, behind, link-low, revert-rows, revert-split, reverted-chain}
 use Rattle.claims.proofs.SnappedChain.{snapped-chain}
-use Rattle.claims.proofs.Kept.{Stands, descriptors-are, stands-snapshots, stands-active}
-use Rattle.claims.proofs.Room.{accepted-card}
+use Rattle.claims.proofs.Kept.{Stands, stands-snapshots, stands-active}
 use Rattle.claims.proofs.AgreeStep.{agree-step}
 use Rattle.claims.proofs.Latest.{gone-run, stands-run, snap-of}
 use Rattle.claims.proofs.Runs.{standing-length, standing-take, standing-drop, after-append, after-length, matched-from, without-drop, without-take}
 use Rattle.claims.proofs.Undone.{revert-passes, area-kept, undone, undone-accepted}
 
 -- the first of a name stands after those that have another
-or-parts : (a b : Bool) → (a || b) ≡ false → (a ≡ false) × (b ≡ false)
-or-parts true b e = no (sym e)
-or-parts false b e = (refl, e)
-
 index-at : (xs : List Descriptor) (v : Descriptor) (zs : List Descriptor) → named xs (v .name) ≡ false → indexOf (xs ++ (v ∷ zs)) (v .name) ≡ length xs
 unfolding indexOf named
 index-at [] v zs h = rw (same-self (v .name))
-index-at (x ∷ xs) v zs h = let r = or-parts (same (x .name) (v .name)) (named xs (v .name)) h in rw (r .0, index-at xs v zs (r .1))
+index-at (x ∷ xs) v zs h = let r = or-false-both (same (x .name) (v .name)) (named xs (v .name)) h in rw (r .0, index-at xs v zs (r .1))
 
 -- v stands on t: a revert to it leaves the descriptors before it, then v with the active name and a nil next
 module _ (s : List ℕ) (xs : List Descriptor) (v : Descriptor) (n t : List ℕ) (h : Stands s xs v n t) (e : isAccepted (answerOf (Revert (v .name)) t) ≡ true) where
@@ -104,10 +101,6 @@ beta-of : (c : List ℕ) (ds : List Descriptor) → chain c ≡ Sound ds → bet
 unfolding betaOf
 beta-of c ds e = ap (λ (xs : List Descriptor). activeOf xs .beta .0) (descriptors-are c ds e)
 
-sound-of : (c : List ℕ) (ds : List Descriptor) → chain c ≡ Sound ds → chainSound (chain c) ≡ true
-unfolding chainSound
-sound-of c ds e = ap chainSound e
-
 module _ (s : List ℕ) (xs : List Descriptor) (v : Descriptor) (n t : List ℕ) (at-s : Stands s xs v n s) (at-t : Stands s xs v n t)
     (in-s : isAccepted (answerOf (Revert (v .name)) s) ≡ true) (in-t : isAccepted (answerOf (Revert (v .name)) t) ≡ true) where
   abbrev made : Descriptor
@@ -143,8 +136,8 @@ module _ (s : List ℕ) (xs : List Descriptor) (v : Descriptor) (n t : List ℕ)
       let cs = back-chain s xs v n s at-s in-s in
       record {
         long = stored-length (length t) t refl whole-t ∙ sym (at-t .long) ∙ sym (stored-length (length s) s refl (stores-inside (Revert (v .name)) s in-s));
-        sound = sound-of after-t (xs ++ (made ∷ [])) ct;
-        sound′ = sound-of after-s (xs ++ (made ∷ [])) cs;
+        sound = is-sound after-t (xs ++ (made ∷ [])) ct;
+        sound′ = is-sound after-s (xs ++ (made ∷ [])) cs;
         beta = beta-is after-t ct ∙ sym (beta-is after-s cs);
         below = rw (beta-is after-t ct) (blocks-taken after-t after-s (v .beta .0) same-block);
       }

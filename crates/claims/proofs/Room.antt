@@ -6,22 +6,19 @@ use Prim.Native.Nat.{ℕ}
 use Rattle.blocks.specs.Bytes.{storeAll}
 use Rattle.blocks.specs.Chain.{Sound, chain}
 use Rattle.blocks.specs.declared.descriptor.Descriptor.{Descriptor}
+use Rattle.blocks.proofs.ChainLaws.{descriptors-are}
 use Rattle.calls.specs.Call.{Call, Write, Snap, Revert}
 use Rattle.calls.specs.Parts.{descriptorsOf}
 use Rattle.calls.specs.Ladder.{answerOf}
 use Rattle.calls.specs.Effect.{storesOf}
 use Rattle.calls.specs.Step.{step, isAccepted}
+use Rattle.calls.proofs.StepLaws.{accepted-card}
 use Rattle.claims.specs.Claims.{blocksNeeded, RoomClaim}
 use Rattle.claims.proofs.ChainAfter.{reverted-chain}
 use Rattle.claims.proofs.SnappedChain.{snapped-chain}
 use Rattle.claims.proofs.WrittenChain.{written-chain}
-use Rattle.claims.proofs.Kept.{descriptors-are}
 
--- the card after an accepted call
-pub accepted-card : (k : Call) (c : List ℕ) → isAccepted (answerOf k c) ≡ true → step k c .card ≡ storeAll c (storesOf k c)
-unfolding step
-accepted-card k c e = rw e
-
+-- the chain after an accepted call
 after-is : (k : Call) (c : List ℕ) → isAccepted (answerOf k c) ≡ true → (ds : List Descriptor) → chain (storeAll c (storesOf k c)) ≡ Sound ds → descriptorsOf (step k c .card) ≡ ds
 after-is k c e ds q = ap descriptorsOf (accepted-card k c e) ∙ descriptors-are (storeAll c (storesOf k c)) ds q
 

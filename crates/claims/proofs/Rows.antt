@@ -13,12 +13,12 @@ use Rattle.blocks.specs.Name.{isName}
 use Rattle.blocks.specs.Descriptor.{cost}
 use Rattle.calls.specs.Parts.{areaBad}
 use Rattle.calls.specs.declared.answer.Answer.{Answer}
-use Rattle.calls.specs.Call.{Ream, Read, Write, Snap, Revert, Listing, Check, answer, accepted}
+use Rattle.calls.specs.Call.{Call, Ream, Read, Write, Snap, Revert, Listing, Check, answer, accepted}
 use Rattle.calls.specs.Ladder.{row, firstRow, reamRows, readRows, writeRows, snapRows, revertRows, listRows, checkRows, rowsOf, answerOf}
-use Rattle.calls.specs.Effect.{storesOf}
+use Rattle.calls.specs.Effect.{storesOf, lentOf}
 use Rattle.calls.specs.Step.{step, isAccepted}
 use Rattle.claims.specs.History.{betaOf, formattable, formatted}
-use Rattle.claims.specs.Claims.{blocksNeeded, RefusalClaim, ReamClaim, NoRoomClaim, TableClaim}
+use Rattle.claims.specs.Claims.{blocksNeeded, lentAtEntry, RefusalClaim, ReamClaim, NoRoomClaim, TableClaim}
 use Rattle.calls.proofs.RowLaws.{fresh, rows-numbered, fresh-never, given, gives, none, all-passed, number-given}
 
 pub table-claim : TableClaim
@@ -30,11 +30,22 @@ table-claim k c =
       (λ e. none rs is (ap (λ (a : Answer). a .number) e), all-passed rs),
     )
 
+-- what is lent is the call's own argument
+pub lent-entry : (k : Call) → lentOf k ≡ lentAtEntry k
+unfolding lentOf lentAtEntry
+lent-entry (Ream layout volume name) = refl
+lent-entry (Read target name l block) = refl
+lent-entry (Write l block) = refl
+lent-entry (Snap name) = refl
+lent-entry (Revert name) = refl
+lent-entry (Listing records) = refl
+lent-entry Check = refl
+
 -- a refusal alters nothing
 pub refusal-claim : RefusalClaim
 unfolding RefusalClaim step answerOf
 refusal-claim k c = (
-  λ e. (rw e, rw e),
+  λ e. (rw e, rw (e, lent-entry k)),
   λ e. rw e (all-passed (rowsOf k c) (none (rowsOf k c) (rows-numbered k c) (eqb-true (firstRow (rowsOf k c) .number) 0 e))),
 )
 

@@ -14,6 +14,7 @@ use Rattle.blocks.specs.Descriptor.{costOf, tailAt, descriptorBlock, renamedOf,
 use Rattle.blocks.specs.Chain.{chain, chainSound, activeOf}
 use Rattle.blocks.specs.declared.numbers.Physical.{Physical}
 use Rattle.blocks.specs.declared.descriptor.Descriptor.{Descriptor}
+use Rattle.blocks.proofs.BoolLaws.{or-true}
 use Rattle.blocks.proofs.ChainLaws.{cost-least}
 use Rattle.entries.specs.Entry.{find, tableIsNew, need, setInTable, setInNewTable, writing}
 use Rattle.entries.specs.declared.find.Found.{Found}
@@ -103,10 +104,6 @@ module _ (s t : List ℕ) (agree : Agree s t) where
     snap-by p true q h l =
         rw (stored-join (copying s (d .alpha .0 + 1) (d .beta .0 + 1) (costOf d - 1)) (store (d .beta .0) (descriptorBlock (reopenedOf d) (tailAt s (d .alpha .0))) ∷ store (d .alpha .0) (descriptorBlock (linkedOf (renamedOf d name) (d .beta)) (tailAt s (d .alpha .0))) ∷ []) p, q)
         (or-true (isStored (copying s (d .alpha .0 + 1) (d .beta .0 + 1) (costOf d - 1)) p))
-      where
-        or-true : (b : Bool) → (b || true) ≡ true
-        or-true true = refl
-        or-true false = refl
     snap-by p false q h l =
         rw (
           stored-join (copying s (d .alpha .0 + 1) (d .beta .0 + 1) (costOf d - 1)) (store (d .beta .0) (descriptorBlock (reopenedOf d) (tailAt s (d .alpha .0))) ∷ store (d .alpha .0) (descriptorBlock (linkedOf (renamedOf d name) (d .beta)) (tailAt s (d .alpha .0))) ∷ []) p,

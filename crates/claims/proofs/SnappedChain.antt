@@ -1,7 +1,7 @@
 -- The chain after an accepted snap.
 use mathlib.Core.Path.{_≡_, refl, sym, ap, _∙_}
 use mathlib.Core.Logic.{inl, inr}
-use mathlib.Core.Bool.{Bool, true, false, _||_}
+use mathlib.Core.Bool.{Bool, true, false}
 use mathlib.Core.List.{List, [], _∷_, _++_}
 use Prim.Native.Nat.{ℕ, _+_, _*_, _-_, _≤_, _<_}
 use native.Mathlib.Omega.{arith}
@@ -14,8 +14,9 @@ use Rattle.blocks.specs.Name.{isName}
 use Rattle.blocks.specs.Descriptor.{costOf, descriptorAt, tailAt, descriptorBlock, renamedOf, linkedOf, reopenedOf, copying}
 use Rattle.blocks.specs.Chain.{named, sound, Sound, chain, chainSound, activeOf}
 use Rattle.blocks.specs.declared.descriptor.Descriptor.{Descriptor}
+use Rattle.blocks.proofs.BoolLaws.{no, or-false-right, or-nil}
 use Rattle.blocks.proofs.ListLaws.{same-equal, same-self}
-use Rattle.blocks.proofs.DescriptorLaws.{Fits}
+use Rattle.blocks.proofs.DescriptorLaws.{Fits, tail-length}
 use Rattle.blocks.proofs.ChainLaws.{cost-least}
 use Rattle.blocks.proofs.LinkedLaws.{last, more, chain-linked}
 use Rattle.calls.specs.Call.{Snap}
@@ -23,10 +24,10 @@ use Rattle.calls.specs.Parts.{areaBad, descriptorsOf, snapshotsOf}
 use Rattle.calls.specs.Ladder.{rowsOf, snapRows, answerOf}
 use Rattle.calls.specs.Effect.{storesOf, snapping}
 use Rattle.calls.specs.Step.{isAccepted}
-use Rattle.calls.proofs.RowLaws.{no, rows-passed}
+use Rattle.calls.proofs.RowLaws.{rows-passed}
 use Rattle.claims.proofs.Local.{linked-chain}
 use Rattle.claims.proofs.Relinked.{linked-next, relinked}
-use Rattle.claims.proofs.Stored.{block-long, stored-descriptor, stored-form, region-ok, tail-long}
+use Rattle.claims.proofs.Stored.{block-long, stored-descriptor, stored-form, region-ok}
 use Rattle.claims.proofs.Changed.{named-append, named-left, member-from, changed-first, changed-ok}
 use Rattle.claims.proofs.StoreLists.{Whole, none, also, whole-append, isStored, stored-join, stored-length, stored-other, stored-last}
 use Rattle.claims.proofs.Frame.{stores-inside, inside-copying}
@@ -36,17 +37,9 @@ same-not : (a b : List ℕ) (z : Bool) → same a b ≡ z → same b a ≡ false
 same-not a b false e h = e
 same-not a b true e h = let q = same-equal a b e in no (sym h ∙ rw q (same-self b))
 
-or-right : (a b : Bool) → (a || b) ≡ false → b ≡ false
-or-right true b e = no (sym e)
-or-right false b e = e
-
 named-one : (d : Descriptor) (n : List ℕ) → named (d ∷ []) n ≡ same (d .name) n
 unfolding named
-named-one d n = or-false (same (d .name) n)
-  where
-    or-false : (b : Bool) → (b || false) ≡ b
-    or-false true = refl
-    or-false false = refl
+named-one d n = or-nil (same (d .name) n)
 
 module _ (c name : List ℕ) (e : isAccepted (answerOf (Snap name) c) ≡ true) where
   pub snap-rows : (areaBad c ≡ false) × (isName name ≡ true) × (chainSound (chain c) ≡ true) × (named (descriptorsOf c) name ≡ false) × (length (snapshotsOf (descriptorsOf c)) < 255)
@@ -125,7 +118,7 @@ module _ (c name : List ℕ) (e : isAccepted (answerOf (Snap name) c) ≡ true) 
     new-fits = fits-of new (link-layout c area ok xs d [] split) (link-volume c area ok xs d [] split) (omega (arith, room, d-most)) (omega (arith, room, d-most)) (omega (arith, next-nil)) (active-name c area ok)
 
     pub tail-whole : length tail ≡ 472
-    tail-whole = tail-long c (d .alpha .0) d-inside
+    tail-whole = tail-length c (d .alpha .0) d-inside
 
     pub old-long : length (descriptorBlock old tail) ≡ 512
     old-long = block-long old tail old-fits tail-whole
@@ -172,7 +165,7 @@ module _ (c name : List ℕ) (e : isAccepted (answerOf (Snap name) c) ≡ true) 
     other-name : same name (d .name) ≡ false
     other-name =
         same-not name (d .name) (same name (d .name)) refl
-        (sym (named-one d name) ∙ or-right (named xs name) (named (d ∷ []) name) (sym (named-append xs (d ∷ []) name) ∙ ap (λ (l : List Descriptor). named l name) (sym split) ∙ unused))
+        (sym (named-one d name) ∙ or-false-right (named xs name) (named (d ∷ []) name) (sym (named-append xs (d ∷ []) name) ∙ ap (λ (l : List Descriptor). named l name) (sym split) ∙ unused))
 
     new-fresh : named (xs ++ (old ∷ [])) (d .name) ≡ false
     new-fresh = named-append xs (old ∷ []) (d .name) ∙ rw (active-fresh c area ok) (named-one old (d .name) ∙ other-name)

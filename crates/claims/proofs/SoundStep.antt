@@ -7,6 +7,7 @@ use Rattle.blocks.specs.Bytes.{blockCount, storeAll}
 use Rattle.blocks.specs.Descriptor.{descriptorAt, linkedOf, renamedOf, reopenedOf}
 use Rattle.blocks.specs.Chain.{chain, chainSound, activeOf}
 use Rattle.blocks.specs.declared.descriptor.Descriptor.{Descriptor}
+use Rattle.blocks.proofs.BoolLaws.{no}
 use Rattle.blocks.proofs.ChainLaws.{region-layout, region-volume, active-snoc}
 use Rattle.calls.specs.Call.{Call, Ream, Read, Write, Snap, Revert, Listing, Check}
 use Rattle.calls.specs.Parts.{descriptorsOf, snapshotsOf, withName}
@@ -15,7 +16,6 @@ use Rattle.calls.specs.Effect.{storesOf}
 use Rattle.calls.specs.Step.{step, isAccepted}
 use Rattle.claims.specs.History.{Agree, isFormat}
 use Rattle.claims.specs.Claims.{MovesBeta, RoomClaim, SoundClaim}
-use Rattle.calls.proofs.RowLaws.{no}
 use Rattle.claims.proofs.ChainAfter.{before, behind, active-append, active-last, link-region, revert-rows, revert-split}
 use Rattle.claims.proofs.AgreeStep.{active-two, agree-step}
 use Rattle.claims.proofs.Room.{room-claim}

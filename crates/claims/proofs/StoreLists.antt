@@ -10,6 +10,7 @@ use lib.Seq.{take-add}
 use lib.Dec.{eqb}
 use borrow.Author.Tests.{eqb-true, eqb-false}
 use Rattle.blocks.specs.Bytes.{blockAt, Store, store, storeBlock, storeAll}
+use Rattle.blocks.proofs.BoolLaws.{or-assoc, or-false-both}
 use Rattle.blocks.proofs.ByteLaws.{store-length, store-same, store-other}
 use Rattle.calls.proofs.StepLaws.{stored-append}
 
@@ -27,14 +28,10 @@ pub whole-append : {n : ℕ} {xs ys : List Store} → Whole n xs → Whole n ys 
 whole-append none ys = ys
 whole-append (also p b w i xs) ys = also p b w i (whole-append xs ys)
 
-or-by : (a b c : Bool) → (a || (b || c)) ≡ ((a || b) || c)
-or-by true b c = refl
-or-by false b c = refl
-
 pub stored-join : (xs ys : List Store) (p : ℕ) → isStored (xs ++ ys) p ≡ (isStored xs p || isStored ys p)
 unfolding isStored
 stored-join [] ys p = refl
-stored-join (x ∷ xs) ys p = rw (stored-join xs ys p) (or-by (eqb (x .at) p) (isStored xs p) (isStored ys p))
+stored-join (x ∷ xs) ys p = rw (stored-join xs ys p) (or-assoc (eqb (x .at) p) (isStored xs p) (isStored ys p))
 
 module _ (n : ℕ) where
   pub stored-length : (c : List ℕ) → length c ≡ n → {ss : List Store} → Whole n ss → length (storeAll c ss) ≡ n
@@ -43,15 +40,11 @@ module _ (n : ℕ) where
   stored-length c e (also at bytes {ss = ss} b i w) = stored-length (storeBlock c at bytes) (store-length c at bytes b (omega arith) ∙ e) w
 
   -- a block that is not stored
-  stored-not : (a b : Bool) → (a || b) ≡ false → (a ≡ false) × (b ≡ false)
-  stored-not true b e = let z : _≡_ {A = ℕ} 0 1 = cc in absurd (omega arith)
-  stored-not false b e = (refl, e)
-
   pub stored-other : (c : List ℕ) → length c ≡ n → {ss : List Store} → Whole n ss → (p : ℕ) → isStored ss p ≡ false → blockAt (storeAll c ss) p ≡ blockAt c p
   unfolding storeAll isStored
   stored-other c e none p h = refl
   stored-other c e (also at bytes {ss = ss} b i w) p h =
-      let r = stored-not (eqb at p) (isStored ss p) h in
+      let r = or-false-both (eqb at p) (isStored ss p) h in
       let m = eqb-false at p (r .0) in
       stored-other (storeBlock c at bytes) (store-length c at bytes b (omega arith) ∙ e) w p (r .1)
       ∙ store-other c at bytes b (omega arith) p (λ q. m (sym q))

@@ -1,7 +1,7 @@
 -- A descriptor block that was stored: what is read from it, and when it is sound.
 use mathlib.Core.Path.{_≡_, refl, sym, ap, _∙_, subst}
 use mathlib.Core.Logic.{_⊎_, inl, inr}
-use mathlib.Core.Bool.{Bool, true, false, _&&_, _||_}
+use mathlib.Core.Bool.{Bool, true, _&&_, _||_}
 use mathlib.Core.List.{List, _++_}
 use Prim.Native.Nat.{ℕ, zero, _+_, _*_, _≤_, _<_}
 use native.Mathlib.Omega.{arith}
@@ -16,7 +16,8 @@ use Rattle.blocks.specs.Descriptor.{costOf, mark, descriptorAt, headBytes, tail
 use Rattle.blocks.specs.Chain.{formOk, regionOk, sound}
 use Rattle.blocks.specs.declared.descriptor.Descriptor.{Descriptor}
 use Rattle.blocks.proofs.Tests.{and-left, and-right}
-use Rattle.blocks.proofs.ByteLaws.{u32-part, part-part, length-part, splice-start}
+use Rattle.blocks.proofs.BoolLaws.{or-true}
+use Rattle.blocks.proofs.ByteLaws.{u32-part, part-part, splice-start}
 use Rattle.blocks.proofs.ListLaws.{same-self}
 use Rattle.blocks.proofs.DescriptorLaws.{Fits, head-length, read-back}
 use Rattle.blocks.proofs.SoundLaws.{form-most, form-least, form-layout}
@@ -136,14 +137,7 @@ region-ok first n p d layout volume alpha long end next =
     by : (z : Bool) → (d .next .0 ≡ 0) ⊎ ((d .next .0 ≡ d .beta .0) × (d .beta .0 < n)) → (eqb (d .next .0) 0 || (eqb (d .next .0) (d .beta .0) && ltb (d .beta .0) n)) ≡ true
     by z (inl e) = rw (eq-eqb (d .next .0) 0 e)
     by z (inr h) = rw (eq-eqb (d .next .0) (d .beta .0) (h .0), lt-ltb (d .beta .0) n (h .1)) (or-true (eqb (d .next .0) 0))
-      where
-        or-true : (b : Bool) → (b || true) ≡ true
-        or-true true = refl
-        or-true false = refl
 
 -- the tail of a block
 pub tail-part : (c : List ℕ) (p k n : ℕ) → 512 * p + 512 ≤ length c → k + n ≤ 472 → part (tailAt c p) k n ≡ part c (512 * p + 40 + k) n
 tail-part c p k n h l = part-part c (512 * p + 40) 472 k n l (omega arith)
-
-pub tail-long : (c : List ℕ) (p : ℕ) → 512 * p + 512 ≤ length c → length (tailAt c p) ≡ 472
-tail-long c p h = length-part c (512 * p + 40) 472 (omega arith)

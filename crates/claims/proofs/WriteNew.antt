@@ -14,16 +14,19 @@ use Rattle.blocks.specs.Descriptor.{extendedOf, tableCount, noDescriptor, tailA
 use Rattle.blocks.specs.Chain.{Sound, chain, activeOf}
 use Rattle.blocks.specs.declared.numbers.Physical.{Physical}
 use Rattle.blocks.specs.declared.descriptor.Descriptor.{Descriptor}
+use Rattle.blocks.proofs.BoolLaws.{no}
 use Rattle.blocks.proofs.ByteLaws.{u32-part, u32-in, u32-before, u32-after, length-le32, length-blockAt}
-use Rattle.blocks.proofs.DescriptorLaws.{Fits}
+use Rattle.blocks.proofs.DescriptorLaws.{Fits, tail-length}
 use Rattle.blocks.proofs.SoundLaws.{form-layout}
 use Rattle.blocks.proofs.LinkedLaws.{active-at}
+use Rattle.blocks.proofs.NameLaws.{name-size}
 use Rattle.entries.specs.InPlace.{inPlace}
 use Rattle.entries.specs.Entry.{entryAt, phiAt, tableOf, find, tableIsNew, need, tableWith, tailWith, setInNewTable, writing}
 use Rattle.entries.specs.Rules.{entryOf, Rules}
 use Rattle.entries.specs.declared.find.Found.{Found}
 use Rattle.entries.specs.declared.find.Found.the-variants.{Entry}
-use Rattle.entries.proofs.EntryLaws.{placed-below}
+use Rattle.entries.proofs.EntryLaws.{placed-below, need-more}
+use Rattle.entries.proofs.SetLaws.{tail-with-length}
 use Rattle.calls.specs.Call.{Write}
 use Rattle.calls.specs.Parts.{descriptorsOf, snapshotsOf, foundThrough}
 use Rattle.calls.specs.Check.{Passes}
@@ -31,22 +34,22 @@ use Rattle.calls.specs.Ladder.{writeRows, rowsOf, answerOf}
 use Rattle.calls.specs.Effect.{storesOf}
 use Rattle.calls.specs.Step.{isAccepted}
 use Rattle.calls.proofs.CardLaws.{card-most, chain-is}
-use Rattle.calls.proofs.RowLaws.{no, rows-passed}
-use Rattle.claims.proofs.Stored.{stored-bytes, block-tail, tail-long}
-use Rattle.claims.proofs.Changed.{name-long}
+use Rattle.calls.proofs.RowLaws.{rows-passed}
+use Rattle.claims.proofs.Stored.{stored-bytes, block-tail}
 use Rattle.claims.proofs.StoreLists.{Whole, isStored, stored-length, stored-other}
 use Rattle.claims.proofs.Frame.{stores-inside}
 use Rattle.claims.proofs.ChainAfter.{active-split, none-stored}
-use Rattle.claims.proofs.WrittenChain.{stored-last, not-stored, ds-some, active-next, active-form, active-rise, active-volume, active-name, placed-not-active, table-own, new-table, need-more, put-length}
+use Rattle.claims.proofs.WrittenChain.{stored-last, not-stored, ds-some, active-next, active-form, active-rise, active-volume, active-name, placed-not-active, table-own, new-table}
 use Rattle.claims.proofs.Format.{zero-number}
 use Rattle.claims.proofs.AlgorithmLaws.{entry-in}
 use Rattle.claims.proofs.FoundEntry.{found-table}
 use Rattle.claims.proofs.LedgerAnswers.{group-below}
 use Rattle.claims.proofs.LocalEntries.{Region}
-use Rattle.claims.proofs.PassesAfter.{under, table-phi, layout-two, few-tables, number-of}
+use Rattle.claims.proofs.PassesAfter.{number-of}
 use Rattle.claims.proofs.PassesSnapped.{block-entry}
 use Rattle.claims.proofs.PassesWrite.{extended-stays, extended-new, write-region, set-table-rules, set-phi-rules}
 use Rattle.claims.proofs.WriteFacts.{WriteFacts}
+use Rattle.claims.proofs.ChainBlocks.{table-phi, few-tables, under, layout-two}
 
 -- numbers of four bytes each, after n bytes of a list: one that is put, and the others
 module _ (b : List ℕ) (n i v : ℕ) (inside : n + 4 * i + 4 ≤ length b) where
@@ -148,12 +151,12 @@ module _ (c t : List ℕ) (ds es : List Descriptor) (d : Descriptor) (l m : ℕ)
   number = omega (arith, group, few)
 
   old-long : length old-tail ≡ 472
-  old-long = tail-long c a (omega arith)
+  old-long = tail-length c a (omega arith)
 
   -- Phi names the new table block, and otherwise what it named
   phi-as : (i : ℕ) → i < 112 → phiAt t x i ≡ u32At (tailWith old-tail g b) (24 + 4 * i)
   unfolding phiAt
-  phi-as i h = phi-tail t a (omega arith) x (tailWith old-tail g b) head fits (put-length old-tail g b number old-long) i h
+  phi-as i h = phi-tail t a (omega arith) x (tailWith old-tail g b) head fits (tail-with-length old-tail g b old-long number) i h
 
   phi-was : (i : ℕ) → i < 112 → u32At old-tail (24 + 4 * i) ≡ phiAt c d i
   unfolding phiAt
@@ -361,7 +364,7 @@ module _ (c : List ℕ) (passes : Passes c) (l : ℕ) (block : List ℕ) (ok : i
 
     in-layout : act .layout ≡ 2
     in-layout =
-        layout-two (act .layout) (eqb (act .layout) 1) (eqb (act .layout) 2) refl refl (form-layout c (act .alpha .0) act (active-form c chn sound-c))
+        layout-two (act .layout) (form-layout c (act .alpha .0) act (active-form c chn sound-c))
         (new-layout c chn act l m p is (need-new (act .alpha .0) m p takes) (eqb (act .layout) 1) refl)
 
     act-small : act .beta .0 + 2 ≤ 65536
@@ -375,7 +378,7 @@ module _ (c : List ℕ) (passes : Passes c) (l : ℕ) (block : List ℕ) (ok : i
           alpha = omega (arith, rise, act-small);
           beta = omega (arith, act-small);
           next = omega (arith, active-next c chn sound-c);
-          name = name-long (act .name) (active-name c chn sound-c);
+          name = name-size (act .name) (active-name c chn sound-c);
         }
 
     not-in : (q : ℕ) → q < act .beta .0 → (q ≡ act .alpha .0 → ⊥) → isStored ss q ≡ false

@@ -16,6 +16,7 @@ use Rattle.blocks.specs.Chain.{Sound, chain, activeOf}
 use Rattle.blocks.specs.declared.numbers.Physical.{Physical}
 use Rattle.blocks.specs.declared.descriptor.Descriptor.{Descriptor}
 use Rattle.blocks.proofs.Tests.{and-right}
+use Rattle.blocks.proofs.BoolLaws.{no, true-or, or-false-right}
 use Rattle.blocks.proofs.ByteLaws.{u32-before, u32-after, u32-in, length-le32, length-blockAt}
 use Rattle.blocks.proofs.DescriptorLaws.{Fits}
 use Rattle.blocks.proofs.SoundLaws.{form-layout}
@@ -33,22 +34,22 @@ use Rattle.calls.specs.Ladder.{writeRows, rowsOf, answerOf}
 use Rattle.calls.specs.Effect.{storesOf}
 use Rattle.calls.specs.Step.{isAccepted}
 use Rattle.calls.proofs.CardLaws.{card-most, chain-is}
-use Rattle.calls.proofs.RowLaws.{no, rows-passed}
+use Rattle.calls.proofs.RowLaws.{rows-passed}
 use Rattle.claims.proofs.Changed.{layout-small, member-form}
 use Rattle.claims.proofs.StoreLists.{Whole, stored-length, stored-other}
 use Rattle.claims.proofs.Frame.{stores-inside}
 use Rattle.claims.proofs.ChainAfter.{active-split, fits-of, none-stored, one-stored}
 use Rattle.claims.proofs.LocalEntries.{Region}
-use Rattle.claims.proofs.WrittenChain.{stored-last, not-stored, extended-none, or-right, placed-not-active, old-table, need-nothing}
+use Rattle.claims.proofs.WrittenChain.{stored-last, not-stored, extended-none, placed-not-active, old-table, need-nothing}
 use Rattle.claims.proofs.WrittenChain.{active-next, active-inside, active-long, active-rise, active-end, active-volume, active-name}
 use Rattle.claims.proofs.AlgorithmLaws.{entry-in}
 use Rattle.claims.proofs.FoundEntry.{found-table, found-entry}
 use Rattle.claims.proofs.LedgerAnswers.{group-below}
-use Rattle.claims.proofs.PassesAfter.{or-false, under, table-own, table-phi, layout-two, own-inside, few-tables}
 use Rattle.claims.proofs.PassesSnapped.{block-entry}
 use Rattle.claims.proofs.PassesWrite.{extended-stays, extended-new, write-region, set-table-rules, set-phi-rules, kept-entry, kept-rules}
 use Rattle.claims.proofs.LedgerNext.{phi-stored}
 use Rattle.claims.proofs.WriteFacts.{WriteFacts}
+use Rattle.claims.proofs.ChainBlocks.{table-own, table-phi, own-inside, few-tables, under, layout-two}
 
 -- the stores of a write that takes no block, and of one that takes one
 writing-none : (c : List ℕ) (d : Descriptor) (m p : Physical) (l : ℕ) (block : List ℕ) → need (d .alpha .0) (Entry m p) ≡ 0 → writing c d (Entry m p) l block ≡ store (p .0) block ∷ []
@@ -75,13 +76,13 @@ unfolding isTable activeOf
 active-table [] h q e a b = absurd (omega arith)
 active-table (d ∷ []) h q e a b = rw (e, lt-ltb (d .alpha .0) q a, le-leb q (d .alpha .0 + tableCount (d .volume)) b)
 active-table (d ∷ x ∷ ds) h q e a b =
-    or-right (eqb (d .layout) 1 && ltb (d .alpha .0) q && leb q (d .alpha .0 + tableCount (d .volume))) (isTable (x ∷ ds) q) (active-table (x ∷ ds) (omega arith) q e a b)
+    true-or (eqb (d .layout) 1 && ltb (d .alpha .0) q && leb q (d .alpha .0 + tableCount (d .volume))) (isTable (x ∷ ds) q) (active-table (x ∷ ds) (omega arith) q e a b)
 
 placed-no-table : (ds : List Descriptor) (d : Descriptor) (p : ℕ) → inPlace ds d p ≡ true → (p ≡ 0 → ⊥) → isTable ds p ≡ false
 unfolding inPlace
 placed-no-table ds d p h n =
     let k : (ltb p (d .beta .0) && not (isDescriptor ds p || isTable ds p)) ≡ true = rw (ne-eqb p 0 n) at h in
-    or-false (isDescriptor ds p) (isTable ds p) (not-true (isDescriptor ds p || isTable ds p) (and-right (ltb p (d .beta .0)) (not (isDescriptor ds p || isTable ds p)) k)) .1
+    or-false-right (isDescriptor ds p) (isTable ds p) (not-true (isDescriptor ds p || isTable ds p) (and-right (ltb p (d .beta .0)) (not (isDescriptor ds p || isTable ds p)) k))
 
 -- an entry of a table block with one entry set
 module _ (c t : List ℕ) (m k q : ℕ) (inside : 512 * m + 512 ≤ length c) (number : k < 128) (is : blockAt t m ≡ tableWith (blockAt c m) k q) where
@@ -124,7 +125,7 @@ module _ (c : List ℕ) (ds : List Descriptor) (chained : chain c ≡ Sound ds) 
   few = few-tables (d .volume) (active-volume c ds chained)
 
   two-of : eqb (d .layout) 1 ≡ false → d .layout ≡ 2
-  two-of e = layout-two (d .layout) (eqb (d .layout) 1) (eqb (d .layout) 2) refl refl layout e
+  two-of e = layout-two (d .layout) layout e
 
   own-end : eqb (d .layout) 1 ≡ true → d .alpha .0 + n < d .beta .0
   own-end e = own-inside d (d .alpha .0) (d .beta .0) (eqb-true (d .layout) 1 e) (active-long c ds chained)

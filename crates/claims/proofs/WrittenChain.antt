@@ -1,7 +1,7 @@
 -- The chain after an accepted write: the snapshots as they were, then the active descriptor with as many more blocks as the write took.
 use mathlib.Core.Path.{_≡_, refl, sym, ap, _∙_, subst}
 use mathlib.Core.Logic.{inl}
-use mathlib.Core.Bool.{Bool, true, false, not, _&&_, _||_}
+use mathlib.Core.Bool.{Bool, true, false, not, _&&_}
 use mathlib.Core.List.{List, [], _∷_, _++_}
 use Prim.Native.Nat.{ℕ, _+_, _*_, _/_, _%_, _≤_, _<_}
 use native.Mathlib.Omega.{arith}
@@ -16,30 +16,34 @@ use Rattle.blocks.specs.Chain.{formOk, regionOk, sound, Sound, chain, activeOf}
 use Rattle.blocks.specs.declared.numbers.Physical.{Physical}
 use Rattle.blocks.specs.declared.descriptor.Descriptor.{Descriptor}
 use Rattle.blocks.proofs.Tests.{and-left, and-right}
-use Rattle.blocks.proofs.ByteLaws.{length-splice, length-le32, part-before, store-length, store-same}
-use Rattle.blocks.proofs.DescriptorLaws.{Fits}
+use Rattle.blocks.proofs.BoolLaws.{no, true-or, or-false-both}
+use Rattle.blocks.proofs.ByteLaws.{length-le32, part-before, store-length, store-same}
+use Rattle.blocks.proofs.DescriptorLaws.{Fits, tail-length}
 use Rattle.blocks.proofs.SoundLaws.{form-most, form-layout}
 use Rattle.blocks.proofs.ChainLaws.{region-long, region-end, cost-least}
 use Rattle.blocks.proofs.LinkedLaws.{Linked, last, more, chain-linked, chain-few, linked-some}
-use Rattle.entries.specs.InPlace.{isDescriptor, isTable, inPlace}
+use Rattle.blocks.proofs.NameLaws.{name-size}
+use Rattle.entries.specs.InPlace.{isDescriptor, inPlace}
 use Rattle.entries.specs.Entry.{tableOf, entryAt, entryFound, find, tableIsNew, need, tableWith, tailWith, setInTable, setInNewTable, writing}
 use Rattle.entries.specs.declared.find.Found.{Found}
 use Rattle.entries.specs.declared.find.Found.the-variants.{Misplaced, Entry}
-use Rattle.entries.proofs.EntryLaws.{find-placed}
+use Rattle.entries.proofs.EntryLaws.{find-placed, placed-other, entry-table, need-more}
+use Rattle.entries.proofs.SetLaws.{tail-with-length}
 use Rattle.calls.specs.Call.{Write}
 use Rattle.calls.specs.Parts.{descriptorsOf, snapshotsOf, foundThrough, isMisplaced}
 use Rattle.calls.specs.Ladder.{writeRows, rowsOf, answerOf}
 use Rattle.calls.specs.Effect.{storesOf}
 use Rattle.calls.specs.Step.{isAccepted}
 use Rattle.calls.proofs.CardLaws.{card-most, chain-is}
-use Rattle.calls.proofs.RowLaws.{no, rows-passed}
+use Rattle.calls.proofs.RowLaws.{rows-passed}
 use Rattle.claims.proofs.Local.{linked-chain, shared-descriptor, shared-sound}
 use Rattle.claims.proofs.Relinked.{linked-from, linked-head, relinked, linked-next}
-use Rattle.claims.proofs.Stored.{tail-long, tail-part, form-kept, form-phi, form-name}
-use Rattle.claims.proofs.Changed.{name-long, layout-small, member-form, member-region, member-fresh, member-inside, changed-last}
+use Rattle.claims.proofs.Stored.{tail-part, form-kept, form-phi, form-name}
+use Rattle.claims.proofs.Changed.{layout-small, member-form, member-region, member-fresh, member-inside, changed-last}
 use Rattle.claims.proofs.StoreLists.{Whole, also, isStored, stored-length, stored-other}
 use Rattle.claims.proofs.Frame.{stores-inside}
 use Rattle.claims.proofs.ChainAfter.{active-split, none-stored}
+use Rattle.claims.proofs.ChainBlocks.{table-own as own-table}
 
 -- the first of a list of whole-block stores, and the others
 whole-parts : {n : ℕ} {s : Store} {ss : List Store} → Whole n (s ∷ ss) → (length (s .bytes) ≡ 512) × (512 * s .at + 512 ≤ n) × Whole n ss
@@ -178,7 +182,7 @@ module _ (c : List ℕ) (ds : List Descriptor) (sound-c : chain c ≡ Sound ds) 
             alpha = omega (arith, active-rise);
             beta = omega arith;
             next = omega (arith, active-next);
-            name = name-long (d .name) active-name;
+            name = name-size (d .name) active-name;
           }
 
       end : d .beta .0 + k ≤ blockCount t
@@ -190,31 +194,12 @@ module _ (c : List ℕ) (ds : List Descriptor) (sound-c : chain c ≡ Sound ds) 
           changed-last c ds xs d [] sound-c split t long kept (extendedOf d k) tail is extended-fits tail-whole refl refl refl active-name reserved phi
           (omega (arith, active-long)) end (inl active-next) (member-fresh c ds xs d [] sound-c split) active-next few
 
--- tests joined
-pub or-right : (a b : Bool) → b ≡ true → (a || b) ≡ true
-or-right true b e = refl
-or-right false b e = e
-
-or-none : (a b : Bool) → (a || b) ≡ false → (a ≡ false) × (b ≡ false)
-or-none true b e = no (sym e)
-or-none false b e = (refl, e)
-
-or-self : (a b : Bool) → a ≡ true → (a || b) ≡ true
-or-self true b e = refl
-or-self false b e = no e
-
 -- the active descriptor's block is a descriptor of the chain, and so no set entry in place names it
 active-descriptor : (ds : List Descriptor) → 0 < length ds → isDescriptor ds (activeOf ds .alpha .0) ≡ true
 unfolding isDescriptor activeOf
 active-descriptor [] h = absurd (omega arith)
-active-descriptor (d ∷ []) h = or-self (eqb (d .alpha .0) (d .alpha .0)) false (eq-eqb (d .alpha .0) (d .alpha .0) refl)
-active-descriptor (d ∷ e ∷ ds) h = or-right (eqb (activeOf (e ∷ ds) .alpha .0) (d .alpha .0)) (isDescriptor (e ∷ ds) (activeOf (e ∷ ds) .alpha .0)) (active-descriptor (e ∷ ds) (omega arith))
-
-placed-other : (ds : List Descriptor) (d : Descriptor) (p : ℕ) → inPlace ds d p ≡ true → (p ≡ 0 → ⊥) → isDescriptor ds p ≡ false
-unfolding inPlace
-placed-other ds d p h n =
-    let k : (ltb p (d .beta .0) && not (isDescriptor ds p || isTable ds p)) ≡ true = rw (ne-eqb p 0 n) at h in
-    or-none (isDescriptor ds p) (isTable ds p) (not-true (isDescriptor ds p || isTable ds p) (and-right (ltb p (d .beta .0)) (not (isDescriptor ds p || isTable ds p)) k)) .0
+active-descriptor (d ∷ []) h = rw (eq-eqb (d .alpha .0) (d .alpha .0) refl)
+active-descriptor (d ∷ e ∷ ds) h = true-or (eqb (activeOf (e ∷ ds) .alpha .0) (d .alpha .0)) (isDescriptor (e ∷ ds) (activeOf (e ∷ ds) .alpha .0)) (active-descriptor (e ∷ ds) (omega arith))
 
 pub placed-not-active : (ds : List Descriptor) → 0 < length ds → (p : ℕ) → inPlace ds (activeOf ds) p ≡ true → (p ≡ 0 → ⊥) → p ≡ activeOf ds .alpha .0 → ⊥
 placed-not-active ds h p placed n e =
@@ -222,14 +207,6 @@ placed-not-active ds h p placed n e =
     no (sym (placed-other ds (activeOf ds) p placed n) ∙ f)
 
 -- the table block of an entry that was found: in layout 1 one of the descriptor's own, in layout 2 in place
-table-is : (m′ p : Physical) (m q : ℕ) (t : Bool) → pick t (Entry (physical m) (physical q)) (Misplaced (physical m)) ≡ Entry m′ p → m′ .0 ≡ m
-table-is m′ p m q true e = let k : physical m ≡ m′ = cc in sym (ap (λ (x : Physical). x .0) k)
-table-is m′ p m q false e = let z : _≡_ {A = ℕ} 0 1 = cc in absurd (omega arith)
-
-pub entry-table : (ds : List Descriptor) (d : Descriptor) (m q : ℕ) (m′ p : Physical) → entryFound ds d m q ≡ Entry m′ p → m′ .0 ≡ m
-unfolding entryFound
-entry-table ds d m q m′ p e = table-is m′ p m q (inPlace ds d q) e
-
 nil-table : (ds : List Descriptor) (d : Descriptor) (m′ p : Physical) → Entry (physical 0) (physical 0) ≡ Entry m′ p → inPlace ds d (m′ .0) ≡ true
 unfolding inPlace
 nil-table ds d m′ p e = let k : physical 0 ≡ m′ = cc in let n : 0 ≡ m′ .0 = ap (λ (x : Physical). x .0) k in subst (λ (q : ℕ). inPlace ds d q ≡ true) n refl
@@ -248,12 +225,8 @@ module _ (c : List ℕ) (ds : List Descriptor) (d : Descriptor) (l : ℕ) (m p :
   table-found =
       table-by ds d (tableOf c d (l / 128)) (entryAt c (tableOf c d (l / 128)) (l % 128)) m p (eqb (d .layout) 1) (inPlace ds d (tableOf c d (l / 128))) (eqb (tableOf c d (l / 128)) 0) refl is
 
-  own-table : eqb (d .layout) 1 ≡ true → tableOf c d (l / 128) ≡ d .alpha .0 + 1 + l / 128
-  unfolding tableOf
-  own-table e = rw e
-
   pub table-own : eqb (d .layout) 1 ≡ true → m .0 ≡ d .alpha .0 + 1 + l / 128
-  table-own e = table-found .0 e ∙ own-table e
+  table-own e = table-found .0 e ∙ own-table c d (l / 128) e
 
   pub table-placed : eqb (d .layout) 1 ≡ false → inPlace ds d (m .0) ≡ true
   table-placed e = table-found .1 e
@@ -265,17 +238,13 @@ new-table alpha m h = rw (ne-eqb m 0 (omega arith), le-ltb m alpha (omega arith)
 
 pub old-table : (alpha m : ℕ) → tableIsNew alpha m ≡ false → (m ≡ 0 → ⊥) × (alpha ≤ m)
 unfolding tableIsNew
-old-table alpha m h = let r = or-none (eqb m 0) (ltb m alpha) h in (eqb-false m 0 (r .0), ltb-false m alpha (r .1))
+old-table alpha m h = let r = or-false-both (eqb m 0) (ltb m alpha) h in (eqb-false m 0 (r .0), ltb-false m alpha (r .1))
 
 -- what a write takes
 need-set : (s new : Bool) (n : ℕ) → n ≡ pick s 0 (pick new 2 1) → n ≡ 0 → s ≡ true
 need-set true new n e z = refl
 need-set false true n e z = absurd (omega arith)
 need-set false false n e z = absurd (omega arith)
-
-need-some : (s new : Bool) (n : ℕ) → n ≡ pick s 0 (pick new 2 1) → (n ≡ 0 → ⊥) → n ≡ pick new 2 1
-need-some true new n e z = absurd (z e)
-need-some false new n e z = e
 
 -- none: the entry is set and at or above alpha
 pub need-nothing : (alpha : ℕ) (m p : Physical) → need alpha (Entry m p) ≡ 0 → (p .0 ≡ 0 → ⊥) × (alpha ≤ p .0)
@@ -284,18 +253,10 @@ need-nothing alpha m p e =
     let s = need-set (not (eqb (p .0) 0) && leb alpha (p .0)) (tableIsNew alpha (m .0)) (need alpha (Entry m p)) refl e in
     (eqb-false (p .0) 0 (not-true (eqb (p .0) 0) (and-left (not (eqb (p .0) 0)) (leb alpha (p .0)) s)), leb-true alpha (p .0) (and-right (not (eqb (p .0) 0)) (leb alpha (p .0)) s))
 
-pub need-more : (alpha : ℕ) (m p : Physical) → (need alpha (Entry m p) ≡ 0 → ⊥) → need alpha (Entry m p) ≡ pick (tableIsNew alpha (m .0)) 2 1
-unfolding need
-need-more alpha m p z = need-some (not (eqb (p .0) 0) && leb alpha (p .0)) (tableIsNew alpha (m .0)) (need alpha (Entry m p)) refl z
-
 -- a tail with an entry of Phi set
 module _ (tail : List ℕ) (i m : ℕ) (few-entries : i < 112) (tail-whole : length tail ≡ 472) where
   put-fits : 24 + 4 * i + length (le32 m) ≤ length tail
   put-fits = omega (arith, length-le32 m)
-
-  pub put-length : length (tailWith tail i m) ≡ 472
-  unfolding tailWith
-  put-length = length-splice tail (24 + 4 * i) (le32 m) put-fits ∙ tail-whole
 
   pub put-reserved : part (tailWith tail i m) 0 24 ≡ part tail 0 24
   unfolding tailWith
@@ -362,7 +323,7 @@ module _ (c : List ℕ) (ds : List Descriptor) (sound-c : chain c ≡ Sound ds) 
       (λ q u. not-stored (active .beta .0) block (store a head ∷ store (m .0) table ∷ []) q (λ v. omega (arith, rise, v)) (not-stored a head (store (m .0) table ∷ []) q (λ v. omega (arith, v)) (rest q (omega arith))))
       1 fits small tail
       (stored-last (length c) a head (store (m .0) table ∷ []) (rest a (omega arith)) c refl (store (active .beta .0) block ∷ []) w)
-      (tail-long c a (active-inside c ds sound-c)) (active-reserved c ds sound-c) (active-phi c ds sound-c)
+      (tail-length c a (active-inside c ds sound-c)) (active-reserved c ds sound-c) (active-phi c ds sound-c)
 
   -- through a new table block, which arises only in layout 2
   layout-by : tableIsNew (active .alpha .0) (m .0) ≡ true → (b : Bool) → eqb (active .layout) 1 ≡ b → b ≡ false
@@ -376,7 +337,7 @@ module _ (c : List ℕ) (ds : List Descriptor) (sound-c : chain c ≡ Sound ds) 
       let a : ℕ = active .alpha .0 in
       let b : ℕ = active .beta .0 in
       let old : List ℕ = tailAt c a in
-      let old-long : length old ≡ 472 = tail-long c a (active-inside c ds sound-c) in
+      let old-long : length old ≡ 472 = tail-length c a (active-inside c ds sound-c) in
       let number : l / 128 < 112 = omega (arith, below, active-volume c ds sound-c) in
       let tail : List ℕ = tailWith old (l / 128) b in
       let head : List ℕ = descriptorBlock (extendedOf active 2) tail in
@@ -386,7 +347,7 @@ module _ (c : List ℕ) (ds : List Descriptor) (sound-c : chain c ≡ Sound ds) 
       (not-stored b table (store a head ∷ []) q (λ v. omega (arith, rise, v)) (not-stored a head [] q (λ v. omega (arith, v)) (none-stored q))))
       2 fits small tail
       (stored-last (length c) a head [] (none-stored a) c refl (store (b + 1) block ∷ store b table ∷ []) w)
-      (put-length old (l / 128) b number old-long)
+      (tail-with-length old (l / 128) b old-long number)
       (subst (λ (x : List ℕ). reservedOk x ≡ true) (sym (put-reserved old (l / 128) b number old-long)) (active-reserved c ds sound-c))
       (phi-any (active .layout) (part tail 24 448) (layout-by e (eqb (active .layout) 1) refl))
 

@@ -1,4 +1,4 @@
--- What is claimed of the calls, each claim a theorem in proofs/: refusals and their places, room, check, the algorithms, the ledger over whole lists of calls, and the rollback claim.
+-- What is claimed of the calls, each claim a theorem in proofs/: areas and names, refusals and their places, room, check, the algorithms, the ledger over whole lists of calls, and the rollback claim.
 -- A card area and what is written to it are bytes; the claims that need it say so by AreBytes.
 use mathlib.Core.Path.{_≡_}
 use mathlib.Core.Logic.{_⊎_, _↔_}
@@ -6,7 +6,7 @@ use mathlib.Core.Bool.{Bool, true, false, not, _&&_, _||_}
 use mathlib.Core.List.{List, [], _∷_, _++_, map}
 use Prim.Native.Nat.{ℕ, zero, suc, _+_, _*_, _/_, _%_, _<_, _≤_}
 use lib.ListN.{length, take, drop, getD, replicate}
-use Rattle.blocks.specs.Pick.{pick}
+use Rattle.blocks.specs.Pick.{pick, same}
 use lib.Dec.{eqb}
 use Rattle.blocks.specs.Bytes.{blockSize, blockCount, blockAt, zeroBlock}
 use Rattle.blocks.specs.Name.{isName}
@@ -23,11 +23,20 @@ use Rattle.calls.specs.Call.{Call, Ream, Read, Write, Snap, Revert, Listing, Ch
 use Rattle.calls.specs.Parts.{areaBad, descriptorsOf, snapshotsOf, indexOf, withName, isSnapshot, targetOf, foundThrough}
 use Rattle.calls.specs.Check.{Passes}
 use Rattle.calls.specs.Ladder.{Row, row, rowsOf, answerOf}
-use Rattle.calls.specs.Effect.{lentOf}
 use Rattle.claims.specs.Algorithms.{Sigma, closeRegion, algorithm1, algorithm2, algorithm3, algorithm4, algorithm5, algorithm6}
 use Rattle.calls.specs.Step.{step, after, outcomes, isAccepted}
 use Rattle.claims.specs.History.{betaOf, Agree, isFormat, AreBytes, Standing, isSnapOf, Position, Nowhere, At, latestSnap, without, formattable, formatted}
 use Rattle.claims.specs.Ledger.{Ledger, ledgerStep, ledgerNumber, cellRead, ledgerNames, ledgerOf}
+
+-- Areas and names.
+
+-- An area is a card exactly where it is n blocks of 512 bytes, n from 2 to 65,536.
+unfoldable pub AreaClaim : Type 0
+AreaClaim = (c : List ℕ) → (areaBad c ≡ false) ↔ ((n : ℕ) × (2 ≤ n) × (n ≤ 65536) × (length c ≡ 512 * n))
+
+-- Names are compared whole: two are the same exactly where every byte is.
+unfoldable pub NameClaim : Type 0
+NameClaim = (a b : List ℕ) → (same a b ≡ true) ↔ (a ≡ b)
 
 -- Refusals, formats and room.
 
@@ -41,11 +50,21 @@ blocksNeeded (Revert name) c = 0
 blocksNeeded (Listing records) c = 0
 blocksNeeded Check c = 0
 
+-- what is lent to a call at its entry, besides the card: the block of a read or of a write, the records of a listing
+unfoldable pub lentAtEntry : Call → Lent
+lentAtEntry (Ream layout volume name) = None
+lentAtEntry (Read target name l block) = Block block
+lentAtEntry (Write l block) = Block block
+lentAtEntry (Snap name) = None
+lentAtEntry (Revert name) = None
+lentAtEntry (Listing records) = Records records
+lentAtEntry Check = None
+
 -- A refusal alters no byte of the card or of lent memory, and an accepted call answers 0 with place 0.
 unfoldable pub RefusalClaim : Type 0
 RefusalClaim =
     (k : Call) (c : List ℕ)
-    → (isAccepted (answerOf k c) ≡ false → (step k c .card ≡ c) × (step k c .outcome ≡ record { answer = answerOf k c; lent = lentOf k }))
+    → (isAccepted (answerOf k c) ≡ false → (step k c .card ≡ c) × (step k c .outcome ≡ record { answer = answerOf k c; lent = lentAtEntry k }))
     × (isAccepted (answerOf k c) ≡ true → step k c .outcome .answer ≡ accepted)
 
 -- A ream is accepted exactly where the area can be formatted so, whatever it holds, and leaves the format.
@@ -105,7 +124,7 @@ FrameClaim =
     (k : Call) (c : List ℕ)
     → (length (step k c .card) ≡ length c)
     × (isQuiet k ≡ true → step k c .card ≡ c)
-    × (fills k ≡ false → step k c .outcome .lent ≡ lentOf k)
+    × (fills k ≡ false → step k c .outcome .lent ≡ lentAtEntry k)
 
 -- An accepted listing gives each descriptor's own name, alpha, beta and next, and leaves the records after them.
 unfoldable pub ListClaim : Type 0

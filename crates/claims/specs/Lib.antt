@@ -5,4 +5,3 @@ pub mod Ledger
 pub mod Claims
 pub mod Bench
 pub mod Example
-pub mod Edges

@@ -7,7 +7,7 @@ use Rattle.blocks.specs.Pick.{same}
 use Rattle.blocks.specs.Name.{nameByte, nameLength, isText, padded, noName}
 use Rattle.calls.specs.declared.answer.Target.the-variants.{Active, Snapshot}
 use Rattle.cutter.specs.declared.line.SheetCall.the-variants.{Ream, Write, Read, Snap, Revert, List as Listing, Check}
-use Rattle.cutter.specs.Grammar.{withByte, wordsOf, hasKey, isDigit, allDigits, digitsFrom, isNumber, hasNumber, numberOf, lineWith, malformed, logical, lineOfOne, lineOfTwo, readFrom, lineOfThree, lineOfFive, lineOfWords, lineOf}
+use Rattle.cutter.specs.Grammar.{withByte, wordsOf, hasKey, isDigit, allDigits, digitsFrom, isNumber, hasNumber, numberOf, lineWith, malformed, logical, lineOfOne, lineOfTwo, readFrom, lineOfWrite, lineOfRead, lineOfThree, lineOfFive, lineOfWords, lineOf}
 
 -- `op=ream layout=2 blocks=16 volume=200 name=fs`
 abbrev reamLine : List ℕ
@@ -76,7 +76,7 @@ pub forms :
     × (lineOf noNameLine ≡ lineWith Snap noName)
     × (lineOf zeroByteLine ≡ lineWith Snap noName)
     × (lineOf longest ≡ lineWith Snap noName)
-unfolding lineOf wordsOf withByte lineOfWords lineOfOne lineOfTwo lineOfThree lineOfFive readFrom same hasKey hasNumber numberOf isNumber allDigits isDigit digitsFrom padded isText nameLength nameByte
+unfolding lineOf wordsOf withByte lineOfWords lineOfOne lineOfTwo lineOfThree lineOfWrite lineOfRead lineOfFive readFrom same hasKey hasNumber numberOf isNumber allDigits isDigit digitsFrom padded isText nameLength nameByte
 forms = (refl, refl, refl, refl, refl, refl, refl, refl, refl, refl, refl)
 
 -- two spaces: `op=snap  name=mon`
@@ -157,5 +157,5 @@ pub no-forms :
     × (lineOf onePairMore ≡ malformed)
     × (lineOf empty ≡ malformed)
     × (lineOf tooLong ≡ malformed)
-unfolding lineOf wordsOf withByte lineOfWords lineOfOne lineOfTwo lineOfThree lineOfFive readFrom same hasKey hasNumber numberOf isNumber allDigits isDigit digitsFrom padded isText nameLength nameByte
+unfolding lineOf wordsOf withByte lineOfWords lineOfOne lineOfTwo lineOfThree lineOfWrite lineOfRead lineOfFive readFrom same hasKey hasNumber numberOf isNumber allDigits isDigit digitsFrom padded isText nameLength nameByte
 no-forms = (refl, refl, refl, refl, refl, refl, refl, refl, refl, refl, refl, refl, refl, refl, refl, refl)

@@ -9,15 +9,14 @@ use borrow.Author.Tests.{le-ltb, lt-ltb, le-leb, lt-leb, not-true, not-false}
 use Rattle.blocks.specs.Pick.{pick, same}
 use Rattle.blocks.specs.Bytes.{part}
 use Rattle.blocks.specs.Name.{padded, noName}
-use Rattle.blocks.proofs.ListLaws.{same-equal}
 use Rattle.calls.specs.declared.answer.Target.the-variants.{Active, Snapshot}
 use Rattle.cutter.specs.declared.line.SheetCall.the-variants.{Ream, Write, Read, Snap, Revert, List as Listing, Check}
 use Rattle.cutter.specs.declared.line.Line.{Line}
 use Rattle.cutter.specs.declared.number.Number.{Number}
 use Rattle.cutter.specs.declared.number.Number.the-variants.{Not, Is}
 use Rattle.cutter.specs.Words.{opReam, opWrite, opRead, opSnap, opRevert, opList, opCheck, keyLayout, keyBlocks, keyVolume, keyName, keyBlock, keyFill, keyFrom, star}
-use Rattle.cutter.specs.Grammar.{wordsOf, hasKey, lineWith, malformed, logical, lineOfOne, lineOfTwo, readFrom, lineOfThree, lineOfFive, lineOfWords, lineOf}
-use Rattle.cutter.specs.Parts.{lengthTo, numberAfter, lineOfWrite, lineOfRead}
+use Rattle.cutter.specs.Grammar.{wordsOf, hasKey, lineWith, malformed, logical, lineOfOne, lineOfTwo, readFrom, lineOfWrite, lineOfRead, lineOfThree, lineOfFive, lineOfWords, lineOf, lengthTo}
+use Rattle.cutter.specs.Parts.{numberAfter}
 use Rattle.cutter.proofs.WordLaws.{words-at, words-end, words-first, key-fits, rest-is}
 use Rattle.cutter.proofs.NumberLaws.{after-not, after-is}
 
@@ -139,13 +138,16 @@ module _ (a b : List ℕ) (k : Bool) (key : k ≡ hasKey keyFrom a) where
 -- three words
 module _ (op a b : List ℕ) (r : Bool) (write : r ≡ same op opWrite) where
   pub three-write : r ≡ true → (l : Line) → l ≡ lineOfWrite a b → l ≡ lineOfThree op a b
-  unfolding lineOfThree lineOfWrite same
-  three-write e l m = rw (same-equal op opWrite (sym write ∙ e)) m
+  unfolding lineOfThree
+  three-write e l m = let p : same op opWrite ≡ true = sym write ∙ e in rw p m
 
   module _ (other : r ≡ false) (s : Bool) (read : s ≡ same op opRead) where
     pub three-read : s ≡ true → (l : Line) → l ≡ lineOfRead a b → l ≡ lineOfThree op a b
-    unfolding lineOfThree lineOfRead same
-    three-read e l m = rw (same-equal op opRead (sym read ∙ e)) m
+    unfolding lineOfThree
+    three-read e l m =
+        let p : same op opWrite ≡ false = sym write ∙ other in
+        let q : same op opRead ≡ true = sym read ∙ e in
+        rw (p, q) m
 
     pub three-other : s ≡ false → (l : Line) → l ≡ malformed → l ≡ lineOfThree op a b
     unfolding lineOfThree

@@ -12,14 +12,7 @@ use Rattle.blocks.specs.Pick.{pick}
 use Rattle.blocks.specs.Bytes.{part}
 use Rattle.cutter.specs.declared.line.Line.{Line}
 use Rattle.cutter.specs.declared.line.Cut.{Cut}
-use Rattle.cutter.specs.Grammar.{SheetLine, malformed, lineOf, lineLength, beforeLines, linesOf, lineIn, cutAt}
-use Rattle.cutter.specs.Parts.{lengthTo}
-
--- a line ends before the first line feed
-pub line-length : (l : List ℕ) → lineLength l ≡ lengthTo 10 l
-unfolding lineLength lengthTo
-line-length [] = refl
-line-length (b ∷ bs) = ap (λ (n : ℕ). pick (eqb b 10) 0 (suc n)) (line-length bs)
+use Rattle.cutter.specs.Grammar.{SheetLine, malformed, lineOf, lengthTo, lineLength, beforeLines, linesOf, lineIn, cutAt}
 
 -- a line with its line feed, and a line without one
 abbrev pub endedLine : List ℕ → SheetLine
@@ -29,7 +22,7 @@ abbrev pub openLine : List ℕ → SheetLine
 openLine bs = record { bytes = bs; ended = false }
 
 first-ended : (l : List ℕ) → lineLength l < length l → linesOf l ≡ endedLine (take (lineLength l) l) ∷ linesOf (drop (suc (lineLength l)) l)
-unfolding lineLength linesOf beforeLines
+unfolding lengthTo linesOf beforeLines
 first-ended [] h = absurd (omega arith)
 first-ended (b ∷ bs) h = by (eqb b 10) h (first-ended bs)
   where
@@ -44,7 +37,7 @@ open-step true b bs k more = absurd (omega arith)
 open-step false b bs k more = more (omega arith)
 
 first-open : (l : List ℕ) → 0 < length l → length l ≤ lineLength l → linesOf l ≡ openLine l ∷ []
-unfolding lineLength linesOf beforeLines
+unfolding lengthTo linesOf beforeLines
 first-open [] h k = absurd (omega arith)
 first-open (b ∷ []) h k = open-step (eqb b 10) b [] k (λ m. refl)
 first-open (b ∷ x ∷ xs) h k = open-step (eqb b 10) b (x ∷ xs) k (λ m. ap (beforeLines b) (first-open (x ∷ xs) (omega arith) m))
@@ -92,7 +85,7 @@ module _ (s : List ℕ) (at : ℕ) where
   -- as `cut_next` asks them: e is the place of the line feed
   module _ (e : ℕ) (is : e ≡ at + lengthTo 10 (drop at s)) where
     place : at + n ≡ e
-    place = ap (λ (i : ℕ). at + i) (line-length (drop at s)) ∙ sym is
+    place = sym is
 
     pub next-open : e ≡ length s → (l : Line) → l ≡ malformed → record { line = l; next = e } ≡ cutAt s at
     unfolding cutAt

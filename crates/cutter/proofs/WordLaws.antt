@@ -11,8 +11,7 @@ use lib.Dec.{eqb}
 use borrow.Author.Tests.{eq-eqb, ne-eqb, eqb-true, eqb-false, not-false}
 use Rattle.blocks.specs.Pick.{pick, same}
 use Rattle.blocks.specs.Bytes.{part}
-use Rattle.cutter.specs.Grammar.{withByte, wordsOf, hasKey}
-use Rattle.cutter.specs.Parts.{lengthTo}
+use Rattle.cutter.specs.Grammar.{withByte, wordsOf, hasKey, lengthTo}
 
 -- the place of the first byte b where none of those up to index i is
 unfoldable pub foundFrom : ℕ → List ℕ → ℕ → ℕ

@@ -86,19 +86,29 @@ lineOfTwo op a =
 unfoldable pub readFrom : List ℕ → ℕ → Line
 readFrom from l = pick (same from star) (lineWith (Read Active (logical l)) noName) (lineWith (Read Snapshot (logical l)) (padded from))
 
--- `op=write block= fill=`, `op=read from= block=`
-unfoldable pub lineOfThree : List ℕ → List ℕ → List ℕ → Line
-lineOfThree op a b =
-    pick (same op opWrite && hasNumber keyBlock a && hasNumber keyFill b && leb (numberOf keyFill b) 255)
+-- `op=write block= fill=`, by the two words after the first
+unfoldable pub lineOfWrite : List ℕ → List ℕ → Line
+lineOfWrite a b =
+    pick (hasNumber keyBlock a && hasNumber keyFill b && leb (numberOf keyFill b) 255)
     (lineWith (Write (logical (numberOf keyBlock a)) (numberOf keyFill b)) noName)
-    (pick (same op opRead && hasKey keyFrom a && hasNumber keyBlock b)
-    (readFrom (valueOf keyFrom a) (numberOf keyBlock b))
-    malformed)
+    malformed
+
+-- `op=read from= block=`, by the two words after the first
+unfoldable pub lineOfRead : List ℕ → List ℕ → Line
+lineOfRead a b = pick (hasKey keyFrom a && hasNumber keyBlock b) (readFrom (valueOf keyFrom a) (numberOf keyBlock b)) malformed
+
+-- `op=write` and `op=read`, each with its two words
+unfoldable pub lineOfThree : List ℕ → List ℕ → List ℕ → Line
+lineOfThree op a b = pick (same op opWrite) (lineOfWrite a b) (pick (same op opRead) (lineOfRead a b) malformed)
+
+-- the blocks that a sheet owns: a format asks for at most these
+abbrev pub sheetBlocks : ℕ
+sheetBlocks = 64
 
 -- `op=ream layout= blocks= volume= name=`
 unfoldable pub lineOfFive : List ℕ → List ℕ → List ℕ → List ℕ → List ℕ → Line
 lineOfFive op a b c d =
-    pick (same op opReam && hasNumber keyLayout a && hasNumber keyBlocks b && leb (numberOf keyBlocks b) 64 && hasNumber keyVolume c && hasKey keyName d)
+    pick (same op opReam && hasNumber keyLayout a && hasNumber keyBlocks b && leb (numberOf keyBlocks b) sheetBlocks && hasNumber keyVolume c && hasKey keyName d)
     (lineWith (Ream (numberOf keyLayout a) (numberOf keyBlocks b) (numberOf keyVolume c)) (padded (valueOf keyName d)))
     malformed
 
@@ -119,10 +129,14 @@ mostLine = 127
 unfoldable pub lineOf : List ℕ → Line
 lineOf bytes = pick (ltb mostLine (length bytes)) malformed (lineOfWords (wordsOf bytes))
 
--- how many bytes stand before the first line feed, all where there is none
-unfoldable pub lineLength : List ℕ → ℕ
-lineLength [] = 0
-lineLength (b ∷ bs) = pick (eqb b 10) 0 (suc (lineLength bs))
+-- how many bytes stand before the first that is b, all where none is
+unfoldable pub lengthTo : ℕ → List ℕ → ℕ
+lengthTo b [] = 0
+lengthTo b (x ∷ xs) = pick (eqb x b) 0 (suc (lengthTo b xs))
+
+-- the same before the first line feed
+abbrev pub lineLength : List ℕ → ℕ
+lineLength bytes = lengthTo 10 bytes
 
 -- a line as it stands in a sheet: its bytes, and whether a line feed ends it
 pub record SheetLine : Type 0 where

@@ -9,8 +9,7 @@ use calls::answer::Target;
 ghost use mathlib.Core.Path.{_≡_};
 ghost use Prim.Native.Nat.{_≤_, _<_};
 ghost use lib.ListN.{length};
-ghost use Rattle.cutter.specs.Grammar.{malformed, lineOfOne, lineOfTwo, lineOfThree, lineOfFive, lineOf, readFrom, cutAt};
-ghost use Rattle.cutter.specs.Parts.{lineOfWrite, lineOfRead};
+ghost use Rattle.cutter.specs.Grammar.{malformed, lineOfOne, lineOfTwo, lineOfWrite, lineOfRead, lineOfThree, lineOfFive, lineOf, readFrom, cutAt};
 
 // What a line asks for. The bytes of a name stand beside it.
 pub enum SheetCall {

@@ -3,8 +3,7 @@ use blocks::bytes;
 ghost use mathlib.Core.Path.{_≡_};
 ghost use Prim.Native.Nat.{_+_, _≤_};
 ghost use lib.ListN.{length, drop};
-ghost use Rattle.cutter.specs.Grammar.{hasKey};
-ghost use Rattle.cutter.specs.Parts.{lengthTo};
+ghost use Rattle.cutter.specs.Grammar.{hasKey, lengthTo};
 
 // The index of the first byte from `at` on that is `byte`, the length where none is.
 pub fn find_byte(text: &[u8], at: usize, byte: u8) -> usize

@@ -16,27 +16,13 @@ use Rattle.blocks.specs.Bytes.{u32At, part}
 use Rattle.blocks.specs.Descriptor.{physical, tableCount}
 use Rattle.blocks.specs.declared.numbers.Physical.{Physical}
 use Rattle.blocks.specs.declared.descriptor.Descriptor.{Descriptor}
+use Rattle.blocks.proofs.BoolLaws.{no, or-false-left, or-false-right, or-true, and-false}
 use Rattle.entries.specs.InPlace.{isDescriptor, isTable, inPlace}
 use Rattle.entries.specs.Entry.{entryAt, phiAt, tableOf}
 use Rattle.entries.specs.Naming.{Naming, among, atFault, tableNamings, tablesNamings, phiNamings, firstFault}
 use Rattle.entries.specs.Marks.{isFlagged, takes, taking, Marks, Walked, Judged, namedTable, TableReady, TablesReady, PhiReady}
 use Rattle.entries.proofs.MarkLaws.{takes-below, takes-free, length-taking}
 use Rattle.entries.specs.declared.check.Verdict.the-variants.{Passed, Fault}
-
-no : {A : Type 0} → false ≡ true → A
-no e = let z : _≡_ {A = ℕ} 0 1 = cc in absurd (omega arith)
-
-or-false-left : (x y : Bool) → (x || y) ≡ false → x ≡ false
-or-false-left true y e = no (sym e)
-or-false-left false y e = refl
-
-or-false-right : (x y : Bool) → (x || y) ≡ false → y ≡ false
-or-false-right true y e = no (sym e)
-or-false-right false y e = e
-
-or-true-right : (x : Bool) → (x || true) ≡ true
-or-true-right true = refl
-or-true-right false = refl
 
 -- one entry, as tests: z nil, b below beta, o in an opening, k counted, a named before, f against the rule on old tables, t below the limit, s flagged
 module _ (b o a f t s : Bool) (lower : t ≡ true → b ≡ true) (rule : b ≡ true → f ≡ not t) where
@@ -54,7 +40,7 @@ module _ (b o a f t s : Bool) (lower : t ≡ true → b ≡ true) (rule : b ≡ 
 
   -- one that is not taken is at fault
   set-refused : (k : Bool) → (t ≡ true → s ≡ (o || a)) → (k && t && not s) ≡ false → (not (b && not o) || (not k || a) || f) ≡ true
-  set-refused false flags e = rw (or-true-right (not (b && not o)))
+  set-refused false flags e = rw (or-true (not (b && not o)))
   set-refused true flags e = by t b o refl refl refl
     where
       by : (t′ b′ o′ : Bool) → t ≡ t′ → b ≡ b′ → o ≡ o′ → (not (b && not o) || (not true || a) || f) ≡ true
@@ -64,7 +50,7 @@ module _ (b o a f t s : Bool) (lower : t ≡ true → b ≡ true) (rule : b ≡ 
           let s-is : s ≡ true = not-false s (rw qt at e) in
           let a-is : a ≡ true = sym (rw qo at (flags qt)) ∙ s-is in
           rw (qb, qo, a-is)
-      by false true false qt qb qo = rw (rule qb, qt, or-true-right (not (b && not o) || (not true || a)))
+      by false true false qt qb qo = rw (rule qb, qt, or-true (not (b && not o) || (not true || a)))
 
 -- an entry of value v in block holder, after the values named before, with flags that say which blocks may not be named any more
 module _ (ds : List Descriptor) (d : Descriptor) (holder v : ℕ) (counted phi : Bool) (limit : ℕ) (before : List ℕ) (turn : ℕ) (seen : List ℕ) (marks : Marks ds turn seen before) (low : limit ≤ d .beta .0) (long : d .beta .0 ≤ length seen) where
@@ -135,7 +121,7 @@ module _ (ds : List Descriptor) (d : Descriptor) (holder v : ℕ) (counted phi :
       says-at : (t : Bool) → eqb w v ≡ t → isFlagged (set seen v turn) turn w ≡ ((isDescriptor ds w || isTable ds w) || among (v ∷ before) w)
       says-at true e =
           let q = eqb-true w v e in
-          ap (λ (x : ℕ). leb turn x) (flag-same w q) ∙ le-leb turn turn (omega arith) ∙ rw (q, among-same) (sym (or-true-right (isDescriptor ds v || isTable ds v)))
+          ap (λ (x : ℕ). leb turn x) (flag-same w q) ∙ le-leb turn turn (omega arith) ∙ rw (q, among-same) (sym (or-true (isDescriptor ds v || isTable ds v)))
       says-at false e =
           let q = eqb-false w v e in
           ap (λ (x : ℕ). leb turn x) (getD-set-other seen v w turn 0 q) ∙ marks .says w m k ∙ ap (λ (x : Bool). (isDescriptor ds w || isTable ds w) || x) (sym (among-other w q))
@@ -171,10 +157,6 @@ module _ (ds : List Descriptor) (d : Descriptor) (holder v : ℕ) (counted phi :
   marks-taken h = marks-by (eqb v 0) refl h
 
 -- the limit of a table block: alpha where the table is an old one, else beta
-and-false-end : (x : Bool) → (x && false) ≡ false
-and-false-end true = refl
-and-false-end false = refl
-
 module _ (d : Descriptor) (m v : ℕ) (rising : d .alpha .0 ≤ d .beta .0) (own : (d .layout ≡ 2) ⊎ (d .alpha .0 ≤ m)) where
   abbrev limit-for : ℕ
   limit-for = pick (ltb m (d .alpha .0)) (d .alpha .0) (d .beta .0)
@@ -202,7 +184,7 @@ module _ (d : Descriptor) (m v : ℕ) (rising : d .alpha .0 ≤ d .beta .0) (own
   rule-old h (inr l) = absurd (omega arith)
 
   rule-own : d .alpha .0 ≤ m → v < d .beta .0 → old ≡ not (ltb v limit-for)
-  rule-own h l = rw (le-ltb m (d .alpha .0) h, lt-ltb v (d .beta .0) l, and-false-end (eqb (d .layout) 2 && not false && leb (d .alpha .0) v))
+  rule-own h l = rw (le-ltb m (d .alpha .0) h, lt-ltb v (d .beta .0) l, and-false (eqb (d .layout) 2 && not false && leb (d .alpha .0) v))
 
   rule-by : (t : Bool) → ltb m (d .alpha .0) ≡ t → v < d .beta .0 → old ≡ not (ltb v limit-for)
   rule-by true e l = rule-old (ltb-true m (d .alpha .0) e) own
@@ -213,8 +195,8 @@ module _ (d : Descriptor) (m v : ℕ) (rising : d .alpha .0 ≤ d .beta .0) (own
 
   nil-by : (t : Bool) → leb (d .alpha .0) v ≡ t → v ≡ 0 → old ≡ false
   nil-by true e z =
-      rw (le-ltb m (d .alpha .0) (omega (arith, leb-true (d .alpha .0) v e)), and-false-end (eqb (d .layout) 2 && not false && leb (d .alpha .0) v))
-  nil-by false e z = rw (e, and-false-end (eqb (d .layout) 2 && not false))
+      rw (le-ltb m (d .alpha .0) (omega (arith, leb-true (d .alpha .0) v e)), and-false (eqb (d .layout) 2 && not false && leb (d .alpha .0) v))
+  nil-by false e z = rw (e, and-false (eqb (d .layout) 2 && not false))
 
   pub table-nil : v ≡ 0 → old ≡ false
   table-nil z = nil-by (leb (d .alpha .0) v) refl z
@@ -499,7 +481,7 @@ module _ (c : List ℕ) (ds : List Descriptor) (d : Descriptor) where
       by : (z e x : Bool) → (not (z || x) || (not z && (not false || among before v)) || (e && not true && leb (d .alpha .0) v && ltb (d .alpha .0) (d .alpha .0))) ≡ not z
       by true true x = refl
       by true false x = refl
-      by false e x = rw (or-true-right (not x))
+      by false e x = rw (or-true (not x))
 
   past-next : (k i : ℕ) → tableCount (d .volume) ≤ i → phiNamings c d (suc k) i ≡ past-entry (phiAt c d i) ∷ phiNamings c d k (i + 1)
   unfolding phiNamings

@@ -5,7 +5,7 @@ use mathlib.Core.List.{List}
 use Prim.Native.Nat.{ℕ, _+_, _*_, _/_, _%_, _≤_, _<_, _^_}
 use native.Mathlib.Omega.{arith}
 use lib.ListN.{length}
-use lib.Dec.{eqb, ltb}
+use lib.Dec.{eqb, ltb, leb}
 use borrow.Author.Tests.{eq-eqb, ne-eqb, not-true, not-false, ltb-true, eqb-true, eqb-false}
 use Rattle.blocks.specs.Pick.{pick}
 use Rattle.blocks.specs.Bytes.{blockCount}
@@ -13,11 +13,13 @@ use Rattle.blocks.specs.Descriptor.{physical, tableCount, cost, costOf}
 use Rattle.blocks.specs.Chain.{chain, descriptors}
 use Rattle.blocks.specs.declared.numbers.Physical.{Physical}
 use Rattle.blocks.specs.declared.descriptor.Descriptor.{Descriptor}
+use Rattle.blocks.proofs.Tests.{and-right}
+use Rattle.blocks.proofs.BoolLaws.{or-false-left}
 use Rattle.blocks.proofs.SoundLaws.{form-most}
 use Rattle.blocks.proofs.ChainLaws.{cost-least}
 use Rattle.blocks.proofs.LinkedLaws.{at-alpha, at-long, at-end}
 use Rattle.entries.specs.InPlace.{isDescriptor, isTable, inPlaceAt, inPlace}
-use Rattle.entries.specs.Entry.{tableOf, entryAt, entryFound, find}
+use Rattle.entries.specs.Entry.{tableOf, entryAt, entryFound, find, tableIsNew, need}
 use Rattle.entries.specs.Through.{Through}
 use Rattle.entries.specs.declared.find.Found.{Found}
 use Rattle.entries.specs.declared.find.Found.the-variants.{Misplaced, Entry}
@@ -124,6 +126,7 @@ unfolding find
 find-placed c ds d l m p e =
     find-by ds d (tableOf c d (l / 128)) (entryAt c (tableOf c d (l / 128)) (l % 128)) m p (eqb (d .layout) 1) (inPlace ds d (tableOf c d (l / 128))) (eqb (tableOf c d (l / 128)) 0) e
 
+-- a set entry in place is below beta
 below-by : (ds : List Descriptor) (d : Descriptor) (p : ℕ) (t : Bool) (o : Bool) → ltb p (d .beta .0) ≡ t → (t && o) ≡ true → p < d .beta .0
 below-by ds d p true o e h = ltb-true p (d .beta .0) e
 below-by ds d p false o e h = let y : _≡_ {A = ℕ} 0 1 = cc in absurd (omega arith)
@@ -131,6 +134,13 @@ below-by ds d p false o e h = let y : _≡_ {A = ℕ} 0 1 = cc in absurd (omega 
 pub placed-below : (ds : List Descriptor) (d : Descriptor) (p : ℕ) → inPlace ds d p ≡ true → (p ≡ 0 → ⊥) → p < d .beta .0
 unfolding inPlace
 placed-below ds d p h n = below-by ds d p (ltb p (d .beta .0)) (not (isDescriptor ds p || isTable ds p)) refl (rw (ne-eqb p 0 n) at h)
+
+-- and it is no descriptor of the chain
+pub placed-other : (ds : List Descriptor) (d : Descriptor) (p : ℕ) → inPlace ds d p ≡ true → (p ≡ 0 → ⊥) → isDescriptor ds p ≡ false
+unfolding inPlace
+placed-other ds d p h n =
+    let k : (ltb p (d .beta .0) && not (isDescriptor ds p || isTable ds p)) ≡ true = rw (ne-eqb p 0 n) at h in
+    or-false-left (isDescriptor ds p) (isTable ds p) (not-true (isDescriptor ds p || isTable ds p) (and-right (ltb p (d .beta .0)) (not (isDescriptor ds p || isTable ds p)) k))
 
 pub found-inside : (c starts : List ℕ) (count : ℕ) (d : Descriptor) → Through c starts count d → (l : ℕ) (f : Found) → f ≡ find c (descriptors (chain c)) d l → (m p : Physical) → f ≡ Entry m p → (p .0 ≡ 0 → ⊥) → 512 * p .0 + 512 ≤ length c
 found-inside c starts count d t l f is m p e n =
@@ -141,7 +151,7 @@ table-is : (m′ p : Physical) (m q : ℕ) (t : Bool) → pick t (Entry (physica
 table-is m′ p m q true e = let k : physical m ≡ m′ = cc in sym (ap (λ (x : Physical). x .0) k)
 table-is m′ p m q false e = let z : _≡_ {A = ℕ} 0 1 = cc in absurd (omega arith)
 
-entry-table : (ds : List Descriptor) (d : Descriptor) (m q : ℕ) (m′ p : Physical) → entryFound ds d m q ≡ Entry m′ p → m′ .0 ≡ m
+pub entry-table : (ds : List Descriptor) (d : Descriptor) (m q : ℕ) (m′ p : Physical) → entryFound ds d m q ≡ Entry m′ p → m′ .0 ≡ m
 unfolding entryFound
 entry-table ds d m q m′ p e = table-is m′ p m q (inPlace ds d q) e
 
@@ -169,3 +179,12 @@ found-table c starts count d t l h f is m p e =
 
 pub found-entry : (c starts : List ℕ) (count : ℕ) (d : Descriptor) → Through c starts count d → (l : ℕ) (f : Found) → f ≡ find c (descriptors (chain c)) d l → (m p : Physical) → f ≡ Entry m p → (p .0 ≡ 0 → ⊥) → p .0 < d .beta .0
 found-entry c starts count d t l f is m p e n = placed-below (descriptors (chain c)) d (p .0) (find-placed c (descriptors (chain c)) d l m p (sym is ∙ e)) n
+
+-- what a write takes, where it takes blocks
+need-some : (s new : Bool) (n : ℕ) → n ≡ pick s 0 (pick new 2 1) → (n ≡ 0 → ⊥) → n ≡ pick new 2 1
+need-some true new n e z = absurd (z e)
+need-some false new n e z = e
+
+pub need-more : (alpha : ℕ) (m p : Physical) → (need alpha (Entry m p) ≡ 0 → ⊥) → need alpha (Entry m p) ≡ pick (tableIsNew alpha (m .0)) 2 1
+unfolding need
+need-more alpha m p z = need-some (not (eqb (p .0) 0) && leb alpha (p .0)) (tableIsNew alpha (m .0)) (need alpha (Entry m p)) refl z

@@ -13,6 +13,7 @@ use Rattle.blocks.specs.Bytes.{blockCount}
 use Rattle.blocks.specs.Descriptor.{tableCount, cost, costOf, noDescriptor}
 use Rattle.blocks.specs.Chain.{chain, descriptors}
 use Rattle.blocks.specs.declared.descriptor.Descriptor.{Descriptor}
+use Rattle.blocks.proofs.BoolLaws.{or-assoc, or-nil}
 use Rattle.blocks.proofs.SoundLaws.{form-layout}
 use Rattle.blocks.proofs.ChainLaws.{cost-least}
 use Rattle.blocks.proofs.LinkedLaws.{at-alpha, at-cost, at-long, at-end}
@@ -78,14 +79,6 @@ opened ds v = isDescriptor ds v || isTable ds v
 
 abbrev tables : Descriptor → ℕ → Bool
 tables d v = eqb (d .layout) 1 && ltb (d .alpha .0) v && leb v (d .alpha .0 + tableCount (d .volume))
-
-or-assoc : (x y z : Bool) → (x || (y || z)) ≡ ((x || y) || z)
-or-assoc true y z = refl
-or-assoc false y z = refl
-
-or-nil : (x : Bool) → (x || false) ≡ x
-or-nil true = refl
-or-nil false = refl
 
 descriptor-snoc : (ds : List Descriptor) (d : Descriptor) (v : ℕ) → isDescriptor (ds ++ (d ∷ [])) v ≡ (isDescriptor ds v || (eqb v (d .alpha .0) || false))
 unfolding isDescriptor

@@ -11,6 +11,7 @@ use Rattle.blocks.specs.Pick.{pick}
 use Rattle.blocks.specs.Descriptor.{tableCount, cost, costOf, noDescriptor, descriptorAt}
 use Rattle.blocks.specs.Chain.{Sound, chain, descriptors, ends, startsOf}
 use Rattle.blocks.specs.declared.descriptor.Descriptor.{Descriptor}
+use Rattle.blocks.proofs.BoolLaws.{or-nil, and-false-mid}
 use Rattle.blocks.proofs.LinkedLaws.{Linked, last, more, chain-linked, sound-alpha, sound-cost, sound-long, sound-next, regionStart, region-start-zero, region-start-suc, region-start-listed, linked-rise, RegionAt, linked-at, at-cost, starts-long, regions-sound}
 use Rattle.entries.specs.InPlace.{isDescriptor, isTable, inPlace, regionOf, inPlaceAt}
 use Rattle.entries.specs.Through.{RisingRegions, Through}
@@ -26,13 +27,9 @@ module _ (a n q : ℕ) (above : a ≤ q) where
   layout-2 true he = rw (lt-leb (a + 1) q (omega (arith, eqb-true q a he)))
   layout-2 false he = rw (le-leb (a + 1) q (omega (arith, eqb-false q a he)))
 
-or-false : (b : Bool) → (b || false) ≡ b
-or-false true = refl
-or-false false = refl
-
 opening-by : (t : Bool) (a n q : ℕ) → a ≤ q → not ((eqb q a || false) || ((t && ltb a q && leb q (a + n)) || false)) ≡ leb (a + pick t (1 + n) 1) q
-opening-by true a n q h = rw (or-false (eqb q a), or-false (ltb a q && leb q (a + n))) (layout-1 a n q h (eqb q a) (leb q (a + n)) refl refl)
-opening-by false a n q h = rw (or-false (eqb q a), or-false (eqb q a)) (layout-2 a n q h (eqb q a) refl)
+opening-by true a n q h = rw (or-nil (eqb q a), or-nil (ltb a q && leb q (a + n))) (layout-1 a n q h (eqb q a) (leb q (a + n)) refl refl)
+opening-by false a n q h = rw (or-nil (eqb q a), or-nil (eqb q a)) (layout-2 a n q h (eqb q a) refl)
 
 -- alone, a descriptor's opening is the c blocks from alpha on
 pub opening-alone : (d : Descriptor) (q : ℕ) → d .alpha .0 ≤ q
@@ -49,10 +46,6 @@ opening-missed : (d : Descriptor) (q : ℕ) → d .alpha .0 + costOf d ≤ q
     → (eqb q (d .alpha .0) ≡ false) × ((eqb (d .layout) 1 && ltb (d .alpha .0) q && leb q (d .alpha .0 + tableCount (d .volume))) ≡ false)
 unfolding cost
 opening-missed d q h = missed-by (eqb (d .layout) 1) (d .alpha .0) (tableCount (d .volume)) q h
-
-and-false : (t b : Bool) → (t && false && b) ≡ false
-and-false true b = refl
-and-false false b = refl
 
 -- the start of the region that contains q, in a list of starts
 unfoldable startOf : List ℕ → ℕ → ℕ
@@ -90,11 +83,11 @@ module _ {c : List ℕ} where
   unfolding isDescriptor isTable
   none-below q (last {es = es} {p = p} {d = d} is ok z) h =
       let a = sound-alpha c es p d is ok in
-      (rw (ne-eqb q (d .alpha .0) (omega arith)), rw (le-ltb (d .alpha .0) q (omega arith), and-false (eqb (d .layout) 1)))
+      (rw (ne-eqb q (d .alpha .0) (omega arith)), rw (le-ltb (d .alpha .0) q (omega arith), and-false-mid (eqb (d .layout) 1)))
   none-below q (more {es = es} {p = p} {d = d} {ds = ds} is ok z rest) h =
       let a = sound-alpha c es p d is ok in
       let r = none-below q rest (omega (arith, sound-next c es p d is ok z, sound-long c es p d is ok)) in
-      (rw (ne-eqb q (d .alpha .0) (omega arith)) (r .0), rw (le-ltb (d .alpha .0) q (omega arith), and-false (eqb (d .layout) 1)) (r .1))
+      (rw (ne-eqb q (d .alpha .0) (omega arith)) (r .0), rw (le-ltb (d .alpha .0) q (omega arith), and-false-mid (eqb (d .layout) 1)) (r .1))
 
   -- outside every opening, in 01's words, is outside the opening of the region that contains q; what stands after the regions does not matter
   outside : {es : List Descriptor} {p : ℕ} {ds : List Descriptor} (q : ℕ) (zs : List ℕ) → Linked c es p ds → p ≤ q → q < regionStart p ds (length ds)

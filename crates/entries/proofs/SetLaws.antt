@@ -11,8 +11,8 @@ use Rattle.blocks.specs.Pick.{pick}
 use Rattle.blocks.specs.Bytes.{le32, splice, storeBlock, storeAll, blockAt, zeroBlock}
 use Rattle.blocks.specs.Descriptor.{headBytes, tailAt, descriptorBlock, extendedOf}
 use Rattle.blocks.specs.declared.descriptor.Descriptor.{Descriptor}
-use Rattle.blocks.proofs.ByteLaws.{length-le32, length-splice, length-part, length-blockAt, splice-past, put-block, put-stored, store-same, store-other, store-over}
-use Rattle.blocks.proofs.DescriptorLaws.{block-length, head-length, store-tail}
+use Rattle.blocks.proofs.ByteLaws.{length-le32, length-splice, length-blockAt, splice-past, put-block, put-stored, store-same, store-other, store-over}
+use Rattle.blocks.proofs.DescriptorLaws.{block-length, head-length, store-tail, tail-length}
 use Rattle.entries.specs.Entry.{tableWith, tailWith, setInTable, setInNewTable}
 
 -- an entry of Phi put into a descriptor's block is put into the bytes that travel as they are
@@ -23,15 +23,17 @@ phi-put tail d i m b b′ n e f =
     rw (f, e, k) (splice-past (headBytes d) tail 40 (24 + 4 * i) (le32 m) n)
 
 -- lengths of what is stored
-table-length : (b : List ℕ) (j q : ℕ) → length b ≡ 512 → j < 128 → length (tableWith b j q) ≡ 512
+pub table-length : (b : List ℕ) (j q : ℕ) → length b ≡ 512 → j < 128 → length (tableWith b j q) ≡ 512
 unfolding tableWith
 table-length b j q n h = length-splice b (4 * j) (le32 q) (rw (length-le32 q, n) (omega arith)) ∙ n
 
+pub tail-with-length : (tail : List ℕ) (i m : ℕ) → length tail ≡ 472 → i < 112 → length (tailWith tail i m) ≡ 472
+unfolding tailWith
+tail-with-length tail i m n h = length-splice tail (24 + 4 * i) (le32 m) (rw (length-le32 m, n) (omega arith)) ∙ n
+
 phi-length : (c : List ℕ) (p : ℕ) (d : Descriptor) (i m : ℕ) → 512 * p + 512 ≤ length c → length (headBytes d) ≡ 40 → i < 112 → length (descriptorBlock d (tailWith (tailAt c p) i m)) ≡ 512
-unfolding descriptorBlock tailWith
-phi-length c p d i m h n l =
-    let t = length-part c (512 * p + 40) 472 (omega arith) in
-    length-append (headBytes d) (splice (tailAt c p) (24 + 4 * i) (le32 m)) ∙ omega (arith, n, t, length-splice (tailAt c p) (24 + 4 * i) (le32 m) (rw (length-le32 m, t) (omega arith)))
+unfolding descriptorBlock
+phi-length c p d i m h n l = length-append (headBytes d) (tailWith (tailAt c p) i m) ∙ omega (arith, n, tail-with-length (tailAt c p) i m (tail-length c p h) l)
 
 old-length : (c : List ℕ) (m : ℕ) → 512 * m + 512 ≤ length c → length (pick (eqb m 0) zeroBlock (blockAt c m)) ≡ 512
 old-length c m h = by (eqb m 0)

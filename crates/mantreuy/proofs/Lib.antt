@@ -2,3 +2,4 @@
 pub mod ExportedLaws
 pub mod RecordLaws
 pub mod ListingLaws
+pub mod Values

@@ -2,22 +2,23 @@
 use mathlib.Core.Path.{_≡_, refl, sym, ap, _∙_}
 use mathlib.Core.Bool.{Bool, true, false}
 use mathlib.Core.List.{List, [], _∷_, _++_, append-assoc}
-use Prim.Native.Nat.{ℕ, zero, suc, _+_, _*_, _/_, _%_, _≤_, _<_}
+use Prim.Native.Nat.{ℕ, zero, suc, _+_, _*_, _/_, _≤_, _<_}
 use native.Mathlib.Omega.{arith}
 use lib.ListN.{length, take, drop, getD, length-drop, take-append-drop}
-use lib.Seq.{drop-cons, drop-drop, getD-drop, take-add}
+use lib.Seq.{drop-drop, getD-drop, take-add}
 use Rattle.blocks.specs.Pick.{pick}
-use Rattle.blocks.specs.Bytes.{u32At, le32, part, storeAll}
 use Rattle.blocks.specs.declared.descriptor.Descriptor.{Descriptor}
+use Rattle.blocks.proofs.ByteLaws.{number-back}
 use Rattle.calls.specs.declared.answer.Record.{Record}
-use Rattle.calls.specs.Call.{Call, Listing}
+use Rattle.calls.specs.Call.{Listing}
 use Rattle.calls.specs.Parts.{descriptorsOf}
 use Rattle.calls.specs.Ladder.{listRows, rowsOf, answerOf}
-use Rattle.calls.specs.Effect.{recordOf, listed, storesOf, lentOf, filledOf}
-use Rattle.calls.specs.Step.{Done, step, isAccepted}
+use Rattle.calls.specs.Effect.{recordOf, listed, lentOf, filledOf}
+use Rattle.calls.specs.Step.{step, isAccepted}
+use Rattle.calls.proofs.StepLaws.{step-answer, step-lent}
 use Rattle.calls.proofs.ListLaws.{list-room}
-use Rattle.mantreuy.specs.RecordBytes.{recordBytes, recordsBytes, recordIn, recordsIn, lentBytes, roomIn, Listed, listingOf}
-use Rattle.mantreuy.proofs.RecordLaws.{step-answer, room-size}
+use Rattle.mantreuy.specs.RecordBytes.{recordBytes, recordsBytes, recordIn, recordsIn, lentBytes, roomIn, ListedBytes, listingOf}
+use Rattle.mantreuy.proofs.RecordLaws.{room-size}
 
 -- a listing's answer depends on how many records are lent, and not on what stands in them
 answer-room : (c : List ℕ) (rs ts : List Record) → length rs ≡ length ts → answerOf (Listing rs) c ≡ answerOf (Listing ts) c
@@ -45,38 +46,7 @@ Bytes b = (i : ℕ) → getD b i 0 < 256
 bytes-drop : (b : List ℕ) (n : ℕ) → Bytes b → Bytes (drop n b)
 bytes-drop b n h i = rw (getD-drop n b i 0) (h (n + i))
 
--- the four bytes of a number that was read are those that were there
-digit-0 : (w x y z : ℕ) → w < 256 → (w + 256 * x + 65536 * y + 16777216 * z) % 256 ≡ w
-digit-0 w x y z h = omega arith
-
-digit-1 : (w x y z : ℕ) → w < 256 → x < 256 → (w + 256 * x + 65536 * y + 16777216 * z) / 256 % 256 ≡ x
-digit-1 w x y z h k =
-    let e : (w + 256 * x + 65536 * y + 16777216 * z) / 256 ≡ x + 256 * y + 65536 * z = omega arith in rw e (omega arith)
-
-digit-2 : (w x y z : ℕ) → w < 256 → x < 256 → y < 256 → (w + 256 * x + 65536 * y + 16777216 * z) / 65536 % 256 ≡ y
-digit-2 w x y z h k l =
-    let e : (w + 256 * x + 65536 * y + 16777216 * z) / 65536 ≡ y + 256 * z = omega arith in rw e (omega arith)
-
-digit-3 : (w x y z : ℕ) → w < 256 → x < 256 → y < 256 → z < 256 → (w + 256 * x + 65536 * y + 16777216 * z) / 16777216 % 256 ≡ z
-digit-3 w x y z h k l m =
-    let e : (w + 256 * x + 65536 * y + 16777216 * z) / 16777216 ≡ z = omega arith in rw e (omega arith)
-
-part-4 : (b : List ℕ) (at : ℕ) → at + 4 ≤ length b → part b at 4 ≡ getD b at 0 ∷ getD b (at + 1) 0 ∷ getD b (at + 2) 0 ∷ getD b (at + 3) 0 ∷ []
-part-4 b at h =
-    let e₁ : at + 1 ≡ suc at = omega arith in
-    let e₂ : at + 2 ≡ suc (suc at) = omega arith in
-    let e₃ : at + 3 ≡ suc (suc (suc at)) = omega arith in
-    rw (e₁, e₂, e₃, drop-cons b at 0 (omega arith), drop-cons b (suc at) 0 (omega arith), drop-cons b (suc (suc at)) 0 (omega arith), drop-cons b (suc (suc (suc at))) 0 (omega arith))
-
-number-back : (b : List ℕ) (at : ℕ) → Bytes b → at + 4 ≤ length b → le32 (u32At b at) ≡ part b at 4
-unfolding le32 u32At
-number-back b at h l =
-    let w = getD b at 0 in
-    let x = getD b (at + 1) 0 in
-    let y = getD b (at + 2) 0 in
-    let z = getD b (at + 3) 0 in
-    rw (part-4 b at l, digit-0 w x y z (h at), digit-1 w x y z (h at) (h (at + 1)), digit-2 w x y z (h at) (h (at + 1)) (h (at + 2)), digit-3 w x y z (h at) (h (at + 1)) (h (at + 2)) (h (at + 3)))
-
+-- a record that was read is the bytes that were there
 record-back : (b : List ℕ) → Bytes b → 28 ≤ length b → recordBytes (recordIn b) ≡ take 28 b
 unfolding recordBytes recordIn
 record-back b h l =
@@ -118,24 +88,11 @@ records-after [] rest = refl
 records-after (d ∷ ds) rest =
     ap (λ (l : List ℕ). recordBytes (recordOf d) ++ l) (records-after ds rest) ∙ sym (append-assoc (recordBytes (recordOf d)) (recordsBytes (listed ds [])) (recordsBytes rest))
 
--- what is lent to a call at its exit
-step-lent : (k : Call) (c : List ℕ) → step k c .outcome .lent ≡ pick (isAccepted (answerOf k c)) (filledOf k c) (lentOf k)
-unfolding step
-step-lent k c = by (isAccepted (answerOf k c))
-  where
-    by : (t : Bool)
-        → pick {A = Done} t
-        (record { outcome = record { answer = answerOf k c; lent = filledOf k c }; card = storeAll c (storesOf k c) })
-        (record { outcome = record { answer = answerOf k c; lent = lentOf k }; card = c }) .outcome .lent
-        ≡ pick t (filledOf k c) (lentOf k)
-    by true = refl
-    by false = refl
-
 module _ (c b : List ℕ) (h : Bytes b) where
   abbrev rs : List Record
   rs = recordsIn (length b / 28) b
 
-  abbrev made : List ℕ → Listed
+  abbrev made : List ℕ → ListedBytes
   made bytes = record { answer = answerOf (Listing rs) c; bytes = bytes }
 
   lent-by : (t : Bool) → isAccepted (answerOf (Listing rs) c) ≡ t

@@ -8,19 +8,20 @@ use native.Mathlib.Omega.{arith}
 use lib.ListN.{length, take, drop, getD, length-append, length-replicate}
 use lib.Seq.{take-suc, take-length}
 use Rattle.blocks.specs.Pick.{pick}
-use Rattle.blocks.specs.Bytes.{le32, splice, storeAll}
+use Rattle.blocks.specs.Bytes.{le32, splice}
 use Rattle.blocks.specs.Descriptor.{noDescriptor, descriptorAt}
 use Rattle.blocks.specs.declared.descriptor.Descriptor.{Descriptor}
 use Rattle.blocks.proofs.ByteLaws.{put-next, splice-join, splice-start, length-le32, length-part}
 use Rattle.blocks.proofs.LinkedLaws.{Linked}
 use Rattle.calls.specs.declared.answer.Record.{Record}
 use Rattle.calls.specs.declared.list.Plan.{Plan}
-use Rattle.calls.specs.Call.{Call, Listing, answer}
+use Rattle.calls.specs.Call.{Listing, answer}
 use Rattle.calls.specs.Parts.{descriptorsOf}
 use Rattle.calls.specs.Ladder.{answerOf}
-use Rattle.calls.specs.Effect.{recordOf, listed, storesOf, lentOf, filledOf}
-use Rattle.calls.specs.Step.{Done, step, isAccepted}
+use Rattle.calls.specs.Effect.{noRecord, recordOf, listed}
+use Rattle.calls.specs.Step.{isAccepted}
 use Rattle.calls.specs.Listing.{planOf, blockAlong}
+use Rattle.calls.proofs.StepLaws.{step-answer}
 use Rattle.calls.proofs.ListLaws.{along-at, list-linked, list-room, list-inside, plan-ready}
 use Rattle.mantreuy.specs.RecordBytes.{recordBytes, recordsBytes, roomIn, listingOf, filledBytes}
 
@@ -108,22 +109,9 @@ module _ (c : List ℕ) (ds : List Descriptor) (linked : Linked c [] 0 ds) (insi
       ∙ ap (λ (n : ℕ). first (length ds) ++ drop n b) (all .1)
       ∙ ap (λ (l : List Descriptor). recordsBytes (listed l []) ++ drop (28 * length ds) b) (take-length ds)
 
--- the answer that a call gives is that of its rows
-pub step-answer : (k : Call) (c : List ℕ) → step k c .outcome .answer ≡ answerOf k c
-unfolding step
-step-answer k c = by (isAccepted (answerOf k c))
-  where
-    by : (t : Bool)
-        → pick {A = Done} t
-        (record { outcome = record { answer = answerOf k c; lent = filledOf k c }; card = storeAll c (storesOf k c) })
-        (record { outcome = record { answer = answerOf k c; lent = lentOf k }; card = c }) .outcome .answer
-        ≡ answerOf k c
-    by true = refl
-    by false = refl
-
 pub room-size : (b : List ℕ) → length (roomIn b) ≡ length b / 28
 unfolding roomIn
-room-size b = length-replicate (length b / 28) (recordOf noDescriptor)
+room-size b = length-replicate (length b / 28) noRecord
 
 -- a listing into bytes as planned and filled is that of the definition
 listing-by : (c b : List ℕ) (t : Bool) → isAccepted (answerOf (Listing (roomIn b)) c) ≡ t

@@ -1,15 +1,16 @@
 -- Records as bytes, and a listing into them.
 use mathlib.Core.List.{List, [], _∷_, _++_}
-use Prim.Native.Nat.{ℕ, zero, suc, _*_, _/_}
+use Prim.Native.Nat.{ℕ, zero, suc, _+_, _*_, _/_}
 use lib.ListN.{length, take, drop, replicate}
 use Rattle.blocks.specs.Pick.{pick}
 use Rattle.blocks.specs.Bytes.{u32At, le32, splice}
-use Rattle.blocks.specs.Descriptor.{noDescriptor, descriptorAt}
+use Rattle.blocks.specs.Name.{nameSize}
+use Rattle.blocks.specs.Descriptor.{descriptorAt}
 use Rattle.calls.specs.declared.answer.Answer.{Answer}
 use Rattle.calls.specs.declared.answer.Record.{Record}
 use Rattle.calls.specs.Call.{Listing, Lent, None, Block, Records}
 use Rattle.calls.specs.Parts.{descriptorsOf}
-use Rattle.calls.specs.Effect.{recordOf, listed}
+use Rattle.calls.specs.Effect.{noRecord, recordOf, listed}
 use Rattle.calls.specs.Step.{step, isAccepted}
 use Rattle.calls.specs.Listing.{blockAlong}
 
@@ -28,7 +29,7 @@ recordsBytes (r ∷ rs) = recordBytes r ++ recordsBytes rs
 
 -- and back: the record that bytes start with, and n records from the start of bytes
 unfoldable pub recordIn : List ℕ → Record
-recordIn bytes = record { name = take 16 bytes; alpha = u32At bytes 16; beta = u32At bytes 20; next = u32At bytes 24 }
+recordIn bytes = record { name = take nameSize bytes; alpha = u32At bytes nameSize; beta = u32At bytes (nameSize + 4); next = u32At bytes (nameSize + 8) }
 
 unfoldable pub recordsIn : ℕ → List ℕ → List Record
 recordsIn zero bytes = []
@@ -42,15 +43,16 @@ lentBytes (Records records) = recordsBytes records
 
 -- as many records as lent bytes have room for. A listing's answer does not depend on what stands in them
 unfoldable pub roomIn : List ℕ → List Record
-roomIn bytes = replicate (length bytes / recordSize) (recordOf noDescriptor)
+roomIn bytes = replicate (length bytes / recordSize) noRecord
 
 -- the answer of a listing, and the lent bytes at exit
-pub record Listed : Type 0 where
+pub record ListedBytes : Type 0 where
   pub answer : Answer
   pub bytes : List ℕ
 
--- where it is accepted, the records of the chain's descriptors in chain order, then the bytes that were there; else the bytes as they were
-unfoldable pub listingOf : List ℕ → List ℕ → Listed
+-- where it is accepted, the records of the chain's descriptors in chain order, then the bytes that were there; else the bytes as they were.
+-- It does not go through the records that `step` leaves: bytes read as records give the same bytes again only where each is below 256, and there the law `listing-step` joins the two
+unfoldable pub listingOf : List ℕ → List ℕ → ListedBytes
 listingOf c bytes =
     let ds = descriptorsOf c in
     let a = step (Listing (roomIn bytes)) c .outcome .answer in

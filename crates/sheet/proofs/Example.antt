@@ -11,15 +11,15 @@ use Rattle.calls.specs.Parts.{areaBad, snapshotsOf, withName, targetOf, isMispl
 use Rattle.calls.specs.Ladder.{firstRow, reamRows, readRows, writeRows, snapRows, revertRows, listRows, rowsOf, answerOf}
 use Rattle.calls.specs.Effect.{snapping, reverting, storesOf, listed, lentOf, filledOf}
 use Rattle.calls.specs.Step.{step}
-use Rattle.cutter.specs.Grammar.{withByte, wordsOf, hasKey, isDigit, allDigits, digitsFrom, isNumber, hasNumber, numberOf, lineOfOne, lineOfTwo, readFrom, lineOfThree, lineOfFive, lineOfWords, lineOf, beforeLines, linesOf, lineIn}
+use Rattle.cutter.specs.Grammar.{withByte, wordsOf, hasKey, isDigit, allDigits, digitsFrom, isNumber, hasNumber, numberOf, lineOfOne, lineOfTwo, readFrom, lineOfWrite, lineOfRead, lineOfThree, lineOfFive, lineOfWords, lineOf, beforeLines, linesOf, lineIn}
 use Rattle.printing.specs.Text.{digits, decimal, shown, answerText, byteText, recordText, recordsText}
-use Rattle.sheet.specs.Sheet.{start, isMalformed, callOf, blocksOf, firstOf, recordsIn, shownOf, afterCall, afterLine, byteShown, listedShown, printed, linesText, sheetText}
+use Rattle.sheet.specs.Sheet.{start, isMalformed, callOf, blocksOf, firstByteOf, recordsAfter, shownOf, afterCall, afterLine, byteShown, listedShown, printed, linesText, sheetText}
 use Rattle.sheet.specs.Example.{exampleIn, exampleOut}
 
 pub example-sheet : sheetText exampleIn ≡ exampleOut
-unfolding sheetText linesText printed listedShown byteShown afterLine afterCall shownOf recordsIn firstOf blocksOf callOf isMalformed start
+unfolding sheetText linesText printed listedShown byteShown afterLine afterCall shownOf recordsAfter firstByteOf blocksOf callOf isMalformed start
     recordsText recordText byteText answerText shown decimal digits
-    lineIn linesOf beforeLines lineOf lineOfWords lineOfFive lineOfThree readFrom lineOfTwo lineOfOne numberOf hasNumber isNumber digitsFrom allDigits isDigit hasKey wordsOf withByte
+    lineIn linesOf beforeLines lineOf lineOfWords lineOfFive lineOfThree lineOfWrite lineOfRead readFrom lineOfTwo lineOfOne numberOf hasNumber isNumber digitsFrom allDigits isDigit hasKey wordsOf withByte
     step answerOf rowsOf firstRow reamRows readRows writeRows snapRows revertRows listRows
     storesOf snapping reverting listed lentOf filledOf areaBad activeOf snapshotsOf withName targetOf isMisplaced holderOf blockFound
     entryAt phiAt tableOf entryFound find tableIsNew need tableWith tailWith setInTable setInNewTable writing isDescriptor isTable inPlace

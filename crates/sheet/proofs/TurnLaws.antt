@@ -12,12 +12,12 @@ use Rattle.blocks.specs.Bytes.{splice, part}
 use Rattle.blocks.specs.Name.{padded, noName}
 use Rattle.blocks.specs.declared.numbers.Logical.{Logical}
 use Rattle.calls.specs.declared.answer.Target.the-variants.{Active, Snapshot}
-use Rattle.calls.proofs.RowLaws.{no}
+use Rattle.blocks.proofs.BoolLaws.{no}
 use Rattle.cutter.specs.declared.line.SheetCall.the-variants.{Malformed, Ream, Write, Read, Snap, Revert, List as Listing, Check}
 use Rattle.cutter.specs.declared.line.Line.{Line}
 use Rattle.cutter.specs.declared.line.Cut.{Cut}
 use Rattle.cutter.specs.Words.{opReam, keyLayout, keyBlocks, keyVolume, keyName, opWrite, opRead, keyBlock, keyFill, keyFrom, opSnap, opRevert, opList, opCheck, star}
-use Rattle.cutter.specs.Grammar.{SheetLine, hasKey, valueOf, hasNumber, numberOf, lineWith, malformed, logical, lineOfOne, lineOfTwo, readFrom, lineOfThree, lineOfFive, lineOfWords, wordsOf, lineOf, lineLength, linesOf, lineIn, cutAt}
+use Rattle.cutter.specs.Grammar.{SheetLine, hasKey, valueOf, hasNumber, numberOf, lineWith, malformed, logical, lineOfOne, lineOfTwo, readFrom, lineOfWrite, lineOfRead, lineOfThree, lineOfFive, lineOfWords, wordsOf, lineOf, lineLength, linesOf, lineIn, cutAt}
 use Rattle.cutter.proofs.LineLaws.{lineAt, cut-lines, cut-line-in, lines-none}
 use Rattle.sheet.specs.declared.run.Ran.{Ran}
 use Rattle.sheet.specs.declared.next.Turn.{Turn}
@@ -48,15 +48,26 @@ unfolding sizeOf blocksOf
 read-by true l name = omega arith
 read-by false l name = omega arith
 
-small-read : (from : List ℕ) (l : ℕ) → Small (readFrom from l)
+small-from : (from : List ℕ) (l : ℕ) → Small (readFrom from l)
 unfolding readFrom
-small-read from l = read-by (same from star) (logical l) (padded from)
+small-from from l = read-by (same from star) (logical l) (padded from)
 
-three-by : (b c : Bool) (l : Logical) (fill : ℕ) (r : Line) → Small r → Small (pick b (lineWith (Write l fill) noName) (pick c r malformed))
+write-by : (b : Bool) (l : Logical) (fill : ℕ) → Small (pick b (lineWith (Write l fill) noName) malformed)
 unfolding sizeOf blocksOf
-three-by true c l fill r h = omega arith
-three-by false true l fill r h = h
-three-by false false l fill r h = omega arith
+write-by true l fill = omega arith
+write-by false l fill = omega arith
+
+small-if : (b : Bool) (x y : Line) → Small x → Small y → Small (pick b x y)
+small-if true x y h k = h
+small-if false x y h k = k
+
+small-write : (a b : List ℕ) → Small (lineOfWrite a b)
+unfolding lineOfWrite
+small-write a b = write-by (hasNumber keyBlock a && hasNumber keyFill b && leb (numberOf keyFill b) 255) (logical (numberOf keyBlock a)) (numberOf keyFill b)
+
+small-read : (a b : List ℕ) → Small (lineOfRead a b)
+unfolding lineOfRead
+small-read a b = small-if (hasKey keyFrom a && hasNumber keyBlock b) (readFrom (valueOf keyFrom a) (numberOf keyBlock b)) malformed (small-from (valueOf keyFrom a) (numberOf keyBlock b)) small-malformed
 
 five-test : (a b c d e f : Bool) → (a && b && c && d && e && f) ≡ true → d ≡ true
 five-test true true true true e f h = refl
@@ -76,18 +87,14 @@ small-words [] = small-malformed
 small-words (a ∷ []) = one-by (same a opList) (same a opCheck)
 small-words (a ∷ b ∷ []) = two-by (same a opSnap && hasKey keyName b) (same a opRevert && hasKey keyName b) (padded (valueOf keyName b))
 small-words (a ∷ b ∷ c ∷ []) =
-    three-by (same a opWrite && hasNumber keyBlock b && hasNumber keyFill c && leb (numberOf keyFill c) 255) (same a opRead && hasKey keyFrom b && hasNumber keyBlock c)
-    (logical (numberOf keyBlock b)) (numberOf keyFill c) (readFrom (valueOf keyFrom b) (numberOf keyBlock c)) (small-read (valueOf keyFrom b) (numberOf keyBlock c))
+    small-if (same a opWrite) (lineOfWrite b c) (pick (same a opRead) (lineOfRead b c) malformed) (small-write b c)
+    (small-if (same a opRead) (lineOfRead b c) malformed (small-read b c) small-malformed)
 small-words (a ∷ b ∷ c ∷ d ∷ []) = small-malformed
 small-words (a ∷ b ∷ c ∷ d ∷ e ∷ []) =
     five-by (same a opReam && hasNumber keyLayout b && hasNumber keyBlocks c && leb (numberOf keyBlocks c) 64 && hasNumber keyVolume d && hasKey keyName e)
     (numberOf keyLayout b) (numberOf keyBlocks c) (numberOf keyVolume d) (padded (valueOf keyName e))
     (λ h. leb-true (numberOf keyBlocks c) 64 (five-test (same a opReam) (hasNumber keyLayout b) (hasNumber keyBlocks c) (leb (numberOf keyBlocks c) 64) (hasNumber keyVolume d) (hasKey keyName e) h))
 small-words (a ∷ b ∷ c ∷ d ∷ e ∷ f ∷ ws) = small-malformed
-
-small-if : (b : Bool) (x y : Line) → Small x → Small y → Small (pick b x y)
-small-if true x y h k = h
-small-if false x y h k = k
 
 small-line : (bytes : List ℕ) → Small (lineOf bytes)
 unfolding lineOf

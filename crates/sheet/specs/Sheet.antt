@@ -7,26 +7,23 @@ use lib.ListN.{length, take, drop, getD, replicate}
 use lib.Dec.{ltb}
 use Rattle.blocks.specs.Pick.{pick}
 use Rattle.blocks.specs.Bytes.{blockSize, zeroBlock}
-use Rattle.blocks.specs.Name.{noName}
 use Rattle.calls.specs.declared.answer.Answer.{Answer}
 use Rattle.calls.specs.declared.answer.Record.{Record}
 use Rattle.calls.specs.Call.{Call, Ream, Read, Write, Snap, Revert, Listing, Check, Lent, None, Block, Records, answer}
 use Rattle.calls.specs.Parts.{descriptorsOf}
+use Rattle.calls.specs.Effect.{noRecord}
 use Rattle.calls.specs.Step.{Done, step, isAccepted}
 use Rattle.cutter.specs.declared.line.SheetCall.{SheetCall}
 use Rattle.cutter.specs.declared.line.SheetCall.the-variants as line
 use Rattle.cutter.specs.declared.line.Line.{Line}
-use Rattle.cutter.specs.Grammar.{SheetLine, linesOf, lineIn, cutAt}
+use Rattle.cutter.specs.Grammar.{sheetBlocks, SheetLine, linesOf, lineIn, cutAt}
 use Rattle.printing.specs.Text.{lineFeed, answerText, byteText, recordsText}
 use Rattle.sheet.specs.declared.run.Shown.{Shown}
 use Rattle.sheet.specs.declared.run.Shown.the-variants.{Nothing, Byte, Listed}
 use Rattle.sheet.specs.declared.run.Ran.{Ran}
 use Rattle.sheet.specs.declared.next.Turn.{Turn}
 
--- the blocks that a sheet owns, and its records
-abbrev pub sheetBlocks : ℕ
-sheetBlocks = 64
-
+-- the records that a sheet owns
 abbrev pub sheetRecords : ℕ
 sheetRecords = 64
 
@@ -44,11 +41,8 @@ pub record State : Type 0 where
   pub records : List Record
 
 -- at the start all blocks are zero, and all are the card
-abbrev pub noRecord : Record
-noRecord = record { name = noName; alpha = 0; beta = 0; next = 0 }
-
 unfoldable pub start : State
-start = record { area = replicate 32768 0; blocks = sheetBlocks; records = replicate sheetRecords noRecord }
+start = record { area = replicate (blockSize * sheetBlocks) 0; blocks = sheetBlocks; records = replicate sheetRecords noRecord }
 
 -- whether a line is not of the form
 unfoldable pub isMalformed : SheetCall → Bool
@@ -88,22 +82,22 @@ unfoldable pub sizeOf : SheetCall → ℕ
 sizeOf call = blocksOf call 0
 
 -- the first byte of a lent block, and the records after a call
-unfoldable pub firstOf : Lent → ℕ
-firstOf None = 0
-firstOf (Block b) = getD b 0 0
-firstOf (Records rs) = 0
+unfoldable pub firstByteOf : Lent → ℕ
+firstByteOf None = 0
+firstByteOf (Block b) = getD b 0 0
+firstByteOf (Records rs) = 0
 
-unfoldable pub recordsIn : Lent → List Record → List Record
-recordsIn None records = records
-recordsIn (Block b) records = records
-recordsIn (Records rs) records = rs
+unfoldable pub recordsAfter : Lent → List Record → List Record
+recordsAfter None records = records
+recordsAfter (Block b) records = records
+recordsAfter (Records rs) records = rs
 
 -- what an accepted call prints besides its answer: a read the first byte, a listing a record for each descriptor
 unfoldable pub shownOf : SheetCall → Lent → List ℕ → Shown
 shownOf line.Malformed lent card = Nothing
 shownOf (line.Ream layout blocks volume) lent card = Nothing
 shownOf (line.Write l fill) lent card = Nothing
-shownOf (line.Read target l) lent card = Byte (firstOf lent)
+shownOf (line.Read target l) lent card = Byte (firstByteOf lent)
 shownOf line.Snap lent card = Nothing
 shownOf line.Revert lent card = Nothing
 shownOf line.List lent card = Listed (length (descriptorsOf card))
@@ -132,7 +126,7 @@ afterCall s call name =
         answer = a;
         blocks = pick (isAccepted a) n (s .blocks);
         shown = pick (isAccepted a) (shownOf call (done .outcome .lent) card) Nothing;
-        records = recordsIn (done .outcome .lent) (s .records);
+        records = recordsAfter (done .outcome .lent) (s .records);
         ended = false;
       };
       area = withCard (s .area) n (done .card);

@@ -7,7 +7,8 @@ ghost use mathlib.Core.Path.{_≡_};
 ghost use Prim.Native.Nat.{_≤_, _<_};
 ghost use lib.ListN.{length};
 ghost use Rattle.blocks.specs.Bytes.{splice};
-ghost use Rattle.sheet.specs.Sheet.{noRecord, turnOf};
+ghost use Rattle.calls.specs.Effect.{noRecord};
+ghost use Rattle.sheet.specs.Sheet.{turnOf};
 ghost use lib.ListN.{replicate};
 
 // What a turn leaves: where the next line starts, how many bytes were printed, how many blocks are the card, the records,

@@ -28,8 +28,8 @@ returns-4 c = search form-no-volume
 returns-5 : tie.Need-returns-5
 returns-5 c = search form-large-volume
 
-is-name-requires : tie.Need-is-name-requires
-is-name-requires c κs = search needs
+is-called-requires : tie.Need-is-called-requires
+is-called-requires c κs = search needs
 
 returns-6 : tie.Need-returns-6
 returns-6 c = search form-unnamed
@@ -91,7 +91,7 @@ is-formed-spec =
     returns-3
     returns-4
     returns-5
-    is-name-requires
+    is-called-requires
     returns-6
     add-is-reserved
     add-is-reserved-2

@@ -3,7 +3,7 @@ use mathlib.Core.Path.{_≡_, sym, _∙_}
 use Prim.Native.Nat.{_+_, _≤_, _-_}
 use native.Mathlib.Omega.{arith}
 use lib.ListN.{length, drop}
-use Rattle.cutter.specs.Parts.{lengthTo}
+use Rattle.cutter.specs.Grammar.{lengthTo}
 use Rattle.cutter.proofs.WordLaws.{foundFrom, found-start, found-more, found-stop, found-end}
 use Rattle.cutter.proofs.word.find_byte.Statement.{statement}
 use Rattle.cutter.proofs.word.find_byte.Tie as tie

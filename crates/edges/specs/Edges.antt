@@ -1,19 +1,22 @@
--- Values at the edges of 01's rules, besides its bench values: areas, names and cards on which one number is off by one or one byte is set, where check
--- finds its first fault, and which refusal comes first. Each card is written out, block by block.
+-- Values at the edges of 01's rules, besides its bench values: areas, names and cards on which one number is off by one or one byte is set, what a refused
+-- read leaves in the caller's block, where check finds its first fault, cards that pass, and which refusal comes first. Each card is written out, block by
+-- block.
+use mathlib.Core.Bool.{Bool}
 use mathlib.Core.Path.{_≡_}
 use mathlib.Core.List.{List, [], _∷_, _++_}
-use Prim.Native.Nat.{ℕ, _*_}
+use Prim.Native.Nat.{ℕ, zero, suc, _*_}
 use lib.ListN.{length, replicate, set}
+use Rattle.blocks.specs.Pick.{pick}
 use Rattle.blocks.specs.Bytes.{le32, zeroBlock}
-use Rattle.blocks.specs.Name.{padded, noName}
+use Rattle.blocks.specs.Name.{nameByte, isName, padded, noName}
 use Rattle.blocks.specs.Descriptor.{physical, descriptorBlock}
 use Rattle.blocks.specs.declared.descriptor.Descriptor.{Descriptor}
 use Rattle.calls.specs.declared.answer.Target.the-variants.{Active, Snapshot}
 use Rattle.calls.specs.Call.{Call, Ream, Read, Write, Snap, Revert, Listing, Check, answer}
 use Rattle.calls.specs.Ladder.{answerOf}
 use Rattle.calls.specs.Step.{step}
 use Rattle.claims.specs.Bench.{Only, Beta, Bytes, Value, area, ones, fs, mon, tue, lent}
 use Rattle.claims.specs.Example.{blank}
 
 -- a descriptor by its numbers
 abbrev pub descriptor : ℕ → ℕ → ℕ → ℕ → ℕ → List ℕ → Descriptor
@@ -44,12 +47,15 @@ literal mark beta next m =
     ++ replicate 38 0
     ++ (m ∷ replicate 447 0)
 
--- the bytes `snap`; a name of one byte; another name as text
+-- the bytes `snap`; a name of one byte; fifteen letters `a` and one more byte; another name as text
 abbrev pub snap : List ℕ
 snap = 115 ∷ 110 ∷ 97 ∷ 112 ∷ []
 
 abbrev pub oneByte : ℕ → List ℕ
 oneByte b = b ∷ replicate 15 0
+
+abbrev pub long : ℕ → List ℕ
+long b = set (replicate 16 97) 15 b
 
 abbrev pub wed : List ℕ
 wed = padded (119 ∷ 101 ∷ 100 ∷ [])
@@ -68,6 +74,17 @@ one beta next = bare (descriptor 2 1 0 beta next fs) ++ zeroBlock
 -- three blocks: the snapshot mon, then a descriptor with its layout, L, alpha, beta and name, then zeros
 abbrev pub two : ℕ → ℕ → ℕ → ℕ → List ℕ → List ℕ
 two layout volume alpha beta name = bare (descriptor 2 1 0 1 1 mon) ++ bare (descriptor layout volume alpha beta 0 name) ++ zeroBlock
+
+-- three blocks: a snapshot and the active store with their names, then zeros
+abbrev pub twoNames : List ℕ → List ℕ → List ℕ
+twoNames a b = bare (descriptor 2 1 0 1 1 a) ++ bare (descriptor 2 1 1 3 0 b) ++ zeroBlock
+
+-- the snapshot mon, then a descriptor with byte 40 + i set: layout 1, four blocks; layout 2, three blocks
+abbrev pub second1 : ℕ → List ℕ
+second1 i = bare (descriptor 1 1 0 2 2 mon) ++ zeroBlock ++ unclean i (descriptor 1 1 2 4 0 fs) ++ zeroBlock
+
+abbrev pub second2 : ℕ → List ℕ
+second2 i = bare (descriptor 2 1 0 1 1 mon) ++ unclean i (descriptor 2 1 1 3 0 fs) ++ zeroBlock
 
 -- three blocks: a descriptor with its beta and next, and one in block 1 or in block 2
 abbrev pub apart1 : ℕ → ℕ → List ℕ
@@ -125,6 +142,38 @@ tables1 volume p q r = bare (descriptor 1 volume 0 4 0 fs) ++ table p 0 ++ table
 abbrev pub tables2 : ℕ → ℕ → ℕ → ℕ → ℕ → ℕ → List ℕ
 tables2 volume m n p q r = withPhi (descriptor 2 volume 0 4 0 fs) m n ++ table p 0 ++ table q r ++ ones
 
+-- five blocks, L 257, three table blocks with their first entries, a block of ones: layout 1; layout 2 with the first three entries of Phi
+abbrev pub three1 : ℕ → ℕ → ℕ → List ℕ
+three1 p q r = bare (descriptor 1 257 0 5 0 fs) ++ table p 0 ++ table q 0 ++ table r 0 ++ ones
+
+abbrev pub three2 : ℕ → ℕ → ℕ → ℕ → ℕ → ℕ → List ℕ
+three2 a b e p q r =
+    descriptorBlock (descriptor 2 257 0 5 0 fs) (replicate 24 0 ++ le32 a ++ le32 b ++ le32 e ++ replicate 436 0)
+    ++ table p 0
+    ++ table q 0
+    ++ table r 0
+    ++ ones
+
+-- four blocks, layout 2, L 1: the snapshot mon with an empty table block, the active store from block 2 on; its data entry names the snapshot's table
+-- block
+abbrev pub named4 : List ℕ
+named4 = withPhi (descriptor 2 1 0 2 2 mon) 1 0 ++ table 0 0 ++ withPhi (descriptor 2 1 2 4 0 fs) 3 0 ++ table 1 0
+
+-- four blocks, layout 2, L 1: the snapshot mon with its table block and a block of ones, the active store in block 3 with the same Phi
+abbrev pub shared4 : List ℕ
+shared4 = withPhi (descriptor 2 1 0 3 3 mon) 1 0 ++ table 2 0 ++ ones ++ withPhi (descriptor 2 1 3 4 0 fs) 1 0
+
+-- six blocks, layout 2, L 1: the snapshots mon and tue, the active store in block 4; its table block stands in the first region, its data block in the
+-- second
+abbrev pub region6 : List ℕ
+region6 =
+    bare (descriptor 2 1 0 2 2 mon)
+    ++ table 3 0
+    ++ bare (descriptor 2 1 2 4 4 tue)
+    ++ ones
+    ++ withPhi (descriptor 2 1 4 5 0 fs) 1 0
+    ++ lent
+
 -- three blocks, a table block and a block of ones: layout 1, the last entry of the table; layout 2, the last entry of Phi, and the first of the table
 abbrev pub lastEntry : ℕ → List ℕ
 lastEntry volume = bare (descriptor 1 volume 0 3 0 fs) ++ tableEnd 2 ++ ones
@@ -148,6 +197,10 @@ showingBeta card call beta = record { card = card; call = call; answer = answer 
 abbrev pub showingBlock : List ℕ → Call → List ℕ → Value
 showingBlock card call block = record { card = card; call = call; answer = answer 0 0; shown = Bytes block }
 
+-- a refusal, and the block that the call leaves with the caller
+abbrev pub refusing : List ℕ → Call → ℕ → ℕ → List ℕ → Value
+refusing card call number place block = record { card = card; call = call; answer = answer number place; shown = Bytes block }
+
 unfoldable pub areaEdges : List Value
 areaEdges =
     -- one block, with each call
@@ -158,15 +211,28 @@ areaEdges =
     ∷ only single (Revert mon) 1 0
     ∷ only single (Listing (blank ∷ [])) 1 0
     ∷ only single Check 1 0
-    -- no byte; one byte less than two blocks; two blocks and one byte
+    -- no byte; one byte less than two blocks; two blocks and one byte; two blocks and a half
     ∷ only [] (Listing []) 1 0
     ∷ only (replicate 1023 0) (Listing []) 1 0
     ∷ only (one 2 0 ++ (0 ∷ [])) (Listing (blank ∷ [])) 1 0
+    ∷ only (one 2 0 ++ replicate 256 0) (Listing (blank ∷ [])) 1 0
     -- a caller's block of 511 and of 513 bytes
     ∷ only (one 2 0) (Read Active noName 0 (replicate 511 9)) 9 0
     ∷ only (one 2 0) (Read Active noName 0 (replicate 513 9)) 9 0
     ∷ only (four 1 4 1 2 0) (Write 0 (replicate 511 1)) 9 0
     ∷ only (four 1 4 1 2 0) (Write 0 (replicate 513 1)) 9 0
+    ∷ []
+
+unfoldable pub refusedEdges : List Value
+refusedEdges =
+    -- a refused read leaves the caller's block as it was: 8, 6, 1, 4, 7, 10, and 9 with 511 bytes
+    refusing (one 2 0) (reading 1) 8 0 lent
+    ∷ refusing (area 2) (reading 0) 6 0 lent
+    ∷ refusing single (reading 0) 1 0 lent
+    ∷ refusing (one 2 0) (readingFrom noName 0) 4 0 lent
+    ∷ refusing (one 2 0) (readingFrom mon 0) 7 0 lent
+    ∷ refusing (four 1 3 1 3 0) (reading 0) 10 1 lent
+    ∷ refusing (one 2 0) (Read Active noName 0 (replicate 511 9)) 9 0 (replicate 511 9)
     ∷ []
 
 unfoldable pub nameEdges : List Value
@@ -184,9 +250,10 @@ nameEdges =
     ∷ showingBeta (one 1 0) (Snap (oneByte 57)) 2
     ∷ showingBeta (one 1 0) (Snap (oneByte 97)) 2
     ∷ showingBeta (one 1 0) (Snap (oneByte 122)) 2
-    -- no byte before the zeros; a byte after a zero byte, right after it and at the end
+    -- no byte before the zeros; a byte after a zero byte, right after it, further on and at the end
     ∷ only (one 1 0) (Snap noName) 4 0
     ∷ only (one 1 0) (Snap (97 ∷ 0 ∷ 97 ∷ replicate 13 0)) 4 0
+    ∷ only (one 1 0) (Snap (set (oneByte 97) 7 97)) 4 0
     ∷ only (one 1 0) (Snap (set (oneByte 97) 15 97)) 4 0
     -- another byte after a letter, and after fifteen
     ∷ only (one 1 0) (Snap (97 ∷ 47 ∷ replicate 14 0)) 4 0
@@ -195,6 +262,13 @@ nameEdges =
     ∷ showingBeta (one 1 0) (Snap (replicate 16 97)) 2
     ∷ only (one 1 0) (Snap (replicate 15 97)) 4 0
     ∷ only (one 1 0) (Snap (replicate 17 97)) 4 0
+    -- names that differ in their last byte alone are two names; that do not differ, one
+    ∷ only (twoNames (long 98) (long 99)) (Listing []) 14 0
+    ∷ only (twoNames (long 98) (long 98)) (Listing []) 6 1
+    ∷ showingBeta (bare (descriptor 2 1 0 1 0 (long 98)) ++ zeroBlock) (Snap (long 99)) 2
+    ∷ only (twoNames (long 98) (long 99)) (Revert (long 99)) 7 0
+    ∷ showingBeta (twoNames (long 98) (long 99)) (Revert (long 98)) 1
+    ∷ only (twoNames (long 98) (long 99)) (readingFrom (long 99) 0) 7 0
     ∷ []
 
 unfoldable pub formEdges : List Value
@@ -221,14 +295,24 @@ formEdges =
     -- no name; a name with another byte
     ∷ only (first 2 1 noName) (Listing []) 6 0
     ∷ only (first 2 1 (oneByte 47)) (Listing []) 6 0
-    -- byte 40 or 63 is set
+    -- byte 40, 50 or 63 is set
     ∷ only (unclean 0 (descriptor 2 1 0 2 0 fs) ++ zeroBlock) (Listing []) 6 0
+    ∷ only (unclean 10 (descriptor 2 1 0 2 0 fs) ++ zeroBlock) (Listing []) 6 0
     ∷ only (unclean 23 (descriptor 2 1 0 2 0 fs) ++ zeroBlock) (Listing []) 6 0
-    -- byte 64 or 511 is set, in layout 2 and in layout 1
+    -- byte 64 or 511 is set, in layout 2; byte 64, 240 or 511 in layout 1
     ∷ only (unclean 24 (descriptor 2 1 0 2 0 fs) ++ zeroBlock) (Listing []) 14 0
     ∷ only (unclean 471 (descriptor 2 1 0 2 0 fs) ++ zeroBlock) (Listing []) 14 0
     ∷ only (unclean 24 (descriptor 1 1 0 2 0 fs) ++ zeroBlock) (Listing []) 6 0
+    ∷ only (unclean 200 (descriptor 1 1 0 2 0 fs) ++ zeroBlock) (Listing []) 6 0
     ∷ only (unclean 471 (descriptor 1 1 0 2 0 fs) ++ zeroBlock) (Listing []) 6 0
+    -- in the second descriptor: byte 40, 63 or 64 in layout 2; byte 40, 64 or 511 in layout 1; no name
+    ∷ only (second2 0) (Listing []) 6 1
+    ∷ only (second2 23) (Listing []) 6 1
+    ∷ only (second2 24) (Listing []) 14 0
+    ∷ only (second1 0) (Listing []) 6 2
+    ∷ only (second1 24) (Listing []) 6 2
+    ∷ only (second1 471) (Listing []) 6 2
+    ∷ only (two 2 1 1 3 noName) (Listing []) 6 1
     ∷ []
 
 unfoldable pub chainEdges : List Value
@@ -382,6 +466,43 @@ faultEdges =
     -- an entry that names the snapshot's table block; of two faults, that of the earlier descriptor
     ∷ only (pair 2 1) Check 10 4
     ∷ only (pair 3 1) Check 10 1
+    -- an entry of Phi in a later descriptor: it names an earlier descriptor, and its own
+    ∷ only (chained 1 0) Check 10 2
+    ∷ only (snapped 1 3) Check 10 1
+    ∷ []
+
+unfoldable pub walkEdges : List Value
+walkEdges =
+    -- of two faults: a table's entry before Phi's next one; the first table's before one past L in the second, in layout 1 and in layout 2
+    only (withPhi (descriptor 2 1 0 3 0 fs) 1 2 ++ table 9 0 ++ ones) Check 10 1
+    ∷ only (tables1 129 9 0 3) Check 10 1
+    ∷ only (tables2 129 1 2 9 0 3) Check 10 1
+    -- one named twice before one not in place; Phi's second entry not in place
+    ∷ only (tables2 129 1 2 1 9 0) Check 10 1
+    ∷ only (tables2 129 1 9 0 0 0) Check 10 0
+    ∷ []
+
+unfoldable pub threeEdges : List Value
+threeEdges =
+    -- three tables: one block named in the second and in the third, in layout 1 and in layout 2; the third table block named in the second, then by Phi
+    only (three1 0 4 4) Check 10 3
+    ∷ only (three2 1 2 3 0 4 4) Check 10 3
+    ∷ only (three2 1 2 3 0 3 0) Check 10 0
+    ∷ []
+
+-- cards that pass check
+unfoldable pub passingEdges : List Value
+passingEdges =
+    -- a data entry names an older table block; a data block stands in a later region than its table block, both below alpha
+    only named4 Check 0 0
+    ∷ only region6 Check 0 0
+    -- a table block shared with a snapshot; a data block shared with it; an entry nil where the snapshot's is set
+    ∷ only shared4 Check 0 0
+    ∷ only (pair 2 2) Check 0 0
+    ∷ only (pair 2 0) Check 0 0
+    -- an empty table block below alpha; Phi names the later block first
+    ∷ only (old 0) Check 0 0
+    ∷ only (tables2 129 2 1 0 0 3) Check 0 0
     ∷ []
 
 unfoldable pub roomEdges : List Value
@@ -451,7 +572,39 @@ orderEdges =
     ∷ []
 
 unfoldable pub edges : List Value
-edges = areaEdges ++ nameEdges ++ formEdges ++ chainEdges ++ entryEdges ++ openingEdges ++ tableEdges ++ faultEdges ++ roomEdges ++ orderEdges
+edges =
+    areaEdges
+    ++ refusedEdges
+    ++ nameEdges
+    ++ formEdges
+    ++ chainEdges
+    ++ entryEdges
+    ++ openingEdges
+    ++ tableEdges
+    ++ faultEdges
+    ++ walkEdges
+    ++ threeEdges
+    ++ passingEdges
+    ++ roomEdges
+    ++ orderEdges
+
+-- the numbers below n that a test allows, rising
+unfoldable pub allowed : (ℕ → Bool) → ℕ → List ℕ
+allowed test zero = []
+allowed test (suc n) = allowed test n ++ pick (test n) (n ∷ []) []
+
+-- `-`, `.`, `0-9`, `a-z`
+abbrev pub nameBytes : List ℕ
+nameBytes =
+    45 ∷ 46
+    ∷ 48 ∷ 49 ∷ 50 ∷ 51 ∷ 52 ∷ 53 ∷ 54 ∷ 55 ∷ 56 ∷ 57
+    ∷ 97 ∷ 98 ∷ 99 ∷ 100 ∷ 101 ∷ 102 ∷ 103 ∷ 104 ∷ 105 ∷ 106 ∷ 107 ∷ 108 ∷ 109
+    ∷ 110 ∷ 111 ∷ 112 ∷ 113 ∷ 114 ∷ 115 ∷ 116 ∷ 117 ∷ 118 ∷ 119 ∷ 120 ∷ 121 ∷ 122
+    ∷ []
+
+-- of all bytes, a name may have these and no others, and of one byte alone the same are names
+unfoldable pub NameBytes : Type 0
+NameBytes = (allowed nameByte 256 ≡ nameBytes) × (allowed (λ (b : ℕ). isName (oneByte b)) 256 ≡ nameBytes)
 
 -- N 65,536 and 65,537, whatever the area holds: the first goes on to the next refusal of a ream, the second is refused with each call
 unfoldable pub SizeEdges : Type 0

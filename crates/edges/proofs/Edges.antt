@@ -1,16 +1,16 @@
--- The edges of 01's rules: what the definitions compute is what the table says, group by group and as a whole; and the largest area.
+-- The edges of 01's rules: what the definitions compute is what the table says, group by group and as a whole; the bytes of names; and the largest area.
 use mathlib.Core.Path.{_≡_, refl, sym, ap, _∙_}
 use mathlib.Core.Bool.{true, false}
-use mathlib.Core.List.{List, _++_, map, map-append}
+use mathlib.Core.List.{List, [], _∷_, _++_, map, map-append}
 use Prim.Native.Nat.{ℕ}
 use lib.ListN.{length}
 use Rattle.blocks.specs.Bytes.{blockCount}
 use Rattle.calls.specs.Call.{Call, Ream, Read, Write, Snap, Revert, Listing, Check, answer}
 use Rattle.calls.specs.Parts.{areaBad}
 use Rattle.calls.specs.Ladder.{firstRow, reamRows, readRows, writeRows, snapRows, revertRows, listRows, checkRows, rowsOf, answerOf}
 use Rattle.claims.specs.Bench.{Value, Result, expected, computed, showing, blockOf}
-use Rattle.claims.specs.Edges.{areaEdges, nameEdges, formEdges, chainEdges, entryEdges, openingEdges, tableEdges, faultEdges, roomEdges, orderEdges, edges, SizeEdges}
+use Rattle.edges.specs.Edges.{only, named4, region6, shared4, pair, old, tables2, areaEdges, refusedEdges, nameEdges, formEdges, chainEdges, entryEdges, openingEdges, tableEdges, faultEdges, walkEdges, threeEdges, passingEdges, roomEdges, orderEdges, edges, allowed, NameBytes, SizeEdges}
 use Rattle.claims.proofs.Running.{running}
 
 -- the values of a list are as the table says; so are those of two lists
 record AsSaid (vs : List Value) : Type 0 where
@@ -30,6 +30,10 @@ _and_ {xs = xs} {ys = ys} e f =
 area-edges : AsSaid areaEdges
 unfolding running areaEdges expected computed showing blockOf
 area-edges = record { as-said = refl }
+
+refused-edges : AsSaid refusedEdges
+unfolding running refusedEdges expected computed showing blockOf
+refused-edges = record { as-said = refl }
 
 name-edges : AsSaid nameEdges
 unfolding running nameEdges expected computed showing blockOf
@@ -59,6 +63,50 @@ fault-edges : AsSaid faultEdges
 unfolding running faultEdges expected computed showing blockOf
 fault-edges = record { as-said = refl }
 
+walk-edges : AsSaid walkEdges
+unfolding running walkEdges expected computed showing blockOf
+walk-edges = record { as-said = refl }
+
+three-edges : AsSaid threeEdges
+unfolding running threeEdges expected computed showing blockOf
+three-edges = record { as-said = refl }
+
+-- check answers 0: one theorem for each card, since it takes every entry
+abbrev Passing : List ℕ → Type 0
+Passing c = AsSaid (only c Check 0 0 ∷ [])
+
+named-passes : Passing named4
+unfolding running expected computed showing blockOf
+named-passes = record { as-said = refl }
+
+region-passes : Passing region6
+unfolding running expected computed showing blockOf
+region-passes = record { as-said = refl }
+
+shared-passes : Passing shared4
+unfolding running expected computed showing blockOf
+shared-passes = record { as-said = refl }
+
+both-passes : Passing (pair 2 2)
+unfolding running expected computed showing blockOf
+both-passes = record { as-said = refl }
+
+freed-passes : Passing (pair 2 0)
+unfolding running expected computed showing blockOf
+freed-passes = record { as-said = refl }
+
+old-passes : Passing (old 0)
+unfolding running expected computed showing blockOf
+old-passes = record { as-said = refl }
+
+turned-passes : Passing (tables2 129 2 1 0 0 3)
+unfolding running expected computed showing blockOf
+turned-passes = record { as-said = refl }
+
+passing-edges : AsSaid passingEdges
+unfolding passingEdges
+passing-edges = named-passes and region-passes and shared-passes and both-passes and freed-passes and old-passes and turned-passes
+
 room-edges : AsSaid roomEdges
 unfolding running roomEdges expected computed showing blockOf
 room-edges = record { as-said = refl }
@@ -69,10 +117,28 @@ order-edges = record { as-said = refl }
 
 whole : AsSaid edges
 unfolding edges
-whole = area-edges and name-edges and form-edges and chain-edges and entry-edges and opening-edges and table-edges and fault-edges and room-edges and order-edges
+whole =
+    area-edges
+    and refused-edges
+    and name-edges
+    and form-edges
+    and chain-edges
+    and entry-edges
+    and opening-edges
+    and table-edges
+    and fault-edges
+    and walk-edges
+    and three-edges
+    and passing-edges
+    and room-edges
+    and order-edges
 
 pub edge-values : map computed edges ≡ map expected edges
 edge-values = whole .as-said
+
+pub name-bytes : NameBytes
+unfolding running allowed NameBytes
+name-bytes = (refl, refl)
 
 -- the first row of every call
 area-first : (c : List ℕ) → areaBad c ≡ true → (k : Call) → answerOf k c ≡ answer 1 0

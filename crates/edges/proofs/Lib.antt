@@ -1,0 +1,3 @@
+-- The theorems about these values.
+pub mod Edges
+pub mod Cards

@@ -1,0 +1,144 @@
+-- Whole cards after a write, a snap and a revert, in both layouts, block by block as 01 says; a stored number and a descriptor's block, byte by byte.
+-- The bytes of the data blocks count up, so that none is like its neighbours.
+use mathlib.Core.Path.{_≡_}
+use mathlib.Core.List.{List, [], _∷_, _++_}
+use Prim.Native.Nat.{ℕ, zero, suc, _%_}
+use lib.ListN.{replicate}
+use Rattle.blocks.specs.Bytes.{u32At, le32}
+use Rattle.blocks.specs.Descriptor.{descriptorBlock}
+use Rattle.blocks.specs.declared.descriptor.Descriptor.{Descriptor}
+use Rattle.calls.specs.declared.answer.Answer.{Answer}
+use Rattle.calls.specs.Call.{Call, Write, Snap, Revert, accepted}
+use Rattle.calls.specs.Step.{step}
+use Rattle.claims.specs.Bench.{fs, mon, tue, lent}
+use Rattle.edges.specs.Edges.{descriptor, bare, withPhi, table}
+
+-- A stored number has its lowest byte first.
+unfoldable pub NumberBytes : Type 0
+NumberBytes = (u32At (1 ∷ 2 ∷ 3 ∷ 4 ∷ []) 0 ≡ 67305985) × (le32 67305985 ≡ 1 ∷ 2 ∷ 3 ∷ 4 ∷ [])
+
+-- The block of a descriptor with layout 2, L 300, alpha 6, beta 7, next 8, the name fs and 9 as Phi's first entry.
+unfoldable pub DescriptorBytes : Type 0
+DescriptorBytes =
+    withPhi (descriptor 2 300 6 7 8 fs) 9 0
+    ≡ (115 ∷ 110 ∷ 97 ∷ 112 ∷ 2 ∷ 0 ∷ 0 ∷ 0 ∷ 44 ∷ 1 ∷ 0 ∷ 0 ∷ 6 ∷ 0 ∷ 0 ∷ 0 ∷ 7 ∷ 0 ∷ 0 ∷ 0 ∷ 8 ∷ 0 ∷ 0 ∷ 0 ∷ 102 ∷ 115 ∷ [])
+    ++ replicate 38 0
+    ++ (9 ∷ replicate 447 0)
+
+-- n bytes that count up from v, modulo 251; a block of them
+unfoldable pub counting : ℕ → ℕ → List ℕ
+counting zero v = []
+counting (suc n) v = v % 251 ∷ counting n (suc v)
+
+abbrev pub counted : ℕ → List ℕ
+counted v = counting 512 v
+
+-- a table block with its first two entries, and counting bytes after them; a layout 2 descriptor's block with the same of Phi
+abbrev pub fullTable : ℕ → ℕ → ℕ → List ℕ
+fullTable a b v = le32 a ++ le32 b ++ counting 504 v
+
+abbrev pub fullPhi : Descriptor → ℕ → ℕ → ℕ → List ℕ
+fullPhi d a b v = descriptorBlock d (replicate 24 0 ++ le32 a ++ le32 b ++ counting 440 v)
+
+-- a name of sixteen letters, each another one
+abbrev pub letters16 : List ℕ
+letters16 = 97 ∷ 98 ∷ 99 ∷ 100 ∷ 101 ∷ 102 ∷ 103 ∷ 104 ∷ 105 ∷ 106 ∷ 107 ∷ 108 ∷ 109 ∷ 110 ∷ 111 ∷ 112 ∷ []
+
+-- a call that is accepted: the card before it and the card after it
+pub record Change : Type 0 where
+  pub before : List ℕ
+  pub call : Call
+  pub after : List ℕ
+
+abbrev pub change : List ℕ → Call → List ℕ → Change
+change before call after = record { before = before; call = call; after = after }
+
+-- what is said of it, and what the call does
+pub record Left : Type 0 where
+  pub answer : Answer
+  pub card : List ℕ
+
+unfoldable pub said : Change → Left
+said h = record { answer = accepted; card = h .after }
+
+unfoldable pub left : Change → Left
+left h = let d = step (h .call) (h .before) in record { answer = d .outcome .answer; card = d .card }
+
+-- Layout 1, L 130: the descriptor, two table blocks, then data.
+unfoldable pub writes1 : List Change
+writes1 =
+    -- need 0: logical block 128 stands in block 4, which is overwritten
+    change (bare (descriptor 1 130 0 5 0 fs) ++ table 0 3 ++ table 4 0 ++ counted 3 ++ counted 4 ++ lent)
+    (Write 128 (counted 100))
+    (bare (descriptor 1 130 0 5 0 fs) ++ table 0 3 ++ table 4 0 ++ counted 3 ++ counted 100 ++ lent)
+    -- need 1, the entry nil: logical block 129 gets block 5, named second in the second table
+    ∷ change (bare (descriptor 1 130 0 5 0 fs) ++ table 0 3 ++ table 4 0 ++ counted 3 ++ counted 4 ++ lent)
+    (Write 129 (counted 100))
+    (bare (descriptor 1 130 0 6 0 fs) ++ table 0 3 ++ table 4 5 ++ counted 3 ++ counted 4 ++ counted 100)
+    -- need 1, the entry below alpha: logical block 1 leaves the snapshot's block 3 and gets block 8; the snapshot's tables stay
+    ∷ change
+    (bare (descriptor 1 130 0 5 5 mon) ++ table 0 3 ++ table 4 0 ++ counted 3 ++ counted 4 ++ bare (descriptor 1 130 5 8 0 fs) ++ fullTable 0 3 20 ++ table 4 0 ++ lent)
+    (Write 1 (counted 100))
+    (bare (descriptor 1 130 0 5 5 mon) ++ table 0 3 ++ table 4 0 ++ counted 3 ++ counted 4 ++ bare (descriptor 1 130 5 9 0 fs) ++ fullTable 0 8 20 ++ table 4 0 ++ counted 100)
+    ∷ []
+
+-- Layout 2, L 130: the descriptor, and table blocks and data as Phi and the tables name them.
+unfoldable pub writes2 : List Change
+writes2 =
+    -- need 0: logical block 128 stands in block 4, which is overwritten
+    change (withPhi (descriptor 2 130 0 5 0 fs) 1 3 ++ table 0 2 ++ counted 2 ++ table 4 0 ++ counted 4 ++ lent)
+    (Write 128 (counted 100))
+    (withPhi (descriptor 2 130 0 5 0 fs) 1 3 ++ table 0 2 ++ counted 2 ++ table 4 0 ++ counted 100 ++ lent)
+    -- need 1, the entry nil: logical block 129 gets block 5, named second in the table block 3
+    ∷ change (withPhi (descriptor 2 130 0 5 0 fs) 1 3 ++ table 0 2 ++ counted 2 ++ table 4 0 ++ counted 4 ++ lent)
+    (Write 129 (counted 100))
+    (withPhi (descriptor 2 130 0 6 0 fs) 1 3 ++ table 0 2 ++ counted 2 ++ table 4 5 ++ counted 4 ++ counted 100)
+    -- need 1, the entry below alpha in a table block above it: logical block 0 leaves the snapshot's block 2 and gets block 7
+    ∷ change
+    (withPhi (descriptor 2 130 0 4 4 mon) 1 0 ++ table 2 3 ++ counted 2 ++ counted 3 ++ fullPhi (descriptor 2 130 4 7 0 fs) 5 0 10 ++ fullTable 2 6 20 ++ counted 6 ++ lent)
+    (Write 0 (counted 100))
+    (withPhi (descriptor 2 130 0 4 4 mon) 1 0 ++ table 2 3 ++ counted 2 ++ counted 3 ++ fullPhi (descriptor 2 130 4 8 0 fs) 5 0 10 ++ fullTable 7 6 20 ++ counted 6 ++ counted 100)
+    -- need 2, Phi's entry nil: a table block of nil entries at beta, the data after it; the blocks taken held other bytes
+    ∷ change (fullPhi (descriptor 2 130 0 3 0 fs) 1 0 10 ++ table 0 2 ++ counted 2 ++ counted 50 ++ counted 60)
+    (Write 129 (counted 100))
+    (fullPhi (descriptor 2 130 0 5 0 fs) 1 3 10 ++ table 0 2 ++ counted 2 ++ table 0 4 ++ counted 100)
+    -- need 2, the table block below alpha: a copy of it at beta, the data after it; the snapshot's table block stays
+    ∷ change
+    (withPhi (descriptor 2 130 0 4 4 mon) 1 0 ++ fullTable 2 3 20 ++ counted 2 ++ counted 3 ++ fullPhi (descriptor 2 130 4 5 0 fs) 1 0 10 ++ counted 50 ++ counted 60)
+    (Write 1 (counted 100))
+    (withPhi (descriptor 2 130 0 4 4 mon) 1 0 ++ fullTable 2 3 20 ++ counted 2 ++ counted 3 ++ fullPhi (descriptor 2 130 4 7 0 fs) 5 0 10 ++ fullTable 2 6 20 ++ counted 100)
+    ∷ []
+
+-- Snaps follow no entry, so tables and Phi may hold any bytes here.
+unfoldable pub snaps : List Change
+snaps =
+    -- layout 1: descriptor and both tables are copied to beta; the old descriptor gets the name and next = beta, the copy alpha = 5 and beta = 8
+    change (bare (descriptor 1 130 0 5 0 fs) ++ counted 1 ++ counted 2 ++ counted 3 ++ counted 4 ++ counted 50 ++ counted 60 ++ counted 70 ++ lent)
+    (Snap letters16)
+    (bare (descriptor 1 130 0 5 5 letters16) ++ counted 1 ++ counted 2 ++ counted 3 ++ counted 4 ++ bare (descriptor 1 130 5 8 0 fs) ++ counted 1 ++ counted 2 ++ lent)
+    -- layout 2: the descriptor is copied with its Phi, the tables are not
+    ∷ change (fullPhi (descriptor 2 130 0 3 0 letters16) 1 0 10 ++ table 2 0 ++ counted 2 ++ counted 50 ++ lent)
+    (Snap mon)
+    (fullPhi (descriptor 2 130 0 3 3 mon) 1 0 10 ++ table 2 0 ++ counted 2 ++ fullPhi (descriptor 2 130 3 4 0 letters16) 1 0 10 ++ lent)
+    -- layout 2, a second snap: the first snapshot stays
+    ∷ change (withPhi (descriptor 2 130 0 3 3 mon) 1 0 ++ table 2 0 ++ counted 2 ++ fullPhi (descriptor 2 130 3 6 0 fs) 4 0 10 ++ table 5 0 ++ counted 5 ++ counted 50)
+    (Snap tue)
+    (withPhi (descriptor 2 130 0 3 3 mon) 1 0 ++ table 2 0 ++ counted 2 ++ fullPhi (descriptor 2 130 3 6 6 tue) 4 0 10 ++ table 5 0 ++ counted 5 ++ fullPhi (descriptor 2 130 6 7 0 fs) 4 0 10)
+    ∷ []
+
+-- A revert gives the snapshot's descriptor the active name and a nil next; every other byte stays.
+unfoldable pub reverts : List Change
+reverts =
+    -- layout 1
+    change
+    (bare (descriptor 1 130 0 5 5 mon) ++ counted 1 ++ counted 2 ++ counted 3 ++ counted 4 ++ bare (descriptor 1 130 5 9 0 letters16) ++ counted 6 ++ counted 7 ++ counted 8)
+    (Revert mon)
+    (bare (descriptor 1 130 0 5 0 letters16) ++ counted 1 ++ counted 2 ++ counted 3 ++ counted 4 ++ bare (descriptor 1 130 5 9 0 letters16) ++ counted 6 ++ counted 7 ++ counted 8)
+    -- layout 2, to the first snapshot and to the second
+    ∷ change (fullPhi (descriptor 2 130 0 3 3 mon) 1 0 10 ++ table 2 0 ++ counted 2 ++ fullPhi (descriptor 2 130 3 5 5 tue) 1 0 20 ++ counted 4 ++ fullPhi (descriptor 2 130 5 6 0 fs) 1 0 30 ++ lent)
+    (Revert mon)
+    (fullPhi (descriptor 2 130 0 3 0 fs) 1 0 10 ++ table 2 0 ++ counted 2 ++ fullPhi (descriptor 2 130 3 5 5 tue) 1 0 20 ++ counted 4 ++ fullPhi (descriptor 2 130 5 6 0 fs) 1 0 30 ++ lent)
+    ∷ change (fullPhi (descriptor 2 130 0 3 3 mon) 1 0 10 ++ table 2 0 ++ counted 2 ++ fullPhi (descriptor 2 130 3 5 5 tue) 1 0 20 ++ counted 4 ++ fullPhi (descriptor 2 130 5 6 0 fs) 1 0 30 ++ lent)
+    (Revert tue)
+    (fullPhi (descriptor 2 130 0 3 3 mon) 1 0 10 ++ table 2 0 ++ counted 2 ++ fullPhi (descriptor 2 130 3 5 0 fs) 1 0 20 ++ counted 4 ++ fullPhi (descriptor 2 130 5 6 0 fs) 1 0 30 ++ lent)
+    ∷ []

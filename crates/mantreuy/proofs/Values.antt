@@ -1,0 +1,41 @@
+-- Values of the definitions of the exported functions: what they compute is what is said.
+use mathlib.Core.Path.{refl}
+use Rattle.blocks.specs.Pick.{same, allZero}
+use Rattle.blocks.specs.Bytes.{u32At, le32, blockCount}
+use Rattle.blocks.specs.Name.{nameByte, nameLength, isName, isText, padded}
+use Rattle.blocks.specs.Descriptor.{tableCount, cost, descriptorAt, headBytes, descriptorBlock, reservedOk, phiOk}
+use Rattle.blocks.specs.Chain.{formOk, regionOk, named, sound, chainFrom, chain, chainSound, descriptors, chainPlace}
+use Rattle.calls.specs.Parts.{areaBad}
+use Rattle.calls.specs.Ladder.{firstRow, listRows, rowsOf, answerOf}
+use Rattle.calls.specs.Effect.{listed}
+use Rattle.calls.specs.Step.{step}
+use Rattle.mantreuy.specs.Exported.{nameIn, targetIn, paddingOf}
+use Rattle.mantreuy.specs.RecordBytes.{recordBytes, recordsBytes, recordIn, roomIn, listingOf}
+use Rattle.mantreuy.specs.Values.{NameValues, TargetValues, PaddedValues, PaddingValues, RecordValues, ListingValues}
+
+pub name-values : NameValues
+unfolding NameValues nameIn
+name-values = (refl, refl, refl)
+
+pub target-values : TargetValues
+unfolding TargetValues targetIn
+target-values = (refl, refl, refl)
+
+pub padded-values : PaddedValues
+unfolding PaddedValues padded isText nameLength nameByte
+padded-values = (refl, refl, refl, refl, refl)
+
+pub padding-values : PaddingValues
+unfolding PaddingValues paddingOf padded isText nameLength nameByte
+padding-values = (refl, refl, refl, refl, refl)
+
+pub record-values : RecordValues
+unfolding RecordValues recordBytes recordIn le32 u32At
+record-values = (refl, refl)
+
+pub listing-values : ListingValues
+unfolding ListingValues listingOf roomIn recordsBytes recordBytes
+    step answerOf rowsOf firstRow listRows listed areaBad
+    formOk regionOk named sound chainFrom chain chainSound descriptors chainPlace tableCount cost descriptorAt headBytes descriptorBlock reservedOk phiOk
+    nameByte nameLength isName u32At le32 blockCount same allZero
+listing-values = (refl, refl, refl)
