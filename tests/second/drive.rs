@@ -6,8 +6,8 @@ mod boundary;
 mod call;
 #[path = "drive/calls.rs"]
 mod calls;
-#[path = "drive/hurt.rs"]
-mod hurt;
+#[path = "drive/damaged.rs"]
+mod damaged;
 #[path = "drive/lent.rs"]
 mod lent;
 #[path = "drive/lists.rs"]
@@ -17,11 +17,11 @@ mod names;
 #[path = "drive/pair.rs"]
 mod pair;
 mod rng;
+#[path = "drive/rollback.rs"]
+mod rollback;
 mod store;
 #[path = "drive/table.rs"]
 mod table;
-#[path = "drive/twice.rs"]
-mod twice;
 #[path = "drive/values.rs"]
 mod values;
 
@@ -60,8 +60,8 @@ fn main() -> ExitCode {
     if let [command, seed, count] = &words[..] {
         let chosen: Option<(List, table::Expected)> = match command.as_str() {
             "calls" => Some((calls::one, table::CALLS)),
-            "damaged" => Some((hurt::one, table::DAMAGED)),
-            "rollback" => Some((twice::one, table::ROLLBACK)),
+            "damaged" => Some((damaged::one, table::DAMAGED)),
+            "rollback" => Some((rollback::one, table::ROLLBACK)),
             "names" => Some((names::one, table::NAMES)),
             "values" => Some((values::one, table::VALUES)),
             _ => None,

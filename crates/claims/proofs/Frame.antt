@@ -1,4 +1,4 @@
--- What calls leave alone: no call alters the card's length, quiet calls alter no byte of it, and lent memory is only filled by a read or a listing.
+-- What calls leave alone: no call alters the card's length, those that store nothing alter no byte of it, and lent memory is only filled by a read or a listing.
 -- What a listing fills: the descriptors' own records, and the records after them as they were.
 use mathlib.Core.Path.{_≡_, refl, sym, _∙_, subst}
 use mathlib.Core.Bool.{Bool, true, false}
@@ -33,7 +33,7 @@ use Rattle.calls.specs.Parts.{areaBad, descriptorsOf, snapshotsOf, withName, in
 use Rattle.calls.specs.Ladder.{reamRows, writeRows, snapRows, revertRows, listRows, rowsOf, answerOf}
 use Rattle.calls.specs.Effect.{WriteReady, snapping, reverting, storesOf, recordOf, listed, filledOf}
 use Rattle.calls.specs.Step.{step, isAccepted}
-use Rattle.claims.specs.Claims.{lentAtEntry, ListClaim, isQuiet, fills, FrameClaim}
+use Rattle.claims.specs.Claims.{lentAtEntry, ListClaim, storesNothing, fills, FrameClaim}
 use Rattle.calls.proofs.NamedLaws.{named-index, with-name-index}
 use Rattle.calls.proofs.CardLaws.{card-some, card-found, card-active, card-through, card-inside, card-snapshot, card-snapshot-count}
 use Rattle.calls.proofs.WriteLaws.{put-inside, write-ready}
@@ -248,20 +248,20 @@ unfolding step
 length-kept k c true e = rw e (stored-length (length c) c refl (stores-inside k c e))
 length-kept k c false e = rw e
 
-quiet-stores : (k : Call) (c : List ℕ) → isQuiet k ≡ true → storeAll c (storesOf k c) ≡ c
-unfolding isQuiet storesOf storeAll
-quiet-stores (Ream layout volume name) c q = no q
-quiet-stores (Read target name l block) c q = refl
-quiet-stores (Write l block) c q = no q
-quiet-stores (Snap name) c q = no q
-quiet-stores (Revert name) c q = no q
-quiet-stores (Listing records) c q = refl
-quiet-stores Check c q = refl
+stores-nothing : (k : Call) (c : List ℕ) → storesNothing k ≡ true → storeAll c (storesOf k c) ≡ c
+unfolding storesNothing storesOf storeAll
+stores-nothing (Ream layout volume name) c q = no q
+stores-nothing (Read target name l block) c q = refl
+stores-nothing (Write l block) c q = no q
+stores-nothing (Snap name) c q = no q
+stores-nothing (Revert name) c q = no q
+stores-nothing (Listing records) c q = refl
+stores-nothing Check c q = refl
 
-quiet-kept : (k : Call) (c : List ℕ) → isQuiet k ≡ true → (t : Bool) → isAccepted (answerOf k c) ≡ t → step k c .card ≡ c
+same-kept : (k : Call) (c : List ℕ) → storesNothing k ≡ true → (t : Bool) → isAccepted (answerOf k c) ≡ t → step k c .card ≡ c
 unfolding step
-quiet-kept k c q true e = rw e (quiet-stores k c q)
-quiet-kept k c q false e = rw e
+same-kept k c q true e = rw e (stores-nothing k c q)
+same-kept k c q false e = rw e
 
 unfilled : (k : Call) (c : List ℕ) → fills k ≡ false → filledOf k c ≡ lentAtEntry k
 unfolding fills filledOf lentAtEntry
@@ -282,6 +282,6 @@ pub frame-claim : FrameClaim
 unfolding FrameClaim
 frame-claim k c = (
   length-kept k c (isAccepted (answerOf k c)) refl,
-  λ q. quiet-kept k c q (isAccepted (answerOf k c)) refl,
+  λ q. same-kept k c q (isAccepted (answerOf k c)) refl,
   λ q. lent-kept k c q (isAccepted (answerOf k c)) refl,
 )

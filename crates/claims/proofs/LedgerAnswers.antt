@@ -225,44 +225,44 @@ ledger-lists c p records ok =
     )
 
 -- rows that neither name a place nor give 11
-unfoldable sober : List Row → Bool
-sober [] = true
-sober (r ∷ rs) = eqb (r .place) 0 && not (eqb (r .number) 11) && sober rs
+unfoldable placeless : List Row → Bool
+placeless [] = true
+placeless (r ∷ rs) = eqb (r .place) 0 && not (eqb (r .number) 11) && placeless rs
 
 abbrev Sober : Answer → Type 0
 Sober a = (a .place ≡ 0) × (a .number ≡ 11 → ⊥)
 
-sober-by : (a b : Answer) (h : Bool) → Sober a → Sober b → Sober (pick h a b)
-sober-by a b true x y = x
-sober-by a b false x y = y
+placeless-by : (a b : Answer) (h : Bool) → Sober a → Sober b → Sober (pick h a b)
+placeless-by a b true x y = x
+placeless-by a b false x y = y
 
-sober-row : (r : Row) (t : Bool) → (eqb (r .place) 0 && not (eqb (r .number) 11) && t) ≡ true → Sober (answer (r .number) (r .place)) × (t ≡ true)
-sober-row r t e =
+placeless-row : (r : Row) (t : Bool) → (eqb (r .place) 0 && not (eqb (r .number) 11) && t) ≡ true → Sober (answer (r .number) (r .place)) × (t ≡ true)
+placeless-row r t e =
     let z = eqb (r .place) 0 in
     let n = not (eqb (r .number) 11) in
     let both = and-left (z && n) t e in
     ((eqb-true (r .place) 0 (and-left z n both), eqb-false (r .number) 11 (not-true (eqb (r .number) 11) (and-right z n both))), and-right (z && n) t e)
 
-sober-first : (rs : List Row) → sober rs ≡ true → Sober (firstRow rs)
-unfolding sober firstRow
-sober-first [] e = (refl, λ h. absurd (omega (arith, h)))
-sober-first (r ∷ rs) e =
-    let parts = sober-row r (sober rs) e in
-    sober-by (answer (r .number) (r .place)) (firstRow rs) (r .holds) (parts .0) (sober-first rs (parts .1))
+placeless-first : (rs : List Row) → placeless rs ≡ true → Sober (firstRow rs)
+unfolding placeless firstRow
+placeless-first [] e = (refl, λ h. absurd (omega (arith, h)))
+placeless-first (r ∷ rs) e =
+    let parts = placeless-row r (placeless rs) e in
+    placeless-by (answer (r .number) (r .place)) (firstRow rs) (r .holds) (parts .0) (placeless-first rs (parts .1))
 
-ledger-sober : (k : Call) (g : Ledger) → sober (ledgerRows k g) ≡ true
-unfolding sober ledgerRows
-ledger-sober (Ream layout volume name) g = refl
-ledger-sober (Read target name l block) g = refl
-ledger-sober (Write l block) g = refl
-ledger-sober (Snap name) g = refl
-ledger-sober (Revert name) g = refl
-ledger-sober (Listing records) g = refl
-ledger-sober Check g = refl
+ledger-placeless : (k : Call) (g : Ledger) → placeless (ledgerRows k g) ≡ true
+unfolding placeless ledgerRows
+ledger-placeless (Ream layout volume name) g = refl
+ledger-placeless (Read target name l block) g = refl
+ledger-placeless (Write l block) g = refl
+ledger-placeless (Snap name) g = refl
+ledger-placeless (Revert name) g = refl
+ledger-placeless (Listing records) g = refl
+ledger-placeless Check g = refl
 
-ream-sober : (c : List ℕ) (layout volume : ℕ) (name : List ℕ) → sober (reamRows c layout volume name) ≡ true
-unfolding sober reamRows
-ream-sober c layout volume name = refl
+ream-placeless : (c : List ℕ) (layout volume : ℕ) (name : List ℕ) → placeless (reamRows c layout volume name) ≡ true
+unfolding placeless reamRows
+ream-placeless c layout volume name = refl
 
 -- the rows of each call, where area, chain and entries are in order
 read-by : (pl h : ℕ) (x a b y s v f : Bool) → x ≡ false → y ≡ false → (s ≡ false → v ≡ false → f ≡ false)
@@ -396,12 +396,12 @@ ledger-number k c p q =
 
 ream-place : (c : List ℕ) (layout volume : ℕ) (name : List ℕ) → answerOf (Ream layout volume name) c .place ≡ 0
 unfolding answerOf rowsOf
-ream-place c layout volume name = sober-first (reamRows c layout volume name) (ream-sober c layout volume name) .0
+ream-place c layout volume name = placeless-first (reamRows c layout volume name) (ream-placeless c layout volume name) .0
 
 other-place : (k : Call) (c : List ℕ) → Passes c → isReam k ≡ false → answerOf k c .place ≡ 0
 other-place k c p q =
     place-by (eqb (firstRow (ledgerRows k (ledgerOf c)) .number) 0 && ltb (blockCount c) (betaOf c + blocksNeeded k c)) (answerOf k c) (firstRow (ledgerRows k (ledgerOf c)))
-    (sober-first (ledgerRows k (ledgerOf c)) (ledger-sober k (ledgerOf c)) .0) (ledger-answer c p k q)
+    (placeless-first (ledgerRows k (ledgerOf c)) (ledger-placeless k (ledgerOf c)) .0) (ledger-answer c p k q)
 
 pub ledger-place : (k : Call) (c : List ℕ) → Passes c → answerOf k c .place ≡ 0
 unfolding isReam
@@ -418,4 +418,4 @@ pub ledger-no-room : (k : Call) (c : List ℕ) → Passes c → isReam k ≡ fal
 unfolding ledgerNumber
 ledger-no-room k c p q =
     room-by (blockCount c) (betaOf c + blocksNeeded k c) (eqb (firstRow (ledgerRows k (ledgerOf c)) .number) 0) (ltb (blockCount c) (betaOf c + blocksNeeded k c)) (answerOf k c) (firstRow (ledgerRows k (ledgerOf c)))
-    refl refl (ledger-answer c p k q) (sober-first (ledgerRows k (ledgerOf c)) (ledger-sober k (ledgerOf c)) .1)
+    refl refl (ledger-answer c p k q) (placeless-first (ledgerRows k (ledgerOf c)) (ledger-placeless k (ledgerOf c)) .1)

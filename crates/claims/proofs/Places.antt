@@ -27,7 +27,7 @@ use Rattle.calls.specs.declared.answer.Target.the-variants.{Active}
 use Rattle.calls.specs.Call.{Call, Ream, Read, Write, Snap, Revert, Listing, Check, answer}
 use Rattle.calls.specs.Parts.{areaBad, descriptorsOf, snapshotsOf, isSnapshot, targetOf, foundThrough, isMisplaced, holderOf}
 use Rattle.calls.specs.Ladder.{Row, row, areaRow, nameRow, blockRow, chainRow, volumeRow, firstRow, reamRows, readRows, writeRows, snapRows, revertRows, listRows, checkRows, rowsOf, answerOf}
-use Rattle.claims.specs.Claims.{FirstUnsound, here, past, on, Chained, last, link, comesToChain, ChainClaim, Stray, phi, named-table, own-table, PlaceClaim}
+use Rattle.claims.specs.Claims.{FirstUnsound, here, past, on, Chained, last, link, comesToChain, ChainClaim, NotInPlace, phi, named-table, own-table, PlaceClaim}
 use Rattle.calls.proofs.RowLaws.{fresh, fresh-never}
 use Rattle.calls.proofs.CardLaws.{chain-is}
 use Rattle.claims.proofs.Agreement.{target-member}
@@ -246,27 +246,27 @@ module _ (c : List ℕ) (d : Descriptor) (l : ℕ) where
   phi-by : (h : ℕ) → d .layout ≡ 2 → (i z : Bool) → inPlace ds d f ≡ i → eqb f 0 ≡ z
       → isMisplaced (pick i (pick z (Entry (physical 0) (physical 0)) (entryFound ds d f (entryAt c f (l % 128)))) (Misplaced (d .alpha))) ≡ true
       → holderOf (pick i (pick z (Entry (physical 0) (physical 0)) (entryFound ds d f (entryAt c f (l % 128)))) (Misplaced (d .alpha))) ≡ h
-      → Stray c d l h
+      → NotInPlace c d l h
   unfolding isMisplaced holderOf
   phi-by h two true true hi hz q k = no q
   phi-by h two true false hi hz q k =
       let r = misplaced-entry ds d f (entryAt c f (l % 128)) h q k in
-      subst (Stray c d l) (r .1) (named-table two hi (eqb-false f 0 hz) (r .0))
-  phi-by h two false z hi hz q k = subst (Stray c d l) k (phi two hi)
+      subst (NotInPlace c d l) (r .1) (named-table two hi (eqb-false f 0 hz) (r .0))
+  phi-by h two false z hi hz q k = subst (NotInPlace c d l) k (phi two hi)
 
-  stray-by : (h : ℕ) → (eqb (d .layout) 1 || eqb (d .layout) 2) ≡ true → (t : Bool) → eqb (d .layout) 1 ≡ t
-      → isMisplaced (foundThrough c d l) ≡ true → holderOf (foundThrough c d l) ≡ h → Stray c d l h
+  out-of-place-by : (h : ℕ) → (eqb (d .layout) 1 || eqb (d .layout) 2) ≡ true → (t : Bool) → eqb (d .layout) 1 ≡ t
+      → isMisplaced (foundThrough c d l) ≡ true → holderOf (foundThrough c d l) ≡ h → NotInPlace c d l h
   unfolding find tableOf
-  stray-by h form true e q k =
+  out-of-place-by h form true e q k =
       let r = misplaced-entry ds d o (entryAt c o (l % 128)) h (rw e at q) (rw e at k) in
-      subst (Stray c d l) (r .1) (own-table (eqb-true (d .layout) 1 e) (r .0))
-  stray-by h form false e q k = phi-by h (layout-two (d .layout) form e) (inPlace ds d f) (eqb f 0) refl refl (rw e at q) (rw e at k)
+      subst (NotInPlace c d l) (r .1) (own-table (eqb-true (d .layout) 1 e) (r .0))
+  out-of-place-by h form false e q k = phi-by h (layout-two (d .layout) form e) (inPlace ds d f) (eqb f 0) refl refl (rw e at q) (rw e at k)
 
-  found-stray : (h : ℕ) → Stray c d l h → (isMisplaced (foundThrough c d l) ≡ true) × (holderOf (foundThrough c d l) ≡ h)
+  found-out-of-place : (h : ℕ) → NotInPlace c d l h → (isMisplaced (foundThrough c d l) ≡ true) × (holderOf (foundThrough c d l) ≡ h)
   unfolding find tableOf isMisplaced holderOf
-  found-stray h (phi two e) = rw (ne-eqb (d .layout) 1 (omega (arith, two)), e) (refl, refl)
-  found-stray h (named-table two e set p) = rw (ne-eqb (d .layout) 1 (omega (arith, two)), e, ne-eqb f 0 set) (entry-misplaced ds d f (entryAt c f (l % 128)) 0 p)
-  found-stray h (own-table one p) = rw (eq-eqb (d .layout) 1 one) (entry-misplaced ds d o (entryAt c o (l % 128)) 0 p)
+  found-out-of-place h (phi two e) = rw (ne-eqb (d .layout) 1 (omega (arith, two)), e) (refl, refl)
+  found-out-of-place h (named-table two e set p) = rw (ne-eqb (d .layout) 1 (omega (arith, two)), e, ne-eqb f 0 set) (entry-misplaced ds d f (entryAt c f (l % 128)) 0 p)
+  found-out-of-place h (own-table one p) = rw (eq-eqb (d .layout) 1 one) (entry-misplaced ds d o (entryAt c o (l % 128)) 0 p)
 
 -- the descriptor that a call goes through has layout 1 or 2
 target-layout : (c : List ℕ) → chainSound (chain c) ≡ true → (target : Target) (name : List ℕ) → (isSnapshot target && not (named (snapshotsOf (descriptorsOf c)) name)) ≡ false
@@ -334,12 +334,12 @@ module _ (c : List ℕ) (l : ℕ) (block : List ℕ) (h : ℕ) where
     unfolding clear comesToChain
     above-clear = clear-read (areaBad c) (isSnapshot target) (isName name) (eqb (length block) 512) sounds (named (snapshotsOf all) name) beyond
 
-    abbrev ReadStray : Type 0
-    ReadStray = (comes ≡ true) × (sounds ≡ true) × (there ≡ true) × (l < activeOf all .volume) × Stray c (targetOf all target name) l h
+    abbrev ReadMisplaced : Type 0
+    ReadMisplaced = (comes ≡ true) × (sounds ≡ true) × (there ≡ true) × (l < activeOf all .volume) × NotInPlace c (targetOf all target name) l h
 
-    read-stray : answerOf (Read target name l block) c ≡ answer 10 h → ReadStray
+    read-out-of-place : answerOf (Read target name l block) c ≡ answer 10 h → ReadMisplaced
     unfolding answerOf rowsOf readRows fresh
-    read-stray e =
+    read-out-of-place e =
         let found = foundThrough c (targetOf all target name) l in
         let r = row-given above [] (isMisplaced found) 10 (holderOf found) h refl refl (λ z. omega arith) e in
         let w = sym above-clear ∙ r .0 in
@@ -352,14 +352,14 @@ module _ (c : List ℕ) (l : ℕ) (block : List ℕ) (h : ℕ) where
           ok,
           here-name,
           leb-false (activeOf all .volume) l (not-true beyond (and-right ((comes && sounds) && there) (not beyond) w)),
-          stray-by c (targetOf all target name) l h form (eqb (targetOf all target name .layout) 1) refl (r .1) (r .2),
+          out-of-place-by c (targetOf all target name) l h form (eqb (targetOf all target name .layout) 1) refl (r .1) (r .2),
         )
 
-    stray-read : ReadStray → answerOf (Read target name l block) c ≡ answer 10 h
+    out-of-place-read : ReadMisplaced → answerOf (Read target name l block) c ≡ answer 10 h
     unfolding answerOf rowsOf readRows
-    stray-read s =
+    out-of-place-read s =
         let found = foundThrough c (targetOf all target name) l in
-        let r = found-stray c (targetOf all target name) l h (s .4) in
+        let r = found-out-of-place c (targetOf all target name) l h (s .4) in
         let v = not-false-of beyond (lt-leb (activeOf all .volume) l (s .3)) in
         let w = and-both ((comes && sounds) && there) (not beyond) (and-both (comes && sounds) there (and-both comes sounds (s .0) (s .1)) (s .2)) v in
         row-gives above [] (isMisplaced found) 10 (holderOf found) h (above-clear ∙ w) (r .0) (r .1)
@@ -375,12 +375,12 @@ module _ (c : List ℕ) (l : ℕ) (block : List ℕ) (h : ℕ) where
   unfolding clear comesToChain
   before-clear = clear-write (areaBad c) (eqb (length block) 512) sounds beyond
 
-  abbrev WriteStray : Type 0
-  WriteStray = (reaches ≡ true) × (sounds ≡ true) × (l < activeOf all .volume) × Stray c (activeOf all) l h
+  abbrev WriteMisplaced : Type 0
+  WriteMisplaced = (reaches ≡ true) × (sounds ≡ true) × (l < activeOf all .volume) × NotInPlace c (activeOf all) l h
 
-  write-stray : answerOf (Write l block) c ≡ answer 10 h → WriteStray
+  write-out-of-place : answerOf (Write l block) c ≡ answer 10 h → WriteMisplaced
   unfolding answerOf rowsOf writeRows fresh targetOf
-  write-stray e =
+  write-out-of-place e =
       let found = foundThrough c (activeOf all) l in
       let r = row-given before _ (isMisplaced found) 10 (holderOf found) h refl refl (λ z. omega arith) e in
       let w = sym before-clear ∙ r .0 in
@@ -390,14 +390,14 @@ module _ (c : List ℕ) (l : ℕ) (block : List ℕ) (h : ℕ) where
         and-left reaches sounds two,
         ok,
         leb-false (activeOf all .volume) l (not-true beyond (and-right (reaches && sounds) (not beyond) w)),
-        stray-by c (activeOf all) l h form (eqb (activeOf all .layout) 1) refl (r .1) (r .2),
+        out-of-place-by c (activeOf all) l h form (eqb (activeOf all .layout) 1) refl (r .1) (r .2),
       )
 
-  stray-write : WriteStray → answerOf (Write l block) c ≡ answer 10 h
+  out-of-place-write : WriteMisplaced → answerOf (Write l block) c ≡ answer 10 h
   unfolding answerOf rowsOf writeRows
-  stray-write s =
+  out-of-place-write s =
       let found = foundThrough c (activeOf all) l in
-      let r = found-stray c (activeOf all) l h (s .3) in
+      let r = found-out-of-place c (activeOf all) l h (s .3) in
       let v = not-false-of beyond (lt-leb (activeOf all .volume) l (s .2)) in
       let w = and-both (reaches && sounds) (not beyond) (and-both reaches sounds (s .0) (s .1)) v in
       row-gives before _ (isMisplaced found) 10 (holderOf found) h (before-clear ∙ w) (r .0) (r .1)
@@ -406,6 +406,6 @@ pub place-claim : PlaceClaim
 unfolding PlaceClaim
 place-claim c =
     record {
-      read = λ target name l block h. (read-stray c l block h target name, stray-read c l block h target name);
-      write = λ l block h. (write-stray c l block h, stray-write c l block h);
+      read = λ target name l block h. (read-out-of-place c l block h target name, out-of-place-read c l block h target name);
+      write = λ l block h. (write-out-of-place c l block h, out-of-place-write c l block h);
     }

@@ -63,19 +63,19 @@ module _ (c : List ℕ) where
   unfolding storeAll
   same-card k q = rw q (refl, refl, refl)
 
-  quiet : (k : Call) (e : isAccepted (answerOf k c) ≡ true) → storesOf k c ≡ [] → Kept (activeOf (descriptorsOf (step k c .card))) d
+  unaltered : (k : Call) (e : isAccepted (answerOf k c) ≡ true) → storesOf k c ≡ [] → Kept (activeOf (descriptorsOf (step k c .card))) d
   unfolding step
-  quiet k e q = rw e (same-card k q)
+  unaltered k e q = rw e (same-card k q)
 
   kept-accepted : (k : Call) → isFormat k c ≡ false → isAccepted (answerOf k c) ≡ true → Kept (activeOf (descriptorsOf (step k c .card))) d
   unfolding isFormat storesOf
   kept-accepted (Ream layout volume name) f e = no (sym f ∙ e)
-  kept-accepted (Read target name l block) f e = quiet (Read target name l block) e refl
+  kept-accepted (Read target name l block) f e = unaltered (Read target name l block) e refl
   kept-accepted (Write l block) f e = kept-write l block e
   kept-accepted (Snap name) f e = kept-snap name e
   kept-accepted (Revert name) f e = kept-revert name e
-  kept-accepted (Listing records) f e = quiet (Listing records) e refl
-  kept-accepted Check f e = quiet Check e refl
+  kept-accepted (Listing records) f e = unaltered (Listing records) e refl
+  kept-accepted Check f e = unaltered Check e refl
 
   kept-by : (k : Call) (b : Bool) → isAccepted (answerOf k c) ≡ b → isFormat k c ≡ false → Kept (activeOf (descriptorsOf (step k c .card))) d
   unfolding step

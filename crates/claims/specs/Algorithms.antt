@@ -1,7 +1,7 @@
 -- The six algorithms of the paper over numbered blocks, as 01 completes them: nil is tested before any comparison with alpha, and a new
 -- table block is all nil or a copy. Sigma gives the bytes of each physical block; alpha is the block of a region's descriptor (the paper's SDB).
-use mathlib.Core.Bool.{Bool, true, false, not, _&&_, _||_}
-use mathlib.Core.List.{List, [], _∷_, _++_}
+use mathlib.Core.Bool.{not, _&&_}
+use mathlib.Core.List.{List}
 use Prim.Native.Nat.{ℕ, _+_, _*_, _-_, _/_, _%_}
 use lib.Dec.{eqb, ltb, leb}
 use Rattle.blocks.specs.Pick.{pick}

@@ -1,15 +1,12 @@
 -- The thirteen marked bench values of 01 as one table. Writes are of fill 1; the old bytes of every area are sevens.
-use mathlib.Core.Bool.{Bool, true, false}
-use mathlib.Core.List.{List, [], _∷_, _++_, map}
+use mathlib.Core.List.{List, [], _∷_}
 use Prim.Native.Nat.{ℕ, _*_}
 use lib.ListN.{replicate}
 use Rattle.blocks.specs.Bytes.{blockSize, zeroBlock}
 use Rattle.blocks.specs.Name.{padded, noName}
 use Rattle.calls.specs.declared.answer.Answer.{Answer}
-use Rattle.calls.specs.declared.answer.Target.{Target}
-use Rattle.calls.specs.declared.answer.Target.the-variants.{Active, Snapshot}
-use Rattle.calls.specs.declared.answer.Record.{Record}
-use Rattle.calls.specs.Call.{Call, Ream, Read, Write, Snap, Revert, Listing, Check, Lent, None, Block, Records, Outcome, answer}
+use Rattle.calls.specs.declared.answer.Target.the-variants.{Active}
+use Rattle.calls.specs.Call.{Call, Ream, Read, Write, Snap, Revert, Listing, Lent, None, Block, Records, answer}
 use Rattle.calls.specs.Step.{Done, step}
 use Rattle.claims.specs.History.{betaOf, formatted}
 

@@ -1,10 +1,11 @@
 -- What is claimed of the calls, each claim a theorem in proofs/: areas and names, refusals and their places, room, check, the algorithms, the ledger over whole lists of calls, and the rollback claim.
--- A card area and what is written to it are bytes; the claims that need it say so by AreBytes.
+-- A card area and what is written to it are bytes; the claims that need it say so by AreBytes. What stands in quotation marks is from the order's three
+-- demands, which README gives, or from document 01.
 use mathlib.Core.Path.{_≡_}
 use mathlib.Core.Logic.{_⊎_, _↔_}
 use mathlib.Core.Bool.{Bool, true, false, not, _&&_, _||_}
 use mathlib.Core.List.{List, [], _∷_, _++_, map}
-use Prim.Native.Nat.{ℕ, zero, suc, _+_, _*_, _/_, _%_, _<_, _≤_}
+use Prim.Native.Nat.{ℕ, suc, _+_, _*_, _/_, _%_, _<_, _≤_}
 use lib.ListN.{length, take, drop, getD, replicate}
 use Rattle.blocks.specs.Pick.{pick, same}
 use lib.Dec.{eqb}
@@ -19,10 +20,10 @@ use Rattle.entries.specs.Naming.{Naming, namings, atFault}
 use Rattle.entries.specs.Rules.{Rules}
 use Rattle.calls.specs.declared.answer.Target.{Target}
 use Rattle.calls.specs.declared.answer.Record.{Record}
-use Rattle.calls.specs.Call.{Call, Ream, Read, Write, Snap, Revert, Listing, Check, Lent, None, Block, Records, Outcome, answer, accepted}
+use Rattle.calls.specs.Call.{Call, Ream, Read, Write, Snap, Revert, Listing, Check, Lent, None, Block, Records, answer, accepted}
 use Rattle.calls.specs.Parts.{areaBad, descriptorsOf, snapshotsOf, indexOf, withName, isSnapshot, targetOf, foundThrough}
 use Rattle.calls.specs.Check.{Passes}
-use Rattle.calls.specs.Ladder.{Row, row, rowsOf, answerOf}
+use Rattle.calls.specs.Ladder.{row, rowsOf, answerOf}
 use Rattle.claims.specs.Algorithms.{Sigma, closeRegion, algorithm1, algorithm2, algorithm3, algorithm4, algorithm5, algorithm6}
 use Rattle.calls.specs.Step.{step, after, outcomes, isAccepted}
 use Rattle.claims.specs.History.{betaOf, Agree, isFormat, AreBytes, Standing, isSnapOf, Position, Nowhere, At, latestSnap, without, formattable, formatted}
@@ -100,14 +101,14 @@ SoundClaim =
     (chainSound (chain (step k c .card)) ≡ true) × (e .layout ≡ d .layout) × (e .volume ≡ d .volume) × (e .name ≡ d .name)
 
 -- a call that stores nothing; a call that fills what is lent
-unfoldable pub isQuiet : Call → Bool
-isQuiet (Ream layout volume name) = false
-isQuiet (Read target name l block) = true
-isQuiet (Write l block) = false
-isQuiet (Snap name) = false
-isQuiet (Revert name) = false
-isQuiet (Listing records) = true
-isQuiet Check = true
+unfoldable pub storesNothing : Call → Bool
+storesNothing (Ream layout volume name) = false
+storesNothing (Read target name l block) = true
+storesNothing (Write l block) = false
+storesNothing (Snap name) = false
+storesNothing (Revert name) = false
+storesNothing (Listing records) = true
+storesNothing Check = true
 
 unfoldable pub fills : Call → Bool
 fills (Ream layout volume name) = false
@@ -123,7 +124,7 @@ unfoldable pub FrameClaim : Type 0
 FrameClaim =
     (k : Call) (c : List ℕ)
     → (length (step k c .card) ≡ length c)
-    × (isQuiet k ≡ true → step k c .card ≡ c)
+    × (storesNothing k ≡ true → step k c .card ≡ c)
     × (fills k ≡ false → step k c .outcome .lent ≡ lentAtEntry k)
 
 -- An accepted listing gives each descriptor's own name, alpha, beta and next, and leaves the records after them.
@@ -190,26 +191,26 @@ ChainClaim =
 
 -- block h holds an entry that is followed on the way to logical block l through d and that is not in place: Phi's entry of l's group, held by the
 -- descriptor's own block; or the entry of l, held by its table block, which layout 1 has after the descriptor and layout 2 where Phi's entry names it
-pub data Stray (c : List ℕ) (d : Descriptor) (l : ℕ) : ℕ → Type 0 where
-  phi : d .layout ≡ 2 → inPlace (descriptorsOf c) d (phiAt c d (l / tableSize)) ≡ false → Stray c d l (d .alpha .0)
+pub data NotInPlace (c : List ℕ) (d : Descriptor) (l : ℕ) : ℕ → Type 0 where
+  phi : d .layout ≡ 2 → inPlace (descriptorsOf c) d (phiAt c d (l / tableSize)) ≡ false → NotInPlace c d l (d .alpha .0)
   named-table : d .layout ≡ 2 → inPlace (descriptorsOf c) d (phiAt c d (l / tableSize)) ≡ true → (phiAt c d (l / tableSize) ≡ 0 → ⊥)
-      → inPlace (descriptorsOf c) d (entryAt c (phiAt c d (l / tableSize)) (l % tableSize)) ≡ false → Stray c d l (phiAt c d (l / tableSize))
+      → inPlace (descriptorsOf c) d (entryAt c (phiAt c d (l / tableSize)) (l % tableSize)) ≡ false → NotInPlace c d l (phiAt c d (l / tableSize))
   own-table : d .layout ≡ 1 → inPlace (descriptorsOf c) d (entryAt c (d .alpha .0 + 1 + l / tableSize) (l % tableSize)) ≡ false
-      → Stray c d l (d .alpha .0 + 1 + l / tableSize)
+      → NotInPlace c d l (d .alpha .0 + 1 + l / tableSize)
 
 -- 10 in reads and writes: given exactly where the call comes to a sound chain, a snapshot that is named is there, the number is below L and an entry
 -- that is followed is not in place; the place is the block that holds it
-pub record StrayPlaces (c : List ℕ) : Type 0 where
+pub record MisplacedPlaces (c : List ℕ) : Type 0 where
   pub read : (target : Target) (name : List ℕ) (l : ℕ) (block : List ℕ) (h : ℕ)
       → (answerOf (Read target name l block) c ≡ answer 10 h)
       ↔ ((comesToChain (Read target name l block) c ≡ true) × (chainSound (chain c) ≡ true) × ((not (isSnapshot target) || named (snapshotsOf (descriptorsOf c)) name) ≡ true)
-      × (l < activeOf (descriptorsOf c) .volume) × Stray c (targetOf (descriptorsOf c) target name) l h)
+      × (l < activeOf (descriptorsOf c) .volume) × NotInPlace c (targetOf (descriptorsOf c) target name) l h)
   pub write : (l : ℕ) (block : List ℕ) (h : ℕ)
       → (answerOf (Write l block) c ≡ answer 10 h)
-      ↔ ((comesToChain (Write l block) c ≡ true) × (chainSound (chain c) ≡ true) × (l < activeOf (descriptorsOf c) .volume) × Stray c (activeOf (descriptorsOf c)) l h)
+      ↔ ((comesToChain (Write l block) c ≡ true) × (chainSound (chain c) ≡ true) × (l < activeOf (descriptorsOf c) .volume) × NotInPlace c (activeOf (descriptorsOf c)) l h)
 
 unfoldable pub PlaceClaim : Type 0
-PlaceClaim = (c : List ℕ) → StrayPlaces c
+PlaceClaim = (c : List ℕ) → MisplacedPlaces c
 
 -- Check and the algorithms.
 

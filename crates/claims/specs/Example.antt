@@ -1,5 +1,5 @@
 -- The calls of 01's worked example, in both layouts, and what 01 says that they answer. The old bytes of the area are sevens.
-use mathlib.Core.List.{List, [], _∷_, _++_}
+use mathlib.Core.List.{List, [], _∷_}
 use Prim.Native.Nat.{ℕ}
 use lib.ListN.{replicate}
 use Rattle.blocks.specs.Bytes.{blockSize}

@@ -26,8 +26,8 @@ descriptor layout volume alpha beta next name = record { layout = layout; volume
 abbrev pub bare : Descriptor → List ℕ
 bare d = descriptorBlock d (replicate 472 0)
 
-abbrev pub unclean : ℕ → Descriptor → List ℕ
-unclean i d = descriptorBlock d (set (replicate 472 0) i 1)
+abbrev pub withByte : ℕ → Descriptor → List ℕ
+withByte i d = descriptorBlock d (set (replicate 472 0) i 1)
 
 abbrev pub withPhi : Descriptor → ℕ → ℕ → List ℕ
 withPhi d a b = descriptorBlock d (replicate 24 0 ++ le32 a ++ le32 b ++ replicate 440 0)
@@ -81,10 +81,10 @@ twoNames a b = bare (descriptor 2 1 0 1 1 a) ++ bare (descriptor 2 1 1 3 0 b) ++
 
 -- the snapshot mon, then a descriptor with byte 40 + i set: layout 1, four blocks; layout 2, three blocks
 abbrev pub second1 : ℕ → List ℕ
-second1 i = bare (descriptor 1 1 0 2 2 mon) ++ zeroBlock ++ unclean i (descriptor 1 1 2 4 0 fs) ++ zeroBlock
+second1 i = bare (descriptor 1 1 0 2 2 mon) ++ zeroBlock ++ withByte i (descriptor 1 1 2 4 0 fs) ++ zeroBlock
 
 abbrev pub second2 : ℕ → List ℕ
-second2 i = bare (descriptor 2 1 0 1 1 mon) ++ unclean i (descriptor 2 1 1 3 0 fs) ++ zeroBlock
+second2 i = bare (descriptor 2 1 0 1 1 mon) ++ withByte i (descriptor 2 1 1 3 0 fs) ++ zeroBlock
 
 -- three blocks: a descriptor with its beta and next, and one in block 1 or in block 2
 abbrev pub apart1 : ℕ → ℕ → List ℕ
@@ -179,7 +179,7 @@ abbrev pub lastEntry : ℕ → List ℕ
 lastEntry volume = bare (descriptor 1 volume 0 3 0 fs) ++ tableEnd 2 ++ ones
 
 abbrev pub lastPhi : ℕ → List ℕ
-lastPhi volume = unclean 468 (descriptor 2 volume 0 3 0 fs) ++ table 2 0 ++ ones
+lastPhi volume = withByte 468 (descriptor 2 volume 0 3 0 fs) ++ table 2 0 ++ ones
 
 abbrev pub reading : ℕ → Call
 reading l = Read Active noName l lent
@@ -296,15 +296,15 @@ formEdges =
     ∷ only (first 2 1 noName) (Listing []) 6 0
     ∷ only (first 2 1 (oneByte 47)) (Listing []) 6 0
     -- byte 40, 50 or 63 is set
-    ∷ only (unclean 0 (descriptor 2 1 0 2 0 fs) ++ zeroBlock) (Listing []) 6 0
-    ∷ only (unclean 10 (descriptor 2 1 0 2 0 fs) ++ zeroBlock) (Listing []) 6 0
-    ∷ only (unclean 23 (descriptor 2 1 0 2 0 fs) ++ zeroBlock) (Listing []) 6 0
+    ∷ only (withByte 0 (descriptor 2 1 0 2 0 fs) ++ zeroBlock) (Listing []) 6 0
+    ∷ only (withByte 10 (descriptor 2 1 0 2 0 fs) ++ zeroBlock) (Listing []) 6 0
+    ∷ only (withByte 23 (descriptor 2 1 0 2 0 fs) ++ zeroBlock) (Listing []) 6 0
     -- byte 64 or 511 is set, in layout 2; byte 64, 240 or 511 in layout 1
-    ∷ only (unclean 24 (descriptor 2 1 0 2 0 fs) ++ zeroBlock) (Listing []) 14 0
-    ∷ only (unclean 471 (descriptor 2 1 0 2 0 fs) ++ zeroBlock) (Listing []) 14 0
-    ∷ only (unclean 24 (descriptor 1 1 0 2 0 fs) ++ zeroBlock) (Listing []) 6 0
-    ∷ only (unclean 200 (descriptor 1 1 0 2 0 fs) ++ zeroBlock) (Listing []) 6 0
-    ∷ only (unclean 471 (descriptor 1 1 0 2 0 fs) ++ zeroBlock) (Listing []) 6 0
+    ∷ only (withByte 24 (descriptor 2 1 0 2 0 fs) ++ zeroBlock) (Listing []) 14 0
+    ∷ only (withByte 471 (descriptor 2 1 0 2 0 fs) ++ zeroBlock) (Listing []) 14 0
+    ∷ only (withByte 24 (descriptor 1 1 0 2 0 fs) ++ zeroBlock) (Listing []) 6 0
+    ∷ only (withByte 200 (descriptor 1 1 0 2 0 fs) ++ zeroBlock) (Listing []) 6 0
+    ∷ only (withByte 471 (descriptor 1 1 0 2 0 fs) ++ zeroBlock) (Listing []) 6 0
     -- in the second descriptor: byte 40, 63 or 64 in layout 2; byte 40, 64 or 511 in layout 1; no name
     ∷ only (second2 0) (Listing []) 6 1
     ∷ only (second2 23) (Listing []) 6 1
@@ -551,7 +551,7 @@ orderEdges =
     ∷ only (area 2) (Revert mon) 6 0
     ∷ only (one 2 1) (Snap fs) 6 0
     ∷ only (area 2) (Listing []) 6 0
-    ∷ only (unclean 0 (descriptor 1 1 0 2 0 fs) ++ table 9 0) Check 6 0
+    ∷ only (withByte 0 (descriptor 1 1 0 2 0 fs) ++ table 9 0) Check 6 0
     -- 7 before 8, and the active name is no snapshot's
     ∷ only (four 1 3 1 2 0) (Read Snapshot fs 9 lent) 7 0
     ∷ only (four 1 3 1 2 0) (reading 1) 8 0

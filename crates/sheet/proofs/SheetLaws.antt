@@ -60,13 +60,13 @@ module _ (area : List ℕ) (blocks : ℕ) (records : List Record) (call : SheetC
   refused-after e = sym (ap by-test (ne-eqb (a .number) 0 e)) ∙ made-after
 
   -- one that shows nothing and leaves the card where it is
-  quiet-by : (b : Bool) (k : ℕ) (s : Shown) (rs : List Record) → k ≡ blocks → s ≡ Nothing → rs ≡ records
+  unshown-by : (b : Bool) (k : ℕ) (s : Shown) (rs : List Record) → k ≡ blocks → s ≡ Nothing → rs ≡ records
       → after a blocks Nothing records (withCard area k card) ≡ after a (pick b k blocks) (pick b s Nothing) rs (withCard area k card)
-  quiet-by true k s rs e f g = rw (f, g, e)
-  quiet-by false k s rs e f g = rw g
+  unshown-by true k s rs e f g = rw (f, g, e)
+  unshown-by false k s rs e f g = rw g
 
-  pub quiet-after : n ≡ blocks → shownOf call lent (cardOf area n) ≡ Nothing → recordsAfter lent records ≡ records → after a blocks Nothing records (withCard area n card) ≡ afterCall (state area blocks records) call name
-  quiet-after e f g = quiet-by (isAccepted a) n (shownOf call lent (cardOf area n)) (recordsAfter lent records) e f g ∙ made-after
+  pub unshown-after : n ≡ blocks → shownOf call lent (cardOf area n) ≡ Nothing → recordsAfter lent records ≡ records → after a blocks Nothing records (withCard area n card) ≡ afterCall (state area blocks records) call name
+  unshown-after e f g = unshown-by (isAccepted a) n (shownOf call lent (cardOf area n)) (recordsAfter lent records) e f g ∙ made-after
 
 -- the calls of a sheet
 module _ (area : List ℕ) (blocks : ℕ) (records : List Record) (a : Answer) (card : List ℕ) where
@@ -83,17 +83,17 @@ module _ (area : List ℕ) (blocks : ℕ) (records : List Record) (a : Answer) (
       → after a blocks Nothing records (card ++ drop (512 * blocks) area) ≡ afterCall (state area blocks records) (line.Write l fill) noName
   unfolding callOf blocksOf recordsAfter shownOf
   write-done l fill block e made =
-      quiet-after area blocks records (line.Write l fill) noName a (Block block) card (rw (← e) made) refl refl refl
+      unshown-after area blocks records (line.Write l fill) noName a (Block block) card (rw (← e) made) refl refl refl
 
   pub snap-done : (name : List ℕ) → done a None card ≡ step (Snap name) (take (512 * blocks) area)
       → after a blocks Nothing records (card ++ drop (512 * blocks) area) ≡ afterCall (state area blocks records) line.Snap name
   unfolding callOf blocksOf recordsAfter shownOf
-  snap-done name made = quiet-after area blocks records line.Snap name a None card made refl refl refl
+  snap-done name made = unshown-after area blocks records line.Snap name a None card made refl refl refl
 
   pub revert-done : (name : List ℕ) → done a None card ≡ step (Revert name) (take (512 * blocks) area)
       → after a blocks Nothing records (card ++ drop (512 * blocks) area) ≡ afterCall (state area blocks records) line.Revert name
   unfolding callOf blocksOf recordsAfter shownOf
-  revert-done name made = quiet-after area blocks records line.Revert name a None card made refl refl refl
+  revert-done name made = unshown-after area blocks records line.Revert name a None card made refl refl refl
 
 -- those that leave the card as it is
 module _ (area : List ℕ) (blocks : ℕ) (records : List Record) (a : Answer) where
@@ -108,7 +108,7 @@ module _ (area : List ℕ) (blocks : ℕ) (records : List Record) (a : Answer) w
 
   pub check-done : done a None card ≡ step Check card → after a blocks Nothing records area ≡ afterCall (state area blocks records) line.Check noName
   unfolding callOf blocksOf recordsAfter shownOf
-  check-done made = same-area _ _ (quiet-after area blocks records line.Check noName a None card made refl refl refl)
+  check-done made = same-area _ _ (unshown-after area blocks records line.Check noName a None card made refl refl refl)
 
   module _ (target : Target) (l : Logical) (name block block′ : List ℕ) (zeros : block ≡ zeroBlock) (made : done a (Block block′) card ≡ step (Read target name (l .0) block) card) where
     read-made : done a (Block block′) card ≡ step (Read target name (l .0) zeroBlock) card

@@ -31,20 +31,20 @@ pub fn one(seed: u64, table: &mut Table) -> Result<(), String> {
 
     let rounds = if wide { 2 } else { maker.rng.between(1, 5) };
     for round in 0..rounds {
-        let mut hurt = card.clone();
+        let mut damaged = card.clone();
         let (names, hot) = (maker.names.clone(), maker.hot.clone());
         for _ in 0..maker.rng.between(1, 3) {
-            damage(&mut maker, &mut hurt);
+            damage(&mut maker, &mut damaged);
         }
         if maker.rng.once_in(15) {
-            let most = hurt.len() as u64;
+            let most = damaged.len() as u64;
             let length = match maker.rng.below(2) {
                 0 => maker.rng.below(most / 512) * 512,
                 _ => maker.rng.below(most),
             };
-            hurt.truncate(length as usize);
+            damaged.truncate(length as usize);
         }
-        let mut pair = Pair::new(Lent::new(&mut maker.rng, &hurt, 1_100));
+        let mut pair = Pair::new(Lent::new(&mut maker.rng, &damaged, 1_100));
         for k in 0..maker.rng.between(7, 20) {
             let area = maker.area_length(&pair.own);
             // Reams last: they make the card good again.
