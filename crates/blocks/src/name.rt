@@ -1,4 +1,4 @@
-// Names: sixteen bytes by value, judged, compared and made of a text.
+// Names: sixteen bytes by value, judged, made of a text, and given a key.
 use crate::bytes;
 ghost use mathlib.Core.Path.{_≡_};
 ghost use Prim.Native.Nat.{_≤_, _<_};
