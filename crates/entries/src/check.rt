@@ -1,5 +1,6 @@
 // The check of one descriptor: its entries in 01's order, each taken once, with a flag for each block that may not be named any more. The flags are
-// bytes: 255 for a block of an opening, and else the turn of the last descriptor that named the block. The turns rise, so that no descriptor clears them.
+// bytes: 255 for a block of an opening, and else the turn of the last descriptor that named the block. The turns rise, so that the flags
+// are cleared only once the last turn is used up.
 use crate::find;
 use blocks::bytes;
 use blocks::descriptor;
