@@ -2,6 +2,7 @@
 use mathlib.Core.Path.{_≡_, refl}
 use mathlib.Core.List.{map}
 use Rattle.edges.specs.Cards.{NumberBytes, DescriptorBytes, counting, said, left, writes1, writes2, snaps, reverts}
+use Rattle.claims.specs.Claims.{lentAtEntry}
 use Rattle.claims.proofs.Running.{running}
 
 pub number-bytes : NumberBytes
@@ -13,17 +14,17 @@ unfolding running DescriptorBytes
 descriptor-bytes = refl
 
 pub writes-layout-1 : map left writes1 ≡ map said writes1
-unfolding running writes1 counting said left
+unfolding running writes1 counting said left lentAtEntry
 writes-layout-1 = refl
 
 pub writes-layout-2 : map left writes2 ≡ map said writes2
-unfolding running writes2 counting said left
+unfolding running writes2 counting said left lentAtEntry
 writes-layout-2 = refl
 
 pub snaps-leave : map left snaps ≡ map said snaps
-unfolding running snaps counting said left
+unfolding running snaps counting said left lentAtEntry
 snaps-leave = refl
 
 pub reverts-leave : map left reverts ≡ map said reverts
-unfolding running reverts counting said left
+unfolding running reverts counting said left lentAtEntry
 reverts-leave = refl

@@ -9,7 +9,7 @@ use Rattle.calls.specs.Call.{Call, Ream, Read, Write, Snap, Revert, Listing, Ch
 use Rattle.calls.specs.Parts.{areaBad}
 use Rattle.calls.specs.Ladder.{firstRow, reamRows, readRows, writeRows, snapRows, revertRows, listRows, checkRows, rowsOf, answerOf}
 use Rattle.claims.specs.Bench.{Value, Result, expected, computed, showing, blockOf}
-use Rattle.edges.specs.Edges.{only, named4, region6, shared4, pair, old, tables2, areaEdges, refusedEdges, nameEdges, formEdges, chainEdges, entryEdges, openingEdges, tableEdges, faultEdges, walkEdges, threeEdges, passingEdges, roomEdges, orderEdges, edges, allowed, NameBytes, SizeEdges}
+use Rattle.edges.specs.Edges.{only, named4, region6, shared4, snapped, pair, old, tables2, areaEdges, refusedEdges, nameEdges, formEdges, chainEdges, entryEdges, openingEdges, tableEdges, faultEdges, walkEdges, threeEdges, passingEdges, roomEdges, orderEdges, edges, allowed, NameBytes, SizeEdges}
 use Rattle.claims.proofs.Running.{running}
 
 -- the values of a list are as the table says; so are those of two lists
@@ -103,9 +103,17 @@ turned-passes : Passing (tables2 129 2 1 0 0 3)
 unfolding running expected computed showing blockOf
 turned-passes = record { as-said = refl }
 
+own-passes : Passing (snapped 2 3)
+unfolding running expected computed showing blockOf
+own-passes = record { as-said = refl }
+
+pair-passes : Passing (pair 2 5)
+unfolding running expected computed showing blockOf
+pair-passes = record { as-said = refl }
+
 passing-edges : AsSaid passingEdges
 unfolding passingEdges
-passing-edges = named-passes and region-passes and shared-passes and both-passes and freed-passes and old-passes and turned-passes
+passing-edges = named-passes and region-passes and shared-passes and both-passes and freed-passes and old-passes and turned-passes and own-passes and pair-passes
 
 room-edges : AsSaid roomEdges
 unfolding running roomEdges expected computed showing blockOf

@@ -7,9 +7,9 @@ use lib.ListN.{replicate}
 use Rattle.blocks.specs.Bytes.{u32At, le32}
 use Rattle.blocks.specs.Descriptor.{descriptorBlock}
 use Rattle.blocks.specs.declared.descriptor.Descriptor.{Descriptor}
-use Rattle.calls.specs.declared.answer.Answer.{Answer}
 use Rattle.calls.specs.Call.{Call, Write, Snap, Revert, accepted}
-use Rattle.calls.specs.Step.{step}
+use Rattle.calls.specs.Step.{Done, step}
+use Rattle.claims.specs.Claims.{lentAtEntry}
 use Rattle.claims.specs.Bench.{fs, mon, tue, lent}
 use Rattle.edges.specs.Edges.{descriptor, bare, withPhi, table}
 
@@ -53,16 +53,12 @@ pub record Change : Type 0 where
 abbrev pub change : List ℕ → Call → List ℕ → Change
 change before call after = record { before = before; call = call; after = after }
 
--- what is said of it, and what the call does
-pub record Left : Type 0 where
-  pub answer : Answer
-  pub card : List ℕ
+-- what is said of it, and what the call does: its answer, the memory lent to it and the card
+unfoldable pub said : Change → Done
+said h = record { outcome = record { answer = accepted; lent = lentAtEntry (h .call) }; card = h .after }
 
-unfoldable pub said : Change → Left
-said h = record { answer = accepted; card = h .after }
-
-unfoldable pub left : Change → Left
-left h = let d = step (h .call) (h .before) in record { answer = d .outcome .answer; card = d .card }
+unfoldable pub left : Change → Done
+left h = step (h .call) (h .before)
 
 -- Layout 1, L 130: the descriptor, two table blocks, then data.
 unfoldable pub writes1 : List Change
@@ -120,6 +116,11 @@ snaps =
     ∷ change (fullPhi (descriptor 2 130 0 3 0 letters16) 1 0 10 ++ table 2 0 ++ counted 2 ++ counted 50 ++ lent)
     (Snap mon)
     (fullPhi (descriptor 2 130 0 3 3 mon) 1 0 10 ++ table 2 0 ++ counted 2 ++ fullPhi (descriptor 2 130 3 4 0 letters16) 1 0 10 ++ lent)
+    -- layout 1, a second snap: the first snapshot stays
+    ∷ change
+    (bare (descriptor 1 130 0 4 4 mon) ++ counted 1 ++ counted 2 ++ counted 3 ++ bare (descriptor 1 130 4 8 0 fs) ++ counted 5 ++ counted 6 ++ counted 7 ++ counted 50 ++ counted 60 ++ counted 70 ++ lent)
+    (Snap tue)
+    (bare (descriptor 1 130 0 4 4 mon) ++ counted 1 ++ counted 2 ++ counted 3 ++ bare (descriptor 1 130 4 8 8 tue) ++ counted 5 ++ counted 6 ++ counted 7 ++ bare (descriptor 1 130 8 11 0 fs) ++ counted 5 ++ counted 6 ++ lent)
     -- layout 2, a second snap: the first snapshot stays
     ∷ change (withPhi (descriptor 2 130 0 3 3 mon) 1 0 ++ table 2 0 ++ counted 2 ++ fullPhi (descriptor 2 130 3 6 0 fs) 4 0 10 ++ table 5 0 ++ counted 5 ++ counted 50)
     (Snap tue)
@@ -134,6 +135,11 @@ reverts =
     (bare (descriptor 1 130 0 5 5 mon) ++ counted 1 ++ counted 2 ++ counted 3 ++ counted 4 ++ bare (descriptor 1 130 5 9 0 letters16) ++ counted 6 ++ counted 7 ++ counted 8)
     (Revert mon)
     (bare (descriptor 1 130 0 5 0 letters16) ++ counted 1 ++ counted 2 ++ counted 3 ++ counted 4 ++ bare (descriptor 1 130 5 9 0 letters16) ++ counted 6 ++ counted 7 ++ counted 8)
+    -- layout 1, to the second snapshot
+    ∷ change
+    (bare (descriptor 1 130 0 4 4 mon) ++ counted 1 ++ counted 2 ++ counted 3 ++ bare (descriptor 1 130 4 8 8 tue) ++ counted 5 ++ counted 6 ++ counted 7 ++ bare (descriptor 1 130 8 11 0 fs) ++ counted 9 ++ counted 10 ++ lent)
+    (Revert tue)
+    (bare (descriptor 1 130 0 4 4 mon) ++ counted 1 ++ counted 2 ++ counted 3 ++ bare (descriptor 1 130 4 8 0 fs) ++ counted 5 ++ counted 6 ++ counted 7 ++ bare (descriptor 1 130 8 11 0 fs) ++ counted 9 ++ counted 10 ++ lent)
     -- layout 2, to the first snapshot and to the second
     ∷ change (fullPhi (descriptor 2 130 0 3 3 mon) 1 0 10 ++ table 2 0 ++ counted 2 ++ fullPhi (descriptor 2 130 3 5 5 tue) 1 0 20 ++ counted 4 ++ fullPhi (descriptor 2 130 5 6 0 fs) 1 0 30 ++ lent)
     (Revert mon)

@@ -1,6 +1,6 @@
 -- Values at the edges of 01's rules, besides its bench values: areas, names and cards on which one number is off by one or one byte is set, what a refused
--- read leaves in the caller's block, where check finds its first fault, cards that pass, and which refusal comes first. Each card is written out, block by
--- block.
+-- read leaves in the caller's block, where check finds its first fault, cards that pass, and which refusal comes first. The cards are written out block by
+-- block, but for one that a write leaves.
 use mathlib.Core.Bool.{Bool}
 use mathlib.Core.Path.{_≡_}
 use mathlib.Core.List.{List, [], _∷_, _++_}
@@ -203,9 +203,8 @@ refusing card call number place block = record { card = card; call = call; answe
 
 unfoldable pub areaEdges : List Value
 areaEdges =
-    -- one block, with each call
+    -- one block, with each call but a read, which stands below
     only single (Ream 2 1 fs) 1 0
-    ∷ only single (reading 0) 1 0
     ∷ only single (Write 0 ones) 1 0
     ∷ only single (Snap mon) 1 0
     ∷ only single (Revert mon) 1 0
@@ -216,8 +215,7 @@ areaEdges =
     ∷ only (replicate 1023 0) (Listing []) 1 0
     ∷ only (one 2 0 ++ (0 ∷ [])) (Listing (blank ∷ [])) 1 0
     ∷ only (one 2 0 ++ replicate 256 0) (Listing (blank ∷ [])) 1 0
-    -- a caller's block of 511 and of 513 bytes
-    ∷ only (one 2 0) (Read Active noName 0 (replicate 511 9)) 9 0
+    -- a caller's block of 513 bytes for a read; of 511 and of 513 for a write
     ∷ only (one 2 0) (Read Active noName 0 (replicate 513 9)) 9 0
     ∷ only (four 1 4 1 2 0) (Write 0 (replicate 511 1)) 9 0
     ∷ only (four 1 4 1 2 0) (Write 0 (replicate 513 1)) 9 0
@@ -335,8 +333,7 @@ chainEdges =
     -- the same in layout 1 with beta 2: c is 2, and 3
     ∷ only (first 1 128 fs) (Listing []) 14 0
     ∷ only (first 1 129 fs) (Listing []) 6 0
-    -- the second descriptor is sound, and the list is shorter by one record; then another alpha, layout, L, and the name of the first
-    ∷ only (two 2 1 1 3 fs) (Listing (blank ∷ [])) 14 0
+    -- the second descriptor has another alpha, layout, L, and the name of the first
     ∷ only (two 2 1 0 3 fs) (Listing []) 6 1
     ∷ only (two 2 1 2 3 fs) (Listing []) 6 1
     ∷ only (two 2 1 4294967295 3 fs) (Listing []) 6 1
@@ -363,9 +360,8 @@ chainEdges =
 
 unfoldable pub entryEdges : List Value
 entryEdges =
-    -- the entry is beta - 1, and is beta; Phi's entry is beta
+    -- the entry is beta - 1; Phi's entry is beta (a table's that is beta stands above)
     showingBlock (four 1 3 1 2 0) (reading 0) ones
-    ∷ only (four 1 3 1 3 0) (reading 0) 10 1
     ∷ only (four 1 3 3 2 0) (reading 0) 10 0
     -- the entry is beta - 1 in its lowest byte, and another byte is set
     ∷ only (four 1 3 1 258 0) (reading 0) 10 1
@@ -503,6 +499,9 @@ passingEdges =
     -- an empty table block below alpha; Phi names the later block first
     ∷ only (old 0) Check 0 0
     ∷ only (tables2 129 2 1 0 0 3) Check 0 0
+    -- after a snapshot, a table block and a data block of the active store's own region: layout 2, layout 1
+    ∷ only (snapped 2 3) Check 0 0
+    ∷ only (pair 2 5) Check 0 0
     ∷ []
 
 unfoldable pub roomEdges : List Value
