@@ -7,7 +7,6 @@ use native.Mathlib.Numerals.{add-one}
 use native.Mathlib.Omega.{arith}
 use lib.ListN.{length, drop, getD, drop-of-length-le}
 use lib.Seq.{drop-cons}
-use borrow.Author.Tests.{not-true, not-false}
 use Rattle.blocks.specs.Descriptor.{physical, noDescriptor, costOf, descriptorAt}
 use Rattle.blocks.specs.Chain.{chain, descriptors, regionsOf}
 use Rattle.blocks.specs.declared.numbers.Physical.{Physical}
@@ -23,7 +22,8 @@ use Rattle.calls.specs.Call.{Check, answer, accepted}
 use Rattle.calls.specs.Parts.{areaBad}
 use Rattle.calls.specs.Check.{orElse, checkAll, checkCard, isFault, faultHolder}
 use Rattle.calls.specs.Ladder.{firstRow, checkRows, rowsOf, answerOf}
-use Rattle.calls.proofs.CardLaws.{card-few, card-some, card-fault, card-sound, card-count, card-at, card-active, card-through}
+use Rattle.calls.proofs.CardLaws.{card-few, card-some, card-count, card-at, card-active, card-through}
+use Rattle.calls.proofs.RowLaws.{row-given, last-passed, area-given, area-passed, chain-given, chain-passed}
 
 -- the verdict with k of the descriptors passed
 unfoldable pub checkFrom : List ℕ → ℕ → Verdict
@@ -88,19 +88,23 @@ module _ (c starts : List ℕ) (count : ℕ) (active : Descriptor) (area : areaB
 -- the rows of a check, in the order of the code
 module _ (c : List ℕ) (bad : Bool) (area : bad ≡ areaBad c) where
   pub check-1 : bad ≡ true → answerOf Check c ≡ answer 1 0
-  unfolding answerOf rowsOf checkRows firstRow
-  check-1 e = rw (← area, e)
+  unfolding answerOf rowsOf checkRows
+  check-1 e = area-given _ c bad area e
 
   module _ (card : bad ≡ false) (r : Regions) (walked : r ≡ regionsOf (chain c)) where
     pub check-6 : not (r .sound) ≡ true → answerOf Check c ≡ answer 6 (r .place .0)
-    unfolding answerOf rowsOf checkRows firstRow
-    check-6 h = let f = card-fault c r walked (not-true (r .sound) h) in rw (← area, card, f .0, f .1)
+    unfolding answerOf rowsOf checkRows
+    check-6 h = area-passed _ c bad area card ∙ chain-given _ c r walked h
 
     module _ (whole : not (r .sound) ≡ false) (v : Verdict) (verdict : v ≡ checkCard c) where
+      to-fault : answerOf Check c ≡ firstRow (drop 2 (checkRows c))
+      unfolding answerOf rowsOf checkRows
+      to-fault = area-passed _ c bad area card ∙ chain-passed _ c r walked whole
+
       pub check-0 : v ≡ Passed → answerOf Check c ≡ accepted
-      unfolding answerOf rowsOf checkRows firstRow isFault
-      check-0 e = rw (← area, card, card-sound c r walked (not-false (r .sound) whole), ← verdict, e)
+      unfolding checkRows isFault
+      check-0 e = to-fault ∙ last-passed _ (rw (← verdict, e))
 
       pub check-10 : (h : Physical) → v ≡ Fault h → answerOf Check c ≡ answer 10 (h .0)
-      unfolding answerOf rowsOf checkRows firstRow isFault faultHolder
-      check-10 h e = rw (← area, card, card-sound c r walked (not-false (r .sound) whole), ← verdict, e)
+      unfolding checkRows isFault faultHolder
+      check-10 h e = to-fault ∙ rw (← verdict, e) (row-given _ _ refl)

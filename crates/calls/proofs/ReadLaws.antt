@@ -4,15 +4,15 @@ use mathlib.Core.Bool.{Bool, true, false, not, _&&_}
 use mathlib.Core.List.{List, [], _∷_}
 use Prim.Native.Nat.{ℕ, suc, _+_, _-_, _≤_, _<_}
 use native.Mathlib.Omega.{arith}
-use lib.ListN.{length, take, getD}
+use lib.ListN.{length, take, drop, getD}
 use lib.Seq.{length-take-le}
 use lib.Dec.{eqb}
-use borrow.Author.Tests.{eq-eqb, ne-eqb, lt-ltb, le-ltb, le-leb, lt-leb, eqb-true, eqb-false, not-true, not-false}
+use borrow.Author.Tests.{eq-eqb, ne-eqb, lt-ltb, le-ltb, eqb-true, eqb-false, not-false}
 use Rattle.blocks.specs.Pick.{pick, same}
 use Rattle.blocks.specs.Bytes.{blockCount, blockAt, zeroBlock, splice, storeAll}
 use Rattle.blocks.specs.Name.{isName}
 use Rattle.blocks.specs.Descriptor.{descriptorAt}
-use Rattle.blocks.specs.Chain.{chain, descriptors, named, descriptorsAt, regionsOf, activeOf}
+use Rattle.blocks.specs.Chain.{chain, descriptors, named, descriptorsAt, regionsOf}
 use Rattle.blocks.specs.declared.numbers.Physical.{Physical}
 use Rattle.blocks.specs.declared.descriptor.Descriptor.{Descriptor}
 use Rattle.blocks.specs.declared.chain.Regions.{Regions}
@@ -32,7 +32,8 @@ use Rattle.calls.specs.Effect.{Delivered, delivered, lentOf, filledOf, s
 use Rattle.calls.specs.Step.{Done, step}
 use Rattle.calls.proofs.NamedLaws.{named-index, with-name-index}
 use Rattle.calls.proofs.StepLaws.{step-refused, step-accepted}
-use Rattle.calls.proofs.CardLaws.{card-fault, card-sound, card-some, card-snapshots, card-snapshot-count, card-snapshot, card-found, card-active, card-through}
+use Rattle.calls.proofs.CardLaws.{card-some, card-snapshots, card-snapshot-count, card-snapshot, card-found, card-active, card-through}
+use Rattle.calls.proofs.RowLaws.{row-given, row-passed, area-passed, block-given, block-passed, chain-given, chain-passed, volume-given, volume-passed}
 
 -- the index of what is read
 pub snapshots-counted : (c starts : List ℕ) (n : ℕ) → n ≤ length starts → length (descriptorsAt c (take n starts)) ≡ n
@@ -96,108 +97,119 @@ module _ (c : List ℕ) (f : Found) (out : List ℕ) where
 pub filled-nil : (c out out′ zeros : List ℕ) (p : ℕ) → p ≡ 0 → length out ≡ 512 → zeros ≡ zeroBlock → out′ ≡ splice out 0 zeros → out′ ≡ pick (eqb p 0) zeroBlock (blockAt c p)
 filled-nil c out out′ zeros p e l z s = s ∙ splice-whole out zeros (ap length z ∙ sym l) ∙ rw (eq-eqb p 0 e) z
 
--- the rows of a read, in the order of the code
-module _ (c : List ℕ) (target : Target) (name : List ℕ) (l : ℕ) (block : List ℕ) (bad : Bool) (area : bad ≡ areaBad c) where
+-- the rows of a read that follow the area's, in the order of the code
+module _ (c : List ℕ) (target : Target) (name : List ℕ) (l : ℕ) (block : List ℕ) (bad : Bool) (area : bad ≡ areaBad c) (card : bad ≡ false) (u : Bool) (unnamed : u ≡ (isSnapshot target && not (isName name))) where
   abbrev call : Call
   call = Read target name l block
 
-  pub read-1 : bad ≡ true → answerOf call c ≡ answer 1 0
-  unfolding answerOf rowsOf readRows firstRow
-  read-1 e = rw (← area, e)
+  pub read-4 : u ≡ true → answerOf call c ≡ answer 4 0
+  unfolding answerOf rowsOf readRows
+  read-4 e = area-passed _ c bad area card ∙ row-given _ _ (sym unnamed ∙ e)
 
-  module _ (card : bad ≡ false) (u : Bool) (unnamed : u ≡ (isSnapshot target && not (isName name))) where
-    pub read-4 : u ≡ true → answerOf call c ≡ answer 4 0
-    unfolding answerOf rowsOf readRows firstRow
-    read-4 e = rw (← area, card, ← unnamed, e)
+  module _ (called : u ≡ false) where
+    to-block : answerOf call c ≡ firstRow (drop 2 (readRows c target name l block))
+    unfolding answerOf rowsOf readRows
+    to-block = area-passed _ c bad area card ∙ row-passed _ _ (sym unnamed ∙ called)
 
-    module _ (called : u ≡ false) where
-      pub read-9 : (length block ≡ 512 → ⊥) → answerOf call c ≡ answer 9 0
-      unfolding answerOf rowsOf readRows firstRow
-      read-9 h = rw (← area, card, ← unnamed, called, ne-eqb (length block) 512 h)
+    pub read-9 : (length block ≡ 512 → ⊥) → answerOf call c ≡ answer 9 0
+    unfolding readRows
+    read-9 h = to-block ∙ block-given _ block h
 
-      module _ (long : length block ≡ 512) (r : Regions) (walked : r ≡ regionsOf (chain c)) where
-        pub read-6 : not (r .sound) ≡ true → answerOf call c ≡ answer 6 (r .place .0)
-        unfolding answerOf rowsOf readRows firstRow
-        read-6 h = let f = card-fault c r walked (not-true (r .sound) h) in rw (← area, card, ← unnamed, called, eq-eqb (length block) 512 long, f .0, f .1)
+    module _ (long : length block ≡ 512) (r : Regions) (walked : r ≡ regionsOf (chain c)) where
+      to-chain : answerOf call c ≡ firstRow (drop 3 (readRows c target name l block))
+      unfolding readRows
+      to-chain = to-block ∙ block-passed _ block long
 
-        module _ (whole : not (r .sound) ≡ false) (k : ℕ) (index : k ≡ targetIndex (descriptorsAt c (take (r .count - 1) (r .starts))) target name) where
-          abbrev ds : List Descriptor
-          ds = descriptors (chain c)
+      pub read-6 : not (r .sound) ≡ true → answerOf call c ≡ answer 6 (r .place .0)
+      unfolding readRows
+      read-6 h = to-chain ∙ chain-given _ c r walked h
 
-          good : areaBad c ≡ false
-          good = sym area ∙ card
+      module _ (whole : not (r .sound) ≡ false) (k : ℕ) (index : k ≡ targetIndex (descriptorsAt c (take (r .count - 1) (r .starts))) target name) where
+        abbrev ds : List Descriptor
+        ds = descriptors (chain c)
 
-          ok : r .sound ≡ true
-          ok = not-false (r .sound) whole
+        good : areaBad c ≡ false
+        good = sym area ∙ card
 
-          index-is : k ≡ targetIndex (snapshotsOf ds) target name
-          index-is = index ∙ ap (λ (ss : List Descriptor). targetIndex ss target name) (card-snapshots c r walked good ok)
+        ok : r .sound ≡ true
+        ok = not-false (r .sound) whole
 
-          count-is : length (snapshotsOf ds) + 1 ≡ r .count
-          count-is = omega (arith, card-snapshot-count c r walked good ok, card-some c r walked good ok)
+        index-is : k ≡ targetIndex (snapshotsOf ds) target name
+        index-is = index ∙ ap (λ (ss : List Descriptor). targetIndex ss target name) (card-snapshots c r walked good ok)
 
-          missing : (isSnapshot target && not (named (snapshotsOf ds) name)) ≡ eqb k (r .count)
-          missing = missing-is (snapshotsOf ds) name target ∙ rw (← index-is, count-is)
+        count-is : length (snapshotsOf ds) + 1 ≡ r .count
+        count-is = omega (arith, card-snapshot-count c r walked good ok, card-some c r walked good ok)
 
-          pub read-7 : k ≡ r .count → answerOf call c ≡ answer 7 0
-          unfolding answerOf rowsOf readRows firstRow
-          read-7 e = rw (← area, card, ← unnamed, called, eq-eqb (length block) 512 long, card-sound c r walked ok, missing, eq-eqb k (r .count) e)
+        missing : (isSnapshot target && not (named (snapshotsOf ds) name)) ≡ eqb k (r .count)
+        missing = missing-is (snapshotsOf ds) name target ∙ rw (← index-is, count-is)
 
-          -- which descriptor is read
-          place-of : (t : Target) → k ≡ targetIndex (snapshotsOf ds) t name → (k ≡ r .count → ⊥) → (k < r .count) × (targetOf ds t name ≡ descriptorAt c (getD (r .starts) k 0))
-          unfolding targetOf targetIndex
-          place-of Active e n =
-              let q : k ≡ r .count - 1 = omega (arith, card-snapshot-count c r walked good ok) in
-              (omega (arith, card-some c r walked good ok), rw q (sym (card-found c r walked good ok) ∙ card-active c r walked good ok))
-          place-of Snapshot e n =
-              let f = found-index (snapshotsOf ds) name (λ h. n (e ∙ h ∙ count-is)) in
-              let q : k ≡ indexOf (snapshotsOf ds) name = e ∙ f .1 in
-              let s : k < r .count - 1 = omega (arith, f .0, card-snapshot-count c r walked good ok) in
-              (omega arith, with-name-index (snapshotsOf ds) name ∙ rw (← q) (card-snapshot c r walked good ok k s))
+        to-snapshot : answerOf call c ≡ firstRow (drop 4 (readRows c target name l block))
+        unfolding readRows
+        to-snapshot = to-chain ∙ chain-passed _ c r walked whole
 
-          pub index-inside : (k ≡ r .count → ⊥) → k < r .count
-          index-inside n = place-of target index-is n .0
+        pub read-7 : k ≡ r .count → answerOf call c ≡ answer 7 0
+        unfolding readRows
+        read-7 e = to-snapshot ∙ row-given _ _ (missing ∙ eq-eqb k (r .count) e)
 
-          module _ (some : k ≡ r .count → ⊥) where
-            active-is : activeOf ds ≡ r .active
-            active-is = sym (card-found c r walked good ok)
+        -- which descriptor is read
+        place-of : (t : Target) → k ≡ targetIndex (snapshotsOf ds) t name → (k ≡ r .count → ⊥) → (k < r .count) × (targetOf ds t name ≡ descriptorAt c (getD (r .starts) k 0))
+        unfolding targetOf targetIndex
+        place-of Active e n =
+            let q : k ≡ r .count - 1 = omega (arith, card-snapshot-count c r walked good ok) in
+            (omega (arith, card-some c r walked good ok), rw q (sym (card-found c r walked good ok) ∙ card-active c r walked good ok))
+        place-of Snapshot e n =
+            let f = found-index (snapshotsOf ds) name (λ h. n (e ∙ h ∙ count-is)) in
+            let q : k ≡ indexOf (snapshotsOf ds) name = e ∙ f .1 in
+            let s : k < r .count - 1 = omega (arith, f .0, card-snapshot-count c r walked good ok) in
+            (omega arith, with-name-index (snapshotsOf ds) name ∙ rw (← q) (card-snapshot c r walked good ok k s))
 
-            pub read-8 : r .active .volume ≤ l → answerOf call c ≡ answer 8 0
-            unfolding answerOf rowsOf readRows firstRow
-            read-8 h = rw (← area, card, ← unnamed, called, eq-eqb (length block) 512 long, card-sound c r walked ok, missing, ne-eqb k (r .count) some, active-is, le-leb (r .active .volume) l h)
+        pub index-inside : (k ≡ r .count → ⊥) → k < r .count
+        index-inside n = place-of target index-is n .0
 
-            module _ (below : l < r .active .volume) (d : Descriptor) (d-is : d ≡ descriptorAt c (getD (r .starts) k 0)) where
-              target-is : targetOf ds target name ≡ d
-              target-is = place-of target index-is some .1 ∙ sym d-is
+        module _ (some : k ≡ r .count → ⊥) where
+          to-volume : answerOf call c ≡ firstRow (drop 5 (readRows c target name l block))
+          unfolding readRows
+          to-volume = to-snapshot ∙ row-passed _ _ (missing ∙ ne-eqb k (r .count) some)
 
-              pub read-below : l < d .volume
-              read-below =
-                  let one = through-region c (r .starts) (r .count) d (card-through c r walked good ok k (index-inside some) d d-is) in
-                  let other = through-region c (r .starts) (r .count) (r .active) (card-through c r walked good ok (r .count - 1) (omega (arith, card-some c r walked good ok)) (r .active) (card-active c r walked good ok)) in
-                  omega (arith, region-volume (descriptorAt c 0) (blockCount c) _ d (one .region), region-volume (descriptorAt c 0) (blockCount c) _ (r .active) (other .region))
+          pub read-8 : r .active .volume ≤ l → answerOf call c ≡ answer 8 0
+          unfolding readRows
+          read-8 h = to-volume ∙ volume-given _ c r walked good ok l h
 
-              abbrev found : Found
-              found = find c ds d l
+          module _ (below : l < r .active .volume) (d : Descriptor) (d-is : d ≡ descriptorAt c (getD (r .starts) k 0)) where
+            target-is : targetOf ds target name ≡ d
+            target-is = place-of target index-is some .1 ∙ sym d-is
 
-              rest : answerOf call c ≡ pick (isMisplaced found) (answer 10 (holderOf found)) accepted
-              unfolding answerOf rowsOf readRows firstRow
-              rest =
-                  rw (← area, card, ← unnamed, called, eq-eqb (length block) 512 long, card-sound c r walked ok, missing, ne-eqb k (r .count) some, active-is, lt-leb (r .active .volume) l below, target-is)
+            pub read-below : l < d .volume
+            read-below =
+                let one = through-region c (r .starts) (r .count) d (card-through c r walked good ok k (index-inside some) d d-is) in
+                let other = through-region c (r .starts) (r .count) (r .active) (card-through c r walked good ok (r .count - 1) (omega (arith, card-some c r walked good ok)) (r .active) (card-active c r walked good ok)) in
+                omega (arith, region-volume (descriptorAt c 0) (blockCount c) _ d (one .region), region-volume (descriptorAt c 0) (blockCount c) _ (r .active) (other .region))
 
-              done-by : (t : Bool) → isMisplaced found ≡ t → (a : Answer) (out : List ℕ)
-                  → _≡_ {A = Delivered} (record { answer = a; block = out }) (pick t (record { answer = answer 10 (holderOf found); block = block }) (record { answer = accepted; block = blockFound c found }))
-                  → _≡_ {A = Done} (record { outcome = record { answer = a; lent = Block out }; card = c }) (step call c)
-              unfolding lentOf filledOf storesOf storeAll
-              done-by true e a out h =
-                  let a-is : a ≡ answer 10 (holderOf found) = ap (λ (x : Delivered). x .answer) h in
-                  let out-is : out ≡ block = ap (λ (x : Delivered). x .block) h in
-                  rw (a-is, out-is) (step-refused call c 10 (holderOf found) (rest ∙ rw e) refl)
-              done-by false e a out h =
-                  let a-is : a ≡ accepted = ap (λ (x : Delivered). x .answer) h in
-                  let out-is : out ≡ blockFound c found = ap (λ (x : Delivered). x .block) h in
-                  rw (a-is, out-is) (step-accepted call c (rest ∙ rw e) (Block (blockFound c found)) (rw target-is) c refl)
+            abbrev found : Found
+            found = find c ds d l
 
-              pub read-done : (a : Answer) (out : List ℕ) → _≡_ {A = Delivered} (record { answer = a; block = out }) (delivered c found block)
-                  → _≡_ {A = Done} (record { outcome = record { answer = a; lent = Block out }; card = c }) (step call c)
-              unfolding delivered
-              read-done a out h = done-by (isMisplaced found) refl a out h
+            to-found : answerOf call c ≡ firstRow (drop 6 (readRows c target name l block))
+            unfolding readRows
+            to-found = to-volume ∙ volume-passed _ c r walked good ok l below
+
+            rest : answerOf call c ≡ pick (isMisplaced found) (answer 10 (holderOf found)) accepted
+            unfolding readRows firstRow
+            rest = to-found ∙ rw target-is
+
+            done-by : (t : Bool) → isMisplaced found ≡ t → (a : Answer) (out : List ℕ)
+                → _≡_ {A = Delivered} (record { answer = a; block = out }) (pick t (record { answer = answer 10 (holderOf found); block = block }) (record { answer = accepted; block = blockFound c found }))
+                → _≡_ {A = Done} (record { outcome = record { answer = a; lent = Block out }; card = c }) (step call c)
+            unfolding lentOf filledOf storesOf storeAll
+            done-by true e a out h =
+                let a-is : a ≡ answer 10 (holderOf found) = ap (λ (x : Delivered). x .answer) h in
+                let out-is : out ≡ block = ap (λ (x : Delivered). x .block) h in
+                rw (a-is, out-is) (step-refused call c 10 (holderOf found) (rest ∙ rw e) refl)
+            done-by false e a out h =
+                let a-is : a ≡ accepted = ap (λ (x : Delivered). x .answer) h in
+                let out-is : out ≡ blockFound c found = ap (λ (x : Delivered). x .block) h in
+                rw (a-is, out-is) (step-accepted call c (rest ∙ rw e) (Block (blockFound c found)) (rw target-is) c refl)
+
+            pub read-done : (a : Answer) (out : List ℕ) → _≡_ {A = Delivered} (record { answer = a; block = out }) (delivered c found block)
+                → _≡_ {A = Done} (record { outcome = record { answer = a; lent = Block out }; card = c }) (step call c)
+            unfolding delivered
+            read-done a out h = done-by (isMisplaced found) refl a out h

@@ -17,6 +17,7 @@ use Rattle.calls.specs.Call.{Ream, answer, accepted}
 use Rattle.calls.specs.Parts.{areaBad}
 use Rattle.calls.specs.Ladder.{firstRow, reamRows, rowsOf, answerOf}
 use Rattle.calls.proofs.StepLaws.{stored-append, stored-one}
+use Rattle.calls.proofs.RowLaws.{row-given, row-passed, last-passed, area-passed, name-given, name-passed}
 
 -- a head put into a block of zeros
 pub head-on-zeros : (d : Descriptor) (b : List ℕ) → length (headBytes d) ≡ 40 → b ≡ splice (replicate 512 0) 0 (headBytes d) → b ≡ descriptorBlock d (replicate 472 0)
@@ -35,47 +36,55 @@ opened c c₁ c₂ layout volume k name b e f g h =
     ∙ sym (stored-append c (clearing 1 (k - 1)) (store 0 b ∷ []))
     ∙ rw (f, e)
 
--- the rows of a ream, in the order of the code
-module _ (c : List ℕ) (layout volume : ℕ) (name : List ℕ) (bad : Bool) (area : bad ≡ areaBad c) where
-  pub ream-1 : bad ≡ true → answerOf (Ream layout volume name) c ≡ answer 1 0
-  unfolding answerOf rowsOf reamRows firstRow
-  ream-1 e = rw (← area, e)
+-- the rows of a ream that follow the area's, in the order of the code
+module _ (c : List ℕ) (layout volume : ℕ) (name : List ℕ) (bad : Bool) (area : bad ≡ areaBad c) (card : bad ≡ false) where
+  to-layout : answerOf (Ream layout volume name) c ≡ firstRow (drop 1 (reamRows c layout volume name))
+  unfolding answerOf rowsOf reamRows
+  to-layout = area-passed _ c bad area card
 
-  module _ (card : bad ≡ false) where
-    pub ream-2-low : layout ≡ 0 → answerOf (Ream layout volume name) c ≡ answer 2 0
-    unfolding answerOf rowsOf reamRows firstRow
-    ream-2-low e = rw (← area, card, e)
+  pub ream-2-low : layout ≡ 0 → answerOf (Ream layout volume name) c ≡ answer 2 0
+  unfolding reamRows
+  ream-2-low e = to-layout ∙ row-given _ _ (rw e)
 
-    pub ream-2-high : 2 < layout → answerOf (Ream layout volume name) c ≡ answer 2 0
-    unfolding answerOf rowsOf reamRows firstRow
-    ream-2-high h = rw (← area, card, ne-eqb layout 1 (omega arith), ne-eqb layout 2 (omega arith))
+  pub ream-2-high : 2 < layout → answerOf (Ream layout volume name) c ≡ answer 2 0
+  unfolding reamRows
+  ream-2-high h = to-layout ∙ row-given _ _ (rw (ne-eqb layout 1 (omega arith), ne-eqb layout 2 (omega arith)))
 
-    module _ (some : layout ≡ 0 → ⊥) (low : layout ≤ 2) where
-      layout-by : (t : Bool) → eqb layout 1 ≡ t → (eqb layout 1 || eqb layout 2) ≡ true
-      layout-by true e = rw e
-      layout-by false e = rw (e, eq-eqb layout 2 (omega (arith, some, eqb-false layout 1 e)))
+  module _ (some : layout ≡ 0 → ⊥) (low : layout ≤ 2) where
+    layout-by : (t : Bool) → eqb layout 1 ≡ t → (eqb layout 1 || eqb layout 2) ≡ true
+    layout-by true e = rw e
+    layout-by false e = rw (e, eq-eqb layout 2 (omega (arith, some, eqb-false layout 1 e)))
 
-      layout-ok : (eqb layout 1 || eqb layout 2) ≡ true
-      layout-ok = layout-by (eqb layout 1) refl
+    to-volume : answerOf (Ream layout volume name) c ≡ firstRow (drop 2 (reamRows c layout volume name))
+    unfolding reamRows
+    to-volume = to-layout ∙ row-passed _ _ (rw (layout-by (eqb layout 1) refl))
 
-      pub ream-3-none : volume ≡ 0 → answerOf (Ream layout volume name) c ≡ answer 3 0
-      unfolding answerOf rowsOf reamRows firstRow
-      ream-3-none e = rw (← area, card, layout-ok, e)
+    pub ream-3-none : volume ≡ 0 → answerOf (Ream layout volume name) c ≡ answer 3 0
+    unfolding reamRows
+    ream-3-none e = to-volume ∙ row-given _ _ (rw e)
 
-      pub ream-3-large : 14336 < volume → answerOf (Ream layout volume name) c ≡ answer 3 0
-      unfolding answerOf rowsOf reamRows firstRow
-      ream-3-large h = rw (← area, card, layout-ok, ne-eqb volume 0 (omega arith), lt-ltb 14336 volume h)
+    pub ream-3-large : 14336 < volume → answerOf (Ream layout volume name) c ≡ answer 3 0
+    unfolding reamRows
+    ream-3-large h = to-volume ∙ row-given _ _ (rw (ne-eqb volume 0 (omega arith), lt-ltb 14336 volume h))
 
-      module _ (least : volume ≡ 0 → ⊥) (most : volume ≤ 14336) (n : Bool) (called : n ≡ isName name) where
-        pub ream-4 : not n ≡ true → answerOf (Ream layout volume name) c ≡ answer 4 0
-        unfolding answerOf rowsOf reamRows firstRow
-        ream-4 h = rw (← area, card, layout-ok, ne-eqb volume 0 least, le-ltb 14336 volume most, ← called, h)
+    module _ (least : volume ≡ 0 → ⊥) (most : volume ≤ 14336) (n : Bool) (called : n ≡ isName name) where
+      to-name : answerOf (Ream layout volume name) c ≡ firstRow (drop 3 (reamRows c layout volume name))
+      unfolding reamRows
+      to-name = to-volume ∙ row-passed _ _ (rw (ne-eqb volume 0 least, le-ltb 14336 volume most))
 
-        module _ (is : not n ≡ false) (k : ℕ) (cost-is : k ≡ cost layout volume) where
-          pub ream-5 : length c / 512 < k → answerOf (Ream layout volume name) c ≡ answer 5 0
-          unfolding answerOf rowsOf reamRows firstRow blockCount
-          ream-5 h = rw (← area, card, layout-ok, ne-eqb volume 0 least, le-ltb 14336 volume most, ← called, is, ← cost-is, lt-ltb (length c / 512) k h)
+      pub ream-4 : not n ≡ true → answerOf (Ream layout volume name) c ≡ answer 4 0
+      unfolding reamRows
+      ream-4 h = to-name ∙ name-given _ name n called h
 
-          pub ream-0 : k ≤ length c / 512 → answerOf (Ream layout volume name) c ≡ accepted
-          unfolding answerOf rowsOf reamRows firstRow blockCount
-          ream-0 h = rw (← area, card, layout-ok, ne-eqb volume 0 least, le-ltb 14336 volume most, ← called, is, ← cost-is, le-ltb (length c / 512) k h)
+      module _ (is : not n ≡ false) (k : ℕ) (cost-is : k ≡ cost layout volume) where
+        to-cost : answerOf (Ream layout volume name) c ≡ firstRow (drop 4 (reamRows c layout volume name))
+        unfolding reamRows
+        to-cost = to-name ∙ name-passed _ name n called is
+
+        pub ream-5 : length c / 512 < k → answerOf (Ream layout volume name) c ≡ answer 5 0
+        unfolding reamRows blockCount
+        ream-5 h = to-cost ∙ row-given _ _ (rw (← cost-is) (lt-ltb (length c / 512) k h))
+
+        pub ream-0 : k ≤ length c / 512 → answerOf (Ream layout volume name) c ≡ accepted
+        unfolding reamRows blockCount
+        ream-0 h = to-cost ∙ last-passed _ (rw (← cost-is) (le-ltb (length c / 512) k h))

@@ -4,9 +4,9 @@ use mathlib.Core.Bool.{Bool, true, false, not}
 use mathlib.Core.List.{List}
 use Prim.Native.Nat.{ℕ, _-_, _<_}
 use native.Mathlib.Omega.{arith}
-use lib.ListN.{take, getD}
+use lib.ListN.{take, drop, getD}
 use lib.Dec.{ltb}
-use borrow.Author.Tests.{lt-ltb, le-ltb, not-true, not-false}
+use borrow.Author.Tests.{lt-ltb, le-ltb, not-false}
 use Rattle.blocks.specs.Bytes.{storeBlock, storeAll}
 use Rattle.blocks.specs.Name.{isName}
 use Rattle.blocks.specs.Descriptor.{physical, descriptorAt, tailAt, descriptorBlock, renamedOf, linkedOf}
@@ -19,61 +19,52 @@ use Rattle.calls.specs.Ladder.{firstRow, revertRows, rowsOf, answerOf}
 use Rattle.calls.specs.Effect.{reverting, storesOf}
 use Rattle.calls.proofs.NamedLaws.{named-index, with-name-index}
 use Rattle.calls.proofs.StepLaws.{stored-one}
-use Rattle.calls.proofs.CardLaws.{card-fault, card-sound, card-snapshots, card-snapshot-count, card-snapshot, card-alpha, card-at, card-found}
+use Rattle.calls.proofs.CardLaws.{card-snapshots, card-snapshot-count, card-snapshot, card-alpha, card-at, card-found}
+use Rattle.calls.proofs.RowLaws.{row-given, last-passed, named-passed}
 
--- the rows of a revert, in the order of the code
-module _ (c : List ℕ) (name : List ℕ) (bad : Bool) (area : bad ≡ areaBad c) where
-  pub revert-1 : bad ≡ true → answerOf (Revert name) c ≡ answer 1 0
-  unfolding answerOf rowsOf revertRows firstRow
-  revert-1 e = rw (← area, e)
+-- the row of a revert that follows the chain's, in the order of the code
+module _ (c : List ℕ) (name : List ℕ) (bad : Bool) (area : bad ≡ areaBad c) (card : bad ≡ false) (n : Bool) (called : n ≡ isName name) (is-name : not n ≡ false)
+    (r : Regions) (walked : r ≡ regionsOf (chain c)) (whole : not (r .sound) ≡ false) (k : ℕ) (index : k ≡ indexOf (descriptorsAt c (take (r .count - 1) (r .starts))) name) where
+  good : areaBad c ≡ false
+  good = sym area ∙ card
 
-  module _ (card : bad ≡ false) (n : Bool) (called : n ≡ isName name) where
-    pub revert-4 : not n ≡ true → answerOf (Revert name) c ≡ answer 4 0
-    unfolding answerOf rowsOf revertRows firstRow
-    revert-4 h = rw (← area, card, ← called, h)
+  ok : r .sound ≡ true
+  ok = not-false (r .sound) whole
 
-    module _ (is-name : not n ≡ false) (r : Regions) (walked : r ≡ regionsOf (chain c)) where
-      pub revert-6 : not (r .sound) ≡ true → answerOf (Revert name) c ≡ answer 6 (r .place .0)
-      unfolding answerOf rowsOf revertRows firstRow
-      revert-6 h = let f = card-fault c r walked (not-true (r .sound) h) in rw (← area, card, ← called, is-name, f .0, f .1)
+  index-is : k ≡ indexOf (snapshotsOf (descriptors (chain c))) name
+  index-is = index ∙ ap (λ (ds : List Descriptor). indexOf ds name) (card-snapshots c r walked good ok)
 
-      module _ (whole : not (r .sound) ≡ false) (k : ℕ) (index : k ≡ indexOf (descriptorsAt c (take (r .count - 1) (r .starts))) name) where
-        good : areaBad c ≡ false
-        good = sym area ∙ card
+  found-is : named (snapshotsOf (descriptors (chain c))) name ≡ ltb k (r .count - 1)
+  found-is = named-index (snapshotsOf (descriptors (chain c))) name ∙ rw (← index-is, card-snapshot-count c r walked good ok)
 
-        ok : r .sound ≡ true
-        ok = not-false (r .sound) whole
+  to-found : answerOf (Revert name) c ≡ firstRow (drop 3 (revertRows c name))
+  unfolding answerOf rowsOf revertRows
+  to-found = named-passed _ c name bad area card n called is-name r walked whole
 
-        index-is : k ≡ indexOf (snapshotsOf (descriptors (chain c))) name
-        index-is = index ∙ ap (λ (ds : List Descriptor). indexOf ds name) (card-snapshots c r walked good ok)
+  pub revert-7 : k ≡ r .count - 1 → answerOf (Revert name) c ≡ answer 7 0
+  unfolding revertRows
+  revert-7 e = to-found ∙ row-given _ _ (rw (found-is, le-ltb k (r .count - 1) (omega arith)))
 
-        found-is : named (snapshotsOf (descriptors (chain c))) name ≡ ltb k (r .count - 1)
-        found-is = named-index (snapshotsOf (descriptors (chain c))) name ∙ rw (← index-is, card-snapshot-count c r walked good ok)
+  module _ (inside : k < r .count - 1) where
+    pub revert-0 : answerOf (Revert name) c ≡ accepted
+    unfolding revertRows
+    revert-0 = to-found ∙ last-passed _ (rw (found-is, lt-ltb k (r .count - 1) inside))
 
-        pub revert-7 : k ≡ r .count - 1 → answerOf (Revert name) c ≡ answer 7 0
-        unfolding answerOf rowsOf revertRows firstRow
-        revert-7 e = rw (← area, card, ← called, is-name, card-sound c r walked ok, found-is, le-ltb k (r .count - 1) (omega arith))
+    -- the snapshot, and where it stands
+    snapshot-is : withName (snapshotsOf (descriptors (chain c))) name ≡ descriptorAt c (getD (r .starts) k 0)
+    snapshot-is = with-name-index (snapshotsOf (descriptors (chain c))) name ∙ rw (← index-is) (card-snapshot c r walked good ok k inside)
 
-        module _ (inside : k < r .count - 1) where
-          pub revert-0 : answerOf (Revert name) c ≡ accepted
-          unfolding answerOf rowsOf revertRows firstRow
-          revert-0 = rw (← area, card, ← called, is-name, card-sound c r walked ok, found-is, lt-ltb k (r .count - 1) inside)
+    alpha-is : descriptorAt c (getD (r .starts) k 0) .alpha .0 ≡ getD (r .starts) k 0
+    alpha-is = ap (λ (d : Descriptor). d .alpha .0) (sym (card-at c r walked good ok k (omega arith))) ∙ card-alpha c r walked good ok k (omega arith)
 
-          -- the snapshot, and where it stands
-          snapshot-is : withName (snapshotsOf (descriptors (chain c))) name ≡ descriptorAt c (getD (r .starts) k 0)
-          snapshot-is = with-name-index (snapshotsOf (descriptors (chain c))) name ∙ rw (← index-is) (card-snapshot c r walked good ok k inside)
+    active-is : activeOf (descriptors (chain c)) ≡ r .active
+    active-is = sym (card-found c r walked good ok)
 
-          alpha-is : descriptorAt c (getD (r .starts) k 0) .alpha .0 ≡ getD (r .starts) k 0
-          alpha-is = ap (λ (d : Descriptor). d .alpha .0) (sym (card-at c r walked good ok k (omega arith))) ∙ card-alpha c r walked good ok k (omega arith)
-
-          active-is : activeOf (descriptors (chain c)) ≡ r .active
-          active-is = sym (card-found c r walked good ok)
-
-          pub reverted : (d : Descriptor) → d ≡ descriptorAt c (getD (r .starts) k 0) → (c′ : List ℕ)
-              → c′ ≡ storeBlock c (getD (r .starts) k 0) (descriptorBlock (linkedOf (renamedOf d (r .active .name)) (physical 0)) (tailAt c (getD (r .starts) k 0)))
-              → c′ ≡ storeAll c (storesOf (Revert name) c)
-          unfolding storesOf reverting
-          reverted d d-is c′ e =
-              e
-              ∙ rw d-is
-              (sym (rw (snapshot-is, active-is, alpha-is) (stored-one c (getD (r .starts) k 0) (descriptorBlock (linkedOf (renamedOf (descriptorAt c (getD (r .starts) k 0)) (r .active .name)) (physical 0)) (tailAt c (getD (r .starts) k 0))))))
+    pub reverted : (d : Descriptor) → d ≡ descriptorAt c (getD (r .starts) k 0) → (c′ : List ℕ)
+        → c′ ≡ storeBlock c (getD (r .starts) k 0) (descriptorBlock (linkedOf (renamedOf d (r .active .name)) (physical 0)) (tailAt c (getD (r .starts) k 0)))
+        → c′ ≡ storeAll c (storesOf (Revert name) c)
+    unfolding storesOf reverting
+    reverted d d-is c′ e =
+        e
+        ∙ rw d-is
+        (sym (rw (snapshot-is, active-is, alpha-is) (stored-one c (getD (r .starts) k 0) (descriptorBlock (linkedOf (renamedOf (descriptorAt c (getD (r .starts) k 0)) (r .active .name)) (physical 0)) (tailAt c (getD (r .starts) k 0))))))

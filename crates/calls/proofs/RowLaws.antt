@@ -1,18 +1,23 @@
 -- Laws of the rows of a refusal table: which row is given, and which are passed by an accepted call.
-use mathlib.Core.Path.{_≡_, refl, sym, ap}
+use mathlib.Core.Path.{_≡_, refl, sym, ap, _∙_}
 use mathlib.Core.Bool.{Bool, true, false, not, _&&_}
 use mathlib.Core.List.{List, [], _∷_}
-use Prim.Native.Nat.{ℕ, zero, suc, _<_}
+use Prim.Native.Nat.{ℕ, zero, suc, _≤_, _<_}
 use native.Mathlib.Omega.{arith}
 use lib.ListN.{length, getD}
 use lib.Dec.{eqb}
-use borrow.Author.Tests.{eqb-true, eqb-false, not-true}
+use borrow.Author.Tests.{eq-eqb, ne-eqb, le-leb, lt-leb, eqb-true, eqb-false, not-true, not-false}
 use Rattle.blocks.specs.Pick.{pick}
+use Rattle.blocks.specs.Name.{isName}
+use Rattle.blocks.specs.Chain.{chain, regionsOf}
+use Rattle.blocks.specs.declared.chain.Regions.{Regions}
 use Rattle.blocks.proofs.Tests.{and-left, and-right}
 use Rattle.calls.specs.declared.answer.Answer.{Answer}
 use Rattle.calls.specs.Call.{Call, Ream, Read, Write, Snap, Revert, Listing, Check, answer, accepted}
-use Rattle.calls.specs.Ladder.{Row, row, firstRow, reamRows, readRows, writeRows, snapRows, revertRows, listRows, checkRows, rowsOf, answerOf}
+use Rattle.calls.specs.Parts.{areaBad}
+use Rattle.calls.specs.Ladder.{Row, row, firstRow, areaRow, nameRow, blockRow, chainRow, volumeRow, reamRows, readRows, writeRows, snapRows, revertRows, listRows, checkRows, rowsOf, answerOf}
 use Rattle.calls.specs.Step.{isAccepted}
+use Rattle.calls.proofs.CardLaws.{card-fault, card-sound, card-found}
 
 -- no row of the list has the number; the numbers of a list are set and each its own
 unfoldable pub fresh : ℕ → List Row → Bool
@@ -93,11 +98,25 @@ unfolding firstRow
 given [] is i l e = absurd (omega arith)
 given (r ∷ rs) is i l e = given-by r rs is i l (given rs (tail-numbered r rs is)) (r .holds) refl e
 
-pub gives : (rs : List Row) (i : ℕ) → i < length rs → Given rs i → firstRow rs ≡ answer (at rs i .number) (at rs i .place)
+-- one row at the head of a list: it is given, or it is passed
+module _ (r : Row) (rs : List Row) where
+  pub row-given : r .holds ≡ true → firstRow (r ∷ rs) ≡ answer (r .number) (r .place)
+  unfolding firstRow
+  row-given e = rw e
+
+  pub row-passed : r .holds ≡ false → firstRow (r ∷ rs) ≡ firstRow rs
+  unfolding firstRow
+  row-passed e = rw e
+
+-- the last row of a call passed: it is accepted
+pub last-passed : (r : Row) → r .holds ≡ false → firstRow (r ∷ []) ≡ accepted
 unfolding firstRow
+last-passed r e = rw e
+
+pub gives : (rs : List Row) (i : ℕ) → i < length rs → Given rs i → firstRow rs ≡ answer (at rs i .number) (at rs i .place)
 gives [] i l g = absurd (omega arith)
-gives (r ∷ rs) zero l g = rw (g .0)
-gives (r ∷ rs) (suc i) l g = rw (g .1 0 (omega arith)) (gives rs i (omega arith) (g .0, λ j m. g .1 (suc j) (omega arith)))
+gives (r ∷ rs) zero l g = row-given r rs (g .0)
+gives (r ∷ rs) (suc i) l g = row-passed r rs (g .1 0 (omega arith)) ∙ gives rs i (omega arith) (g .0, λ j m. g .1 (suc j) (omega arith))
 
 -- acceptance: no row holds
 none-by : (r : Row) (rs : List Row) → numbered (r ∷ rs) ≡ true → (firstRow rs .number ≡ 0 → (i : ℕ) → i < length rs → at rs i .holds ≡ false) → (h : Bool) → r .holds ≡ h
@@ -114,7 +133,7 @@ none (r ∷ rs) is e i l = none-by r rs is (none rs (tail-numbered r rs is)) (r 
 pub all-passed : (rs : List Row) → ((i : ℕ) → i < length rs → at rs i .holds ≡ false) → firstRow rs ≡ accepted
 unfolding firstRow
 all-passed [] f = refl
-all-passed (r ∷ rs) f = rw (f 0 (omega arith)) (all-passed rs (λ i l. f (suc i) (omega arith)))
+all-passed (r ∷ rs) f = row-passed r rs (f 0 (omega arith)) ∙ all-passed rs (λ i l. f (suc i) (omega arith))
 
 -- an accepted call: no row of it holds
 pub rows-passed : (k : Call) (c : List ℕ) → isAccepted (answerOf k c) ≡ true → (i : ℕ) → i < length (rowsOf k c) → getD (rowsOf k c) i (row false 0 0) .holds ≡ false
@@ -133,3 +152,55 @@ pub number-given : (rs : List Row) → numbered rs ≡ true → (i : ℕ) → i 
 unfolding firstRow
 number-given [] is i l e = absurd (omega arith)
 number-given (r ∷ rs) is i l e = number-by r rs is i l (number-given rs (tail-numbered r rs is)) (r .holds) refl e
+
+-- the rows that several calls share, each at the head of a list, by the tests of the code
+module _ (rs : List Row) where
+  module _ (c : List ℕ) (bad : Bool) (area : bad ≡ areaBad c) where
+    pub area-given : bad ≡ true → firstRow (areaRow c ∷ rs) ≡ answer 1 0
+    area-given e = row-given (areaRow c) rs (sym area ∙ e)
+
+    pub area-passed : bad ≡ false → firstRow (areaRow c ∷ rs) ≡ firstRow rs
+    area-passed e = row-passed (areaRow c) rs (sym area ∙ e)
+
+  module _ (name : List ℕ) (n : Bool) (called : n ≡ isName name) where
+    pub name-given : not n ≡ true → firstRow (nameRow name ∷ rs) ≡ answer 4 0
+    name-given h = row-given (nameRow name) rs (rw (← called) h)
+
+    pub name-passed : not n ≡ false → firstRow (nameRow name ∷ rs) ≡ firstRow rs
+    name-passed h = row-passed (nameRow name) rs (rw (← called) h)
+
+  module _ (block : List ℕ) where
+    pub block-given : (length block ≡ 512 → ⊥) → firstRow (blockRow block ∷ rs) ≡ answer 9 0
+    block-given h = row-given (blockRow block) rs (rw (ne-eqb (length block) 512 h))
+
+    pub block-passed : length block ≡ 512 → firstRow (blockRow block ∷ rs) ≡ firstRow rs
+    block-passed h = row-passed (blockRow block) rs (rw (eq-eqb (length block) 512 h))
+
+  module _ (c : List ℕ) (r : Regions) (walked : r ≡ regionsOf (chain c)) where
+    pub chain-given : not (r .sound) ≡ true → firstRow (chainRow c ∷ rs) ≡ answer 6 (r .place .0)
+    chain-given h = let f = card-fault c r walked (not-true (r .sound) h) in row-given (chainRow c) rs (rw (f .0)) ∙ ap (answer 6) (f .1)
+
+    pub chain-passed : not (r .sound) ≡ false → firstRow (chainRow c ∷ rs) ≡ firstRow rs
+    chain-passed h = row-passed (chainRow c) rs (rw (card-sound c r walked (not-false (r .sound) h)))
+
+    module _ (good : areaBad c ≡ false) (ok : r .sound ≡ true) (l : ℕ) where
+      pub volume-given : r .active .volume ≤ l → firstRow (volumeRow c l ∷ rs) ≡ answer 8 0
+      volume-given h = row-given (volumeRow c l) rs (rw (← (card-found c r walked good ok)) (le-leb (r .active .volume) l h))
+
+      pub volume-passed : l < r .active .volume → firstRow (volumeRow c l ∷ rs) ≡ firstRow rs
+      volume-passed h = row-passed (volumeRow c l) rs (rw (← (card-found c r walked good ok)) (lt-leb (r .active .volume) l h))
+
+-- the first rows of a snap and of a revert: area, name, chain
+module _ (rs : List Row) (c : List ℕ) (name : List ℕ) (bad : Bool) (area : bad ≡ areaBad c) (card : bad ≡ false) (n : Bool) (called : n ≡ isName name) where
+  pub named-4 : not n ≡ true → firstRow (areaRow c ∷ nameRow name ∷ rs) ≡ answer 4 0
+  named-4 h = area-passed _ c bad area card ∙ name-given _ name n called h
+
+  module _ (is-name : not n ≡ false) (r : Regions) (walked : r ≡ regionsOf (chain c)) where
+    to-chain : firstRow (areaRow c ∷ nameRow name ∷ chainRow c ∷ rs) ≡ firstRow (chainRow c ∷ rs)
+    to-chain = area-passed _ c bad area card ∙ name-passed _ name n called is-name
+
+    pub named-6 : not (r .sound) ≡ true → firstRow (areaRow c ∷ nameRow name ∷ chainRow c ∷ rs) ≡ answer 6 (r .place .0)
+    named-6 h = to-chain ∙ chain-given _ c r walked h
+
+    pub named-passed : not (r .sound) ≡ false → firstRow (areaRow c ∷ nameRow name ∷ chainRow c ∷ rs) ≡ firstRow rs
+    named-passed h = to-chain ∙ chain-passed _ c r walked h

@@ -5,10 +5,8 @@ use mathlib.Core.List.{List, [], _∷_, _++_}
 use Prim.Native.Nat.{ℕ, zero, suc, _+_, _*_, _-_, _/_, _≤_, _<_}
 use native.Mathlib.Numerals.{add-one}
 use native.Mathlib.Omega.{arith}
-use lib.ListN.{length, take, getD}
-use lib.Dec.{ltb}
-use borrow.Author.Tests.{lt-ltb, le-ltb, le-leb, lt-leb, not-true, not-false}
-use Rattle.blocks.specs.Pick.{pick}
+use lib.ListN.{length, take, drop}
+use borrow.Author.Tests.{lt-ltb, le-ltb, le-leb, lt-leb, not-false}
 use Rattle.blocks.specs.Bytes.{Store, store, part, blockCount, blockAt, storeBlock, storeAll}
 use Rattle.blocks.specs.Name.{isName}
 use Rattle.blocks.specs.Descriptor.{costOf, descriptorAt, tailAt, descriptorBlock, renamedOf, linkedOf, reopenedOf, copying}
@@ -22,7 +20,8 @@ use Rattle.calls.specs.Parts.{areaBad}
 use Rattle.calls.specs.Ladder.{firstRow, snapRows, rowsOf, answerOf}
 use Rattle.calls.specs.Effect.{snapping, storesOf}
 use Rattle.calls.proofs.StepLaws.{stored-append, stored-one}
-use Rattle.calls.proofs.CardLaws.{card-fault, card-sound, card-some, card-all, card-snapshot-count, card-found}
+use Rattle.calls.proofs.CardLaws.{card-some, card-all, card-snapshot-count, card-found}
+use Rattle.calls.proofs.RowLaws.{row-given, row-passed, last-passed, named-passed}
 
 -- copies of blocks that stand before where they go
 copying-snoc : (c : List ℕ) (from to n : ℕ) → copying c from to (suc n) ≡ copying c from to n ++ (store (to + n) (blockAt c (from + n)) ∷ [])
@@ -112,58 +111,51 @@ module _ (c c₁ : List ℕ) (d : Descriptor) (k : ℕ) (some : 1 ≤ k) (below 
       snap-stored c c₁ c₂ c₃ d o r e name k (descriptorBlock o (tailAt c₁ (d .alpha .0))) (descriptorBlock e (tailAt c₂ (d .alpha .0))) k-is o-is (ap (descriptorBlock o) tail-first) r-is e-is
       (ap (descriptorBlock e) (ap (λ (y : List ℕ). tailAt y (d .alpha .0)) q ∙ tail-second o o-is n)) copied q s
 
--- the rows of a snap, in the order of the code
-module _ (c : List ℕ) (name : List ℕ) (bad : Bool) (area : bad ≡ areaBad c) where
-  pub snap-1 : bad ≡ true → answerOf (Snap name) c ≡ answer 1 0
-  unfolding answerOf rowsOf snapRows firstRow
-  snap-1 e = rw (← area, e)
+-- the rows of a snap that follow the chain's, in the order of the code
+module _ (c : List ℕ) (name : List ℕ) (bad : Bool) (area : bad ≡ areaBad c) (card : bad ≡ false) (n : Bool) (called : n ≡ isName name) (is-name : not n ≡ false)
+    (r : Regions) (walked : r ≡ regionsOf (chain c)) (whole : not (r .sound) ≡ false) (u : Bool) (used : u ≡ named (descriptorsAt c (take (r .count) (r .starts))) name) where
+  good : areaBad c ≡ false
+  good = sym area ∙ card
 
-  module _ (card : bad ≡ false) (n : Bool) (called : n ≡ isName name) where
-    pub snap-4 : not n ≡ true → answerOf (Snap name) c ≡ answer 4 0
-    unfolding answerOf rowsOf snapRows firstRow
-    snap-4 h = rw (← area, card, ← called, h)
+  ok : r .sound ≡ true
+  ok = not-false (r .sound) whole
 
-    module _ (is-name : not n ≡ false) (r : Regions) (walked : r ≡ regionsOf (chain c)) where
-      pub snap-6 : not (r .sound) ≡ true → answerOf (Snap name) c ≡ answer 6 (r .place .0)
-      unfolding answerOf rowsOf snapRows firstRow
-      snap-6 h = let f = card-fault c r walked (not-true (r .sound) h) in rw (← area, card, ← called, is-name, f .0, f .1)
+  used-is : named (descriptors (chain c)) name ≡ u
+  used-is = ap (λ (ds : List Descriptor). named ds name) (sym (card-all c r walked good ok)) ∙ sym used
 
-      module _ (whole : not (r .sound) ≡ false) (u : Bool) (used : u ≡ named (descriptorsAt c (take (r .count) (r .starts))) name) where
-        good : areaBad c ≡ false
-        good = sym area ∙ card
+  to-name : answerOf (Snap name) c ≡ firstRow (drop 3 (snapRows c name))
+  unfolding answerOf rowsOf snapRows
+  to-name = named-passed _ c name bad area card n called is-name r walked whole
 
-        ok : r .sound ≡ true
-        ok = not-false (r .sound) whole
+  pub snap-12 : u ≡ true → answerOf (Snap name) c ≡ answer 12 0
+  unfolding snapRows
+  snap-12 e = to-name ∙ row-given _ _ (used-is ∙ e)
 
-        used-is : named (descriptors (chain c)) name ≡ u
-        used-is = ap (λ (ds : List Descriptor). named ds name) (sym (card-all c r walked good ok)) ∙ sym used
+  module _ (unused : u ≡ false) where
+    to-count : answerOf (Snap name) c ≡ firstRow (drop 4 (snapRows c name))
+    unfolding snapRows
+    to-count = to-name ∙ row-passed _ _ (used-is ∙ unused)
 
-        pub snap-12 : u ≡ true → answerOf (Snap name) c ≡ answer 12 0
-        unfolding answerOf rowsOf snapRows firstRow
-        snap-12 e = rw (← area, card, ← called, is-name, card-sound c r walked ok, used-is, e)
+    pub snap-13 : 255 < r .count → answerOf (Snap name) c ≡ answer 13 0
+    unfolding snapRows
+    snap-13 h = to-count ∙ row-given _ _ (rw (card-snapshot-count c r walked good ok) (le-leb 255 (r .count - 1) (omega arith)))
 
-        module _ (unused : u ≡ false) where
-          pub snap-13 : 255 < r .count → answerOf (Snap name) c ≡ answer 13 0
-          unfolding answerOf rowsOf snapRows firstRow
-          snap-13 h = rw (← area, card, ← called, is-name, card-sound c r walked ok, used-is, unused, card-snapshot-count c r walked good ok, le-leb 255 (r .count - 1) (omega arith))
+    module _ (few : r .count ≤ 255) (k : ℕ) (cost-is : k ≡ costOf (r .active)) where
+      abbrev d : Descriptor
+      d = r .active
 
-          module _ (few : r .count ≤ 255) (k : ℕ) (cost-is : k ≡ costOf (r .active)) where
-            abbrev d : Descriptor
-            d = r .active
+      to-room : answerOf (Snap name) c ≡ firstRow (drop 5 (snapRows c name))
+      unfolding snapRows
+      to-room = to-count ∙ row-passed _ _ (rw (card-snapshot-count c r walked good ok) (lt-leb 255 (r .count - 1) (omega (arith, card-some c r walked good ok))))
 
-            rest : answerOf (Snap name) c ≡ pick (ltb (blockCount c) (d .beta .0 + costOf d)) (answer 11 0) accepted
-            unfolding answerOf rowsOf snapRows firstRow
-            rest =
-                rw (← area, card, ← called, is-name, card-sound c r walked ok, used-is, unused, card-snapshot-count c r walked good ok, lt-leb 255 (r .count - 1) (omega (arith, card-some c r walked good ok)), ← (card-found c r walked good ok))
+      pub snap-11 : length c / 512 < d .beta .0 + k → answerOf (Snap name) c ≡ answer 11 0
+      unfolding snapRows blockCount
+      snap-11 h = to-room ∙ row-given _ _ (rw (← (card-found c r walked good ok), ← cost-is) (lt-ltb (length c / 512) (d .beta .0 + k) h))
 
-            pub snap-11 : length c / 512 < d .beta .0 + k → answerOf (Snap name) c ≡ answer 11 0
-            unfolding blockCount
-            snap-11 h = rest ∙ rw (← cost-is, lt-ltb (length c / 512) (d .beta .0 + k) h)
+      pub snap-0 : d .beta .0 + k ≤ length c / 512 → answerOf (Snap name) c ≡ accepted
+      unfolding snapRows blockCount
+      snap-0 h = to-room ∙ last-passed _ (rw (← (card-found c r walked good ok), ← cost-is) (le-ltb (length c / 512) (d .beta .0 + k) h))
 
-            pub snap-0 : d .beta .0 + k ≤ length c / 512 → answerOf (Snap name) c ≡ accepted
-            unfolding blockCount
-            snap-0 h = rest ∙ rw (← cost-is, le-ltb (length c / 512) (d .beta .0 + k) h)
-
-            pub snap-stores : (c′ : List ℕ) → c′ ≡ storeAll c (snapping c d name) → c′ ≡ storeAll c (storesOf (Snap name) c)
-            unfolding storesOf
-            snap-stores c′ e = e ∙ ap (λ (x : Descriptor). storeAll c (snapping c x name)) (card-found c r walked good ok)
+      pub snap-stores : (c′ : List ℕ) → c′ ≡ storeAll c (snapping c d name) → c′ ≡ storeAll c (storesOf (Snap name) c)
+      unfolding storesOf
+      snap-stores c′ e = e ∙ ap (λ (x : Descriptor). storeAll c (snapping c x name)) (card-found c r walked good ok)

@@ -4,9 +4,9 @@ use mathlib.Core.Bool.{Bool, true, false, not, _&&_}
 use mathlib.Core.List.{List}
 use Prim.Native.Nat.{ℕ, _+_, _*_, _-_, _/_, _≤_, _<_}
 use native.Mathlib.Omega.{arith}
-use lib.ListN.{length, getD}
+use lib.ListN.{length, drop}
 use lib.Dec.{eqb, ltb, leb}
-use borrow.Author.Tests.{eq-eqb, ne-eqb, lt-ltb, le-ltb, le-leb, lt-leb, eqb-false, not-true, not-false}
+use borrow.Author.Tests.{eq-eqb, ne-eqb, lt-ltb, le-ltb, eqb-false, not-false}
 use Rattle.blocks.specs.Pick.{pick}
 use Rattle.blocks.specs.Bytes.{store, blockCount, blockAt, storeBlock, storeAll}
 use Rattle.blocks.specs.Descriptor.{descriptorAt, tailAt}
@@ -29,7 +29,8 @@ use Rattle.calls.specs.Ladder.{firstRow, writeRows, rowsOf, answerOf}
 use Rattle.calls.specs.Effect.{Written, written, WriteReady, lentOf, filledOf, storesOf}
 use Rattle.calls.specs.Step.{Done, step}
 use Rattle.calls.proofs.StepLaws.{step-refused, step-accepted}
-use Rattle.calls.proofs.CardLaws.{card-fault, card-sound, card-some, card-found, card-active, card-through, card-small}
+use Rattle.calls.proofs.CardLaws.{card-some, card-found, card-active, card-through, card-small}
+use Rattle.calls.proofs.RowLaws.{area-passed, block-given, block-passed, chain-given, chain-passed, volume-given, volume-passed}
 
 -- need, where a set entry is not overwritten, says whether the table block is new
 new-by : (s t : Bool) (n : ℕ) → n ≡ pick s 0 (pick t 2 1) → (n ≡ 0 → ⊥) → t ≡ eqb n 2
@@ -106,83 +107,90 @@ module _ (c : List ℕ) (d : Descriptor) (m p : Physical) (l : ℕ) (block : Lis
           ∙ ap (storeAll (storeBlock c (d .beta .0) block)) kept
           ∙ rw (← need-is, ne-eqb n 0 some, need-new (d .alpha .0) n m p need-is some, ne-eqb n 2 z))
 
--- the rows of a write, in the order of the code
-module _ (c : List ℕ) (l : ℕ) (block : List ℕ) (bad : Bool) (area : bad ≡ areaBad c) where
+-- the rows of a write that follow the area's, in the order of the code
+module _ (c : List ℕ) (l : ℕ) (block : List ℕ) (bad : Bool) (area : bad ≡ areaBad c) (card : bad ≡ false) where
   abbrev call : Call
   call = Write l block
 
-  pub write-1 : bad ≡ true → answerOf call c ≡ answer 1 0
-  unfolding answerOf rowsOf writeRows firstRow
-  write-1 e = rw (← area, e)
+  pub write-9 : (length block ≡ 512 → ⊥) → answerOf call c ≡ answer 9 0
+  unfolding answerOf rowsOf writeRows
+  write-9 h = area-passed _ c bad area card ∙ block-given _ block h
 
-  module _ (card : bad ≡ false) where
-    pub write-9 : (length block ≡ 512 → ⊥) → answerOf call c ≡ answer 9 0
-    unfolding answerOf rowsOf writeRows firstRow
-    write-9 h = rw (← area, card, ne-eqb (length block) 512 h)
+  module _ (long : length block ≡ 512) (r : Regions) (walked : r ≡ regionsOf (chain c)) where
+    to-chain : answerOf call c ≡ firstRow (drop 2 (writeRows c l block))
+    unfolding answerOf rowsOf writeRows
+    to-chain = area-passed _ c bad area card ∙ block-passed _ block long
 
-    module _ (long : length block ≡ 512) (r : Regions) (walked : r ≡ regionsOf (chain c)) where
-      pub write-6 : not (r .sound) ≡ true → answerOf call c ≡ answer 6 (r .place .0)
-      unfolding answerOf rowsOf writeRows firstRow
-      write-6 h = let f = card-fault c r walked (not-true (r .sound) h) in rw (← area, card, eq-eqb (length block) 512 long, f .0, f .1)
+    pub write-6 : not (r .sound) ≡ true → answerOf call c ≡ answer 6 (r .place .0)
+    unfolding writeRows
+    write-6 h = to-chain ∙ chain-given _ c r walked h
 
-      module _ (whole : not (r .sound) ≡ false) where
-        abbrev d : Descriptor
-        d = r .active
+    module _ (whole : not (r .sound) ≡ false) where
+      abbrev d : Descriptor
+      d = r .active
 
-        abbrev ds : List Descriptor
-        ds = descriptors (chain c)
+      abbrev ds : List Descriptor
+      ds = descriptors (chain c)
 
-        good : areaBad c ≡ false
-        good = sym area ∙ card
+      good : areaBad c ≡ false
+      good = sym area ∙ card
 
-        ok : r .sound ≡ true
-        ok = not-false (r .sound) whole
+      ok : r .sound ≡ true
+      ok = not-false (r .sound) whole
 
-        active-is : activeOf ds ≡ d
-        active-is = sym (card-found c r walked good ok)
+      active-is : activeOf ds ≡ d
+      active-is = sym (card-found c r walked good ok)
 
-        pub write-through : Through c (r .starts) (r .count) d
-        write-through = card-through c r walked good ok (r .count - 1) (omega (arith, card-some c r walked good ok)) d (card-active c r walked good ok)
+      pub write-through : Through c (r .starts) (r .count) d
+      write-through = card-through c r walked good ok (r .count - 1) (omega (arith, card-some c r walked good ok)) d (card-active c r walked good ok)
 
-        pub write-8 : d .volume ≤ l → answerOf call c ≡ answer 8 0
-        unfolding answerOf rowsOf writeRows firstRow
-        write-8 h = rw (← area, card, eq-eqb (length block) 512 long, card-sound c r walked ok, active-is, le-leb (d .volume) l h)
+      to-volume : answerOf call c ≡ firstRow (drop 3 (writeRows c l block))
+      unfolding writeRows
+      to-volume = to-chain ∙ chain-passed _ c r walked whole
 
-        module _ (below : l < d .volume) (f : Found) (found-is : f ≡ find c ds d l) where
-          rest : answerOf call c ≡ pick (isMisplaced f) (answer 10 (holderOf f)) (pick (ltb (blockCount c) (d .beta .0 + need (d .alpha .0) f)) (answer 11 0) accepted)
-          unfolding answerOf rowsOf writeRows firstRow
-          rest = rw (← area, card, eq-eqb (length block) 512 long, card-sound c r walked ok, active-is, lt-leb (d .volume) l below, found-is)
+      pub write-8 : d .volume ≤ l → answerOf call c ≡ answer 8 0
+      unfolding writeRows
+      write-8 h = to-volume ∙ volume-given _ c r walked good ok l h
 
-          pub write-10 : (h : Physical) → f ≡ Misplaced h → answerOf call c ≡ answer 10 (h .0)
-          unfolding isMisplaced holderOf
-          write-10 h e = rest ∙ rw e
+      module _ (below : l < d .volume) (f : Found) (found-is : f ≡ find c ds d l) where
+        to-found : answerOf call c ≡ firstRow (drop 4 (writeRows c l block))
+        unfolding writeRows
+        to-found = to-volume ∙ volume-passed _ c r walked good ok l below
 
-          pub write-ready : (m p : Physical) → f ≡ Entry m p → WriteReady c d (m .0) (p .0) l block
-          write-ready m p e =
-              record {
-                small = card-small c good;
-                region = omega (arith, through-beta c (r .starts) (r .count) d write-through, cost-least (d .layout) (d .volume));
-                upto = through-end c (r .starts) (r .count) d write-through;
-                table = found-table c (r .starts) (r .count) d write-through l below f found-is m p e;
-                entry = found-entry c (r .starts) (r .count) d write-through l f found-is m p e;
-                number = omega (arith, through-volume c (r .starts) (r .count) d write-through);
-                whole = long;
-              }
+        rest : answerOf call c ≡ pick (isMisplaced f) (answer 10 (holderOf f)) (pick (ltb (blockCount c) (d .beta .0 + need (d .alpha .0) f)) (answer 11 0) accepted)
+        unfolding writeRows firstRow
+        rest = to-found ∙ rw (active-is, found-is)
 
-          done-by : (t : Bool) → ltb (blockCount c) (d .beta .0 + need (d .alpha .0) f) ≡ t → isMisplaced f ≡ false → (a : Answer) (c′ : List ℕ)
-              → _≡_ {A = Written} (record { answer = a; card = c′ }) (pick t (record { answer = answer 11 0; card = c }) (record { answer = accepted; card = storeAll c (writing c d f l block) }))
-              → _≡_ {A = Done} (record { outcome = record { answer = a; lent = Block block }; card = c′ }) (step call c)
-          unfolding lentOf filledOf storesOf
-          done-by true e g a c′ h =
-              let a-is : a ≡ answer 11 0 = ap (λ (x : Written). x .answer) h in
-              let c-is : c′ ≡ c = ap (λ (x : Written). x .card) h in
-              rw (a-is, c-is) (step-refused call c 11 0 (rest ∙ rw (g, e)) refl)
-          done-by false e g a c′ h =
-              let a-is : a ≡ accepted = ap (λ (x : Written). x .answer) h in
-              let c-is : c′ ≡ storeAll c (writing c d f l block) = ap (λ (x : Written). x .card) h in
-              rw a-is (step-accepted call c (rest ∙ rw (g, e)) (Block block) refl c′ (c-is ∙ rw (active-is, found-is)))
+        pub write-10 : (h : Physical) → f ≡ Misplaced h → answerOf call c ≡ answer 10 (h .0)
+        unfolding isMisplaced holderOf
+        write-10 h e = rest ∙ rw e
 
-          pub write-done : (m p : Physical) → f ≡ Entry m p → (a : Answer) (c′ : List ℕ) → _≡_ {A = Written} (record { answer = a; card = c′ }) (written c d (Entry m p) l block)
-              → _≡_ {A = Done} (record { outcome = record { answer = a; lent = Block block }; card = c′ }) (step call c)
-          unfolding written isMisplaced
-          write-done m p e a c′ h = done-by (ltb (blockCount c) (d .beta .0 + need (d .alpha .0) f)) refl (rw e) a c′ (rw e h)
+        pub write-ready : (m p : Physical) → f ≡ Entry m p → WriteReady c d (m .0) (p .0) l block
+        write-ready m p e =
+            record {
+              small = card-small c good;
+              region = omega (arith, through-beta c (r .starts) (r .count) d write-through, cost-least (d .layout) (d .volume));
+              upto = through-end c (r .starts) (r .count) d write-through;
+              table = found-table c (r .starts) (r .count) d write-through l below f found-is m p e;
+              entry = found-entry c (r .starts) (r .count) d write-through l f found-is m p e;
+              number = omega (arith, through-volume c (r .starts) (r .count) d write-through);
+              whole = long;
+            }
+
+        done-by : (t : Bool) → ltb (blockCount c) (d .beta .0 + need (d .alpha .0) f) ≡ t → isMisplaced f ≡ false → (a : Answer) (c′ : List ℕ)
+            → _≡_ {A = Written} (record { answer = a; card = c′ }) (pick t (record { answer = answer 11 0; card = c }) (record { answer = accepted; card = storeAll c (writing c d f l block) }))
+            → _≡_ {A = Done} (record { outcome = record { answer = a; lent = Block block }; card = c′ }) (step call c)
+        unfolding lentOf filledOf storesOf
+        done-by true e g a c′ h =
+            let a-is : a ≡ answer 11 0 = ap (λ (x : Written). x .answer) h in
+            let c-is : c′ ≡ c = ap (λ (x : Written). x .card) h in
+            rw (a-is, c-is) (step-refused call c 11 0 (rest ∙ rw (g, e)) refl)
+        done-by false e g a c′ h =
+            let a-is : a ≡ accepted = ap (λ (x : Written). x .answer) h in
+            let c-is : c′ ≡ storeAll c (writing c d f l block) = ap (λ (x : Written). x .card) h in
+            rw a-is (step-accepted call c (rest ∙ rw (g, e)) (Block block) refl c′ (c-is ∙ rw (active-is, found-is)))
+
+        pub write-done : (m p : Physical) → f ≡ Entry m p → (a : Answer) (c′ : List ℕ) → _≡_ {A = Written} (record { answer = a; card = c′ }) (written c d (Entry m p) l block)
+            → _≡_ {A = Done} (record { outcome = record { answer = a; lent = Block block }; card = c′ }) (step call c)
+        unfolding written isMisplaced
+        write-done m p e a c′ h = done-by (ltb (blockCount c) (d .beta .0 + need (d .alpha .0) f)) refl (rw e) a c′ (rw e h)

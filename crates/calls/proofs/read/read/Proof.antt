@@ -2,10 +2,12 @@
 use mathlib.Core.Path.{refl, sym, _∙_}
 use borrow.Author.Needs.{needs}
 use borrow.Author.Tests.{not-false}
+use Rattle.calls.specs.Ladder.{readRows, rowsOf, answerOf}
 use Rattle.calls.specs.Effect.{lentOf}
 use Rattle.calls.proofs.StepLaws.{step-refused}
 use Rattle.calls.proofs.CardLaws.{card-some, card-starts, card-inside, card-long, card-through, card-whole}
-use Rattle.calls.proofs.ReadLaws.{read-1, read-4, read-9, read-6, read-7, read-8, read-below, read-done, index-inside}
+use Rattle.calls.proofs.RowLaws.{area-given}
+use Rattle.calls.proofs.ReadLaws.{read-4, read-9, read-6, read-7, read-8, read-below, read-done, index-inside}
 use Rattle.calls.proofs.read.read.Statement.{statement}
 use Rattle.calls.proofs.read.read.Tie as tie
 
@@ -13,8 +15,8 @@ is-bad-requires : tie.Need-is-bad-requires
 is-bad-requires c κs = search needs
 
 returns : tie.Need-returns
-unfolding lentOf
-returns c = step-refused _ _ _ _ (search read-1) refl
+unfolding lentOf answerOf rowsOf readRows
+returns c = step-refused _ _ _ _ (search area-given) refl
 
 is-unnamed-requires : tie.Need-is-unnamed-requires
 is-unnamed-requires c κs = search needs

@@ -1,8 +1,10 @@
 -- `ream` meets its contract, row by row.
 use mathlib.Core.Path.{refl}
+use Rattle.calls.specs.Ladder.{reamRows, rowsOf, answerOf}
 use Rattle.calls.specs.Effect.{lentOf, filledOf, storesOf}
 use Rattle.calls.proofs.StepLaws.{step-refused, step-accepted}
-use Rattle.calls.proofs.ReamLaws.{ream-1, ream-2-low, ream-2-high, ream-3-none, ream-3-large, ream-4, ream-5, ream-0}
+use Rattle.calls.proofs.RowLaws.{area-given}
+use Rattle.calls.proofs.ReamLaws.{ream-2-low, ream-2-high, ream-3-none, ream-3-large, ream-4, ream-5, ream-0}
 use borrow.Author.Needs.{needs}
 use Rattle.calls.proofs.ream.ream.Statement.{statement}
 use Rattle.calls.proofs.ream.ream.Tie as tie
@@ -14,8 +16,8 @@ same-length : tie.Need-same-length
 same-length c = search needs
 
 returns : tie.Need-returns
-unfolding lentOf
-returns c = step-refused _ _ _ _ (search ream-1) refl
+unfolding lentOf answerOf rowsOf reamRows
+returns c = step-refused _ _ _ _ (search area-given) refl
 
 same-length-2 : tie.Need-same-length-2
 same-length-2 c = search needs

@@ -4,10 +4,12 @@ use native.Mathlib.Omega.{arith}
 use Prim.Native.Nat.{_<_, _-_}
 use borrow.Author.Needs.{needs}
 use borrow.Author.Tests.{not-false}
+use Rattle.calls.specs.Ladder.{revertRows, rowsOf, answerOf}
 use Rattle.calls.specs.Effect.{lentOf, filledOf}
 use Rattle.calls.proofs.StepLaws.{step-refused, step-accepted}
 use Rattle.calls.proofs.CardLaws.{card-some, card-few, card-starts, card-inside, card-long, card-whole}
-use Rattle.calls.proofs.RevertLaws.{revert-1, revert-4, revert-6, revert-7, revert-0, reverted}
+use Rattle.calls.proofs.RowLaws.{area-given, named-4, named-6}
+use Rattle.calls.proofs.RevertLaws.{revert-7, revert-0, reverted}
 use Rattle.calls.proofs.revert.revert.Statement.{statement}
 use Rattle.calls.proofs.revert.revert.Tie as tie
 
@@ -18,8 +20,8 @@ same-length : tie.Need-same-length
 same-length c = search needs
 
 returns : tie.Need-returns
-unfolding lentOf
-returns c = step-refused _ _ _ _ (search revert-1) refl
+unfolding lentOf answerOf rowsOf revertRows
+returns c = step-refused _ _ _ _ (search area-given) refl
 
 is-name-requires : tie.Need-is-name-requires
 is-name-requires c κs = search needs
@@ -28,8 +30,8 @@ same-length-2 : tie.Need-same-length-2
 same-length-2 c = search needs
 
 returns-2 : tie.Need-returns-2
-unfolding lentOf
-returns-2 c = step-refused _ _ _ _ (search revert-4) refl
+unfolding lentOf answerOf rowsOf revertRows
+returns-2 c = step-refused _ _ _ _ (search named-4) refl
 
 walk-chain-requires : tie.Need-walk-chain-requires
 walk-chain-requires c κs = search needs
@@ -38,8 +40,8 @@ same-length-3 : tie.Need-same-length-3
 same-length-3 c = search needs
 
 returns-3 : tie.Need-returns-3
-unfolding lentOf
-returns-3 c = step-refused _ _ _ _ (search revert-6) refl
+unfolding lentOf answerOf rowsOf revertRows
+returns-3 c = step-refused _ _ _ _ (search named-6) refl
 
 sub-last : tie.Need-sub-last
 sub-last c =

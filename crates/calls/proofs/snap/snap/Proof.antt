@@ -3,12 +3,14 @@ use mathlib.Core.Path.{refl, sym, _∙_}
 use native.Mathlib.Omega.{arith}
 use borrow.Author.Needs.{needs}
 use borrow.Author.Tests.{not-false}
+use Rattle.calls.specs.Ladder.{snapRows, rowsOf, answerOf}
 use Rattle.calls.specs.Effect.{lentOf, filledOf}
 use Rattle.blocks.proofs.ChainLaws.{cost-least}
 use Rattle.entries.proofs.EntryLaws.{through-beta}
 use Rattle.calls.proofs.StepLaws.{step-refused, step-accepted}
 use Rattle.calls.proofs.CardLaws.{card-some, card-inside, card-long, card-active, card-through, card-small}
-use Rattle.calls.proofs.SnapLaws.{snap-1, snap-4, snap-6, snap-12, snap-13, snap-11, snap-0, snap-stores}
+use Rattle.calls.proofs.RowLaws.{area-given, named-4, named-6}
+use Rattle.calls.proofs.SnapLaws.{snap-12, snap-13, snap-11, snap-0, snap-stores}
 use Rattle.calls.proofs.snap.snap.Statement.{statement}
 use Rattle.calls.proofs.snap.snap.Tie as tie
 
@@ -19,8 +21,8 @@ same-length : tie.Need-same-length
 same-length c = search needs
 
 returns : tie.Need-returns
-unfolding lentOf
-returns c = step-refused _ _ _ _ (search snap-1) refl
+unfolding lentOf answerOf rowsOf snapRows
+returns c = step-refused _ _ _ _ (search area-given) refl
 
 is-name-requires : tie.Need-is-name-requires
 is-name-requires c κs = search needs
@@ -29,8 +31,8 @@ same-length-2 : tie.Need-same-length-2
 same-length-2 c = search needs
 
 returns-2 : tie.Need-returns-2
-unfolding lentOf
-returns-2 c = step-refused _ _ _ _ (search snap-4) refl
+unfolding lentOf answerOf rowsOf snapRows
+returns-2 c = step-refused _ _ _ _ (search named-4) refl
 
 walk-chain-requires : tie.Need-walk-chain-requires
 walk-chain-requires c κs = search needs
@@ -39,8 +41,8 @@ same-length-3 : tie.Need-same-length-3
 same-length-3 c = search needs
 
 returns-3 : tie.Need-returns-3
-unfolding lentOf
-returns-3 c = step-refused _ _ _ _ (search snap-6) refl
+unfolding lentOf answerOf rowsOf snapRows
+returns-3 c = step-refused _ _ _ _ (search named-6) refl
 
 slice-aggregate-is-named : tie.Need-slice-aggregate-is-named
 slice-aggregate-is-named c = search needs

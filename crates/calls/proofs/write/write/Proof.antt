@@ -2,10 +2,12 @@
 use mathlib.Core.Path.{refl, sym, _∙_}
 use borrow.Author.Needs.{needs}
 use borrow.Author.Tests.{not-false}
+use Rattle.calls.specs.Ladder.{writeRows, rowsOf, answerOf}
 use Rattle.calls.specs.Effect.{lentOf}
 use Rattle.calls.proofs.StepLaws.{step-refused}
 use Rattle.calls.proofs.CardLaws.{card-starts}
-use Rattle.calls.proofs.WriteLaws.{write-1, write-9, write-6, write-8, write-10, write-through, write-ready, write-done}
+use Rattle.calls.proofs.RowLaws.{area-given}
+use Rattle.calls.proofs.WriteLaws.{write-9, write-6, write-8, write-10, write-through, write-ready, write-done}
 use Rattle.calls.proofs.write.write.Statement.{statement}
 use Rattle.calls.proofs.write.write.Tie as tie
 
@@ -16,8 +18,8 @@ same-length : tie.Need-same-length
 same-length c = search needs
 
 returns : tie.Need-returns
-unfolding lentOf
-returns c = step-refused _ _ _ _ (search write-1) refl
+unfolding lentOf answerOf rowsOf writeRows
+returns c = step-refused _ _ _ _ (search area-given) refl
 
 same-length-2 : tie.Need-same-length-2
 same-length-2 c = search needs
