@@ -18,7 +18,7 @@ use Rattle.calls.specs.Parts.{descriptorsOf, snapshotsOf, withName}
 use Rattle.calls.specs.Ladder.{answerOf}
 use Rattle.calls.specs.Effect.{storesOf}
 use Rattle.calls.specs.Step.{step, isAccepted}
-use Rattle.claims.specs.History.{betaOf, Agree, isFormat}
+use Rattle.claims.specs.History.{betaOf, Agree, isReam, isFormat}
 use Rattle.claims.proofs.Agreement.{agree-below, agree-chain, agree-answer}
 use Rattle.claims.proofs.StoreLists.{Whole, isStored, stored-length, stored-both, stored-anyway, blocks-taken}
 use Rattle.claims.proofs.Frame.{stores-inside}
@@ -111,7 +111,7 @@ module _ (s t : List ℕ) (agree : Agree s t) where
   none-same k e f = rw (e, f) agree
 
   after-accepted : (k : Call) → isFormat k s ≡ false → isAccepted (answerOf k s) ≡ true → Agree (storeAll s (storesOf k s)) (storeAll t (storesOf k t))
-  unfolding isFormat storesOf
+  unfolding isFormat isReam storesOf
   after-accepted (Ream layout volume name) f e = no (sym f ∙ e)
   after-accepted (Read target name l block) f e = none-same (Read target name l block) refl refl
   after-accepted (Write l block) f e = after-write l block e

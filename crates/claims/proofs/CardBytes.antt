@@ -23,7 +23,7 @@ use Rattle.calls.specs.Parts.{areaBad, descriptorsOf, snapshotsOf, withName, fo
 use Rattle.calls.specs.Ladder.{rowsOf, writeRows, snapRows, revertRows, answerOf}
 use Rattle.calls.specs.Effect.{snapping, reverting, storesOf}
 use Rattle.calls.specs.Step.{step, after, isAccepted}
-use Rattle.claims.specs.History.{isFormat, AreBytes, writtenBy, Standing, none, more, formattable, formatted}
+use Rattle.claims.specs.History.{isReam, isFormat, AreBytes, writtenBy, Standing, none, more, formattable, formatted}
 use Rattle.calls.proofs.RowLaws.{rows-passed}
 use Rattle.claims.proofs.ChainAfter.{active-name}
 use Rattle.claims.proofs.Runs.{standing-length, step-length}
@@ -245,7 +245,7 @@ module _ (c : List ℕ) (card : AreBytes c) where
   stores-none k q = rw q nothing
 
   stores-accepted : (k : Call) → AreBytes (writtenBy k) → isFormat k c ≡ false → isAccepted (answerOf k c) ≡ true → ByteStores (storesOf k c)
-  unfolding isFormat storesOf writtenBy
+  unfolding isFormat isReam storesOf writtenBy
   stores-accepted (Ream layout volume name) w f e = no (sym f ∙ e)
   stores-accepted (Read target name l block) w f e = stores-none (Read target name l block) refl
   stores-accepted (Write l block) w f e = stores-write l block w e

@@ -27,7 +27,7 @@ use Rattle.calls.specs.Parts.{areaBad, descriptorsOf, snapshotsOf, withName, in
 use Rattle.calls.specs.Ladder.{rowsOf, writeRows, answerOf}
 use Rattle.calls.specs.Effect.{storesOf, reverting}
 use Rattle.calls.specs.Step.{step, isAccepted}
-use Rattle.claims.specs.History.{isFormat}
+use Rattle.claims.specs.History.{isReam, isFormat}
 use Rattle.calls.proofs.RowLaws.{rows-passed}
 use Rattle.claims.proofs.Relinked.{later-alpha}
 use Rattle.claims.proofs.Changed.{named-left, member-from, member-fresh}
@@ -220,7 +220,7 @@ module _ (s : List ℕ) (xs : List Descriptor) (v : Descriptor) (n : List ℕ) (
   same-card k q = rw q (inl h)
 
   stands-accepted : (k : Call) → isFormat k t ≡ false → isAccepted (answerOf k t) ≡ true → Either (storeAll t (storesOf k t))
-  unfolding isFormat storesOf
+  unfolding isFormat isReam storesOf
   stands-accepted (Ream layout volume name) f e = no (sym f ∙ e)
   stands-accepted (Read target name l block) f e = same-card (Read target name l block) refl
   stands-accepted (Write l block) f e = inl (stands-write l block e)

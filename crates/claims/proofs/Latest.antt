@@ -20,7 +20,7 @@ use Rattle.calls.specs.Parts.{descriptorsOf, snapshotsOf, indexOf}
 use Rattle.calls.specs.Ladder.{answerOf}
 use Rattle.calls.specs.Effect.{storesOf}
 use Rattle.calls.specs.Step.{step, after, isAccepted}
-use Rattle.claims.specs.History.{isFormat, Standing, none, more, isSnapOf, Position, Nowhere, At, latestFrom, latestSnap}
+use Rattle.claims.specs.History.{isReam, isFormat, Standing, none, more, isSnapOf, Position, Nowhere, At, latestFrom, latestSnap}
 use Rattle.claims.specs.Claims.{Unsnapped, end, then, LastSnap}
 use Rattle.claims.proofs.Changed.{named-append, named-left}
 use Rattle.claims.proofs.ChainAfter.{before, snapshots-snoc, reverted-chain}
@@ -57,7 +57,7 @@ module _ (n t : List ℕ) (gone : named (snapshotsOf (descriptorsOf t)) n ≡ fa
   gone-same k q = rw q gone
 
   gone-accepted : (k : Call) → isFormat k t ≡ false → isAccepted (answerOf k t) ≡ true → isSnapOf n k ≡ false → named (snapshotsOf (descriptorsOf (storeAll t (storesOf k t)))) n ≡ false
-  unfolding isFormat storesOf isSnapOf
+  unfolding isFormat isReam storesOf isSnapOf
   gone-accepted (Ream layout volume name) f e o = no (sym f ∙ e)
   gone-accepted (Read target name l block) f e o = gone-same (Read target name l block) refl
   gone-accepted (Write l block) f e o = gone-write l block e

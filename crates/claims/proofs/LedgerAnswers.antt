@@ -32,9 +32,9 @@ use Rattle.calls.specs.Check.{Passes}
 use Rattle.calls.specs.Ladder.{Row, row, firstRow, reamRows, readRows, writeRows, snapRows, revertRows, listRows, rowsOf, answerOf}
 use Rattle.calls.specs.Effect.{filledOf, noRecord}
 use Rattle.calls.specs.Step.{step, isAccepted}
-use Rattle.claims.specs.History.{betaOf}
+use Rattle.claims.specs.History.{betaOf, isReam}
 use Rattle.claims.specs.Ledger.{Volume, Ledger, hasVolume, volumeNamed, ledgerRows, ledgerNumber, volumeRead, cellRead, namesFrom, ledgerNames, cellsFrom, volumeOf, volumesOf, ledgerOf}
-use Rattle.claims.specs.Claims.{blocksNeeded, isReam, recordNames, CheckClaim, ListClaim}
+use Rattle.claims.specs.Claims.{blocksNeeded, recordNames, CheckClaim, ListClaim}
 use Rattle.calls.proofs.CardLaws.{chain-is}
 use Rattle.calls.proofs.RowLaws.{rows-passed}
 use Rattle.claims.proofs.Agreement.{end-active, target-member, active-target}

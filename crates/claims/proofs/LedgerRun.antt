@@ -15,7 +15,7 @@ use Rattle.calls.specs.Check.{Passes}
 use Rattle.calls.specs.Ladder.{answerOf}
 use Rattle.calls.specs.Effect.{storesOf}
 use Rattle.calls.specs.Step.{step, after, isAccepted}
-use Rattle.claims.specs.History.{Standing, more, isFormat, formatted}
+use Rattle.claims.specs.History.{Standing, more, isReam, isFormat, formatted}
 use Rattle.claims.specs.Ledger.{Ledger, ledgerStep, ledgerOf, ledgerNames, cellRead}
 use Rattle.claims.specs.Claims.{ledgerAfter, recordNames, firstLedger, LedgerStep, LedgerClaim, FormatClaim, FormatLedgerClaim}
 use Rattle.claims.proofs.Runs.{standing-length, step-length}
@@ -34,7 +34,7 @@ module _ (c : List ℕ) (passing : Passes c) where
   same-by k q e = rw (e, q)
 
   passes-accepted : (k : Call) → isFormat k c ≡ false → isAccepted (answerOf k c) ≡ true → Passes (step k c .card)
-  unfolding isFormat storesOf
+  unfolding isFormat isReam storesOf
   passes-accepted (Ream layout volume name) f e = no (sym f ∙ e)
   passes-accepted (Read target name l block) f e = subst Passes (sym (same-by (Read target name l block) refl e)) passing
   passes-accepted (Write l block) f e = passes-write c l block passing e
@@ -44,7 +44,7 @@ module _ (c : List ℕ) (passing : Passes c) where
   passes-accepted Check f e = subst Passes (sym (same-by Check refl e)) passing
 
   next-accepted : (k : Call) → isFormat k c ≡ false → isAccepted (answerOf k c) ≡ true → ledgerOf (step k c .card) ≡ ledgerStep k (ledgerOf c)
-  unfolding isFormat storesOf ledgerStep
+  unfolding isFormat isReam storesOf ledgerStep
   next-accepted (Ream layout volume name) f e = no (sym f ∙ e)
   next-accepted (Read target name l block) f e = ap ledgerOf (same-by (Read target name l block) refl e)
   next-accepted (Write l block) f e = ledger-write c l block passing e

@@ -6,7 +6,7 @@ use mathlib.Core.List.{List, []}
 use Prim.Native.Nat.{ℕ, zero, suc, _<_}
 use native.Mathlib.Omega.{arith}
 use lib.ListN.{take, replicate}
-use Rattle.claims.specs.History.{AreBytes, Standing, none, more, isFormat, writtenBy, formattable, isSnapOf, Position, Nowhere, At, latestFrom, latestSnap, without}
+use Rattle.claims.specs.History.{AreBytes, Standing, none, more, isReam, isFormat, writtenBy, formattable, isSnapOf, Position, Nowhere, At, latestFrom, latestSnap, without}
 use Rattle.claims.specs.Claims.{Matched, RevertedAt, Demand3}
 use Rattle.claims.specs.Bench.{area, fs, mon}
 use Rattle.claims.specs.Example.{exampleCard, exampleCalls}
@@ -26,7 +26,7 @@ area-bytes : AreBytes (area 16)
 area-bytes = fill-bytes 8192 7 (omega arith)
 
 pub example-standing : (c : List ℕ) → Standing c exampleCalls
-unfolding exampleCalls isFormat writtenBy
+unfolding exampleCalls isFormat isReam writtenBy
 example-standing c =
     more refl (fill-bytes 512 7 (omega arith)) (more refl nil-bytes (more refl (fill-bytes 512 9 (omega arith)) (more refl nil-bytes (more refl nil-bytes (more refl nil-bytes
     (more refl nil-bytes (more refl nil-bytes (more refl nil-bytes none))))))))

@@ -11,14 +11,14 @@ use Rattle.calls.specs.Call.{Call, Ream, Read, Write, Snap, Revert, Listing, Ch
 use Rattle.calls.specs.Parts.{areaBad}
 use Rattle.calls.specs.Ladder.{reamRows, rowsOf, answerOf}
 use Rattle.calls.specs.Step.{step, after, outcomes}
-use Rattle.claims.specs.History.{Agree, isFormat, Standing, none, more, without}
+use Rattle.claims.specs.History.{Agree, isReam, isFormat, Standing, none, more, without}
 use Rattle.claims.specs.Claims.{FrameClaim, Matched}
 use Rattle.claims.proofs.Agreement.{agree-outcome}
 use Rattle.claims.proofs.Frame.{frame-claim}
 
 -- whether a call is an accepted format depends on the card's length alone
 pub format-length : (k : Call) (s t : List ℕ) → length s ≡ length t → isFormat k s ≡ isFormat k t
-unfolding isFormat answerOf rowsOf reamRows areaBad blockCount
+unfolding isFormat isReam answerOf rowsOf reamRows areaBad blockCount
 format-length (Ream layout volume name) s t e = rw e
 format-length (Read target name l block) s t e = refl
 format-length (Write l block) s t e = refl

@@ -14,7 +14,7 @@ use Rattle.calls.specs.Parts.{descriptorsOf, snapshotsOf, withName}
 use Rattle.calls.specs.Ladder.{answerOf}
 use Rattle.calls.specs.Effect.{storesOf}
 use Rattle.calls.specs.Step.{step, isAccepted}
-use Rattle.claims.specs.History.{Agree, isFormat}
+use Rattle.claims.specs.History.{Agree, isReam, isFormat}
 use Rattle.claims.specs.Claims.{MovesBeta, RoomClaim, SoundClaim}
 use Rattle.claims.proofs.ChainAfter.{before, behind, active-append, active-last, link-region, revert-rows, revert-split}
 use Rattle.claims.proofs.AgreeStep.{active-two, agree-step}
@@ -68,7 +68,7 @@ module _ (c : List ℕ) where
   unaltered k e q = rw e (same-card k q)
 
   kept-accepted : (k : Call) → isFormat k c ≡ false → isAccepted (answerOf k c) ≡ true → Kept (activeOf (descriptorsOf (step k c .card))) d
-  unfolding isFormat storesOf
+  unfolding isFormat isReam storesOf
   kept-accepted (Ream layout volume name) f e = no (sym f ∙ e)
   kept-accepted (Read target name l block) f e = unaltered (Read target name l block) e refl
   kept-accepted (Write l block) f e = kept-write l block e

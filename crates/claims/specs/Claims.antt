@@ -26,7 +26,7 @@ use Rattle.calls.specs.Check.{Passes}
 use Rattle.calls.specs.Ladder.{row, rowsOf, answerOf}
 use Rattle.claims.specs.Algorithms.{Sigma, closeRegion, algorithm1, algorithm2, algorithm3, algorithm4, algorithm5, algorithm6}
 use Rattle.calls.specs.Step.{step, after, outcomes, isAccepted}
-use Rattle.claims.specs.History.{betaOf, Agree, isFormat, AreBytes, Standing, isSnapOf, Position, Nowhere, At, latestSnap, without, formattable, formatted}
+use Rattle.claims.specs.History.{betaOf, Agree, isReam, isFormat, AreBytes, Standing, isSnapOf, Position, Nowhere, At, latestSnap, without, formattable, formatted}
 use Rattle.claims.specs.Ledger.{Ledger, ledgerStep, ledgerNumber, cellRead, ledgerNames, ledgerOf}
 
 -- Areas and names.
@@ -270,15 +270,6 @@ AlgorithmClaim = (c : List ℕ) → AreBytes c → FollowsAlgorithms c
 unfoldable pub ledgerAfter : List Call → List ℕ → Ledger → Ledger
 ledgerAfter [] c g = g
 ledgerAfter (k ∷ ks) c g = ledgerAfter ks (step k c .card) (pick (isAccepted (answerOf k c)) (ledgerStep k g) g)
-
-unfoldable pub isReam : Call → Bool
-isReam (Ream layout volume name) = true
-isReam (Read target name l block) = false
-isReam (Write l block) = false
-isReam (Snap name) = false
-isReam (Revert name) = false
-isReam (Listing records) = false
-isReam Check = false
 
 -- the names of the first n records
 unfoldable pub recordNames : ℕ → List Record → List (List ℕ)

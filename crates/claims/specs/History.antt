@@ -27,15 +27,19 @@ pub record Agree (s t : List ℕ) : Type 0 where
   pub beta : betaOf s ≡ betaOf t
   pub below : take (blockSize * betaOf s) s ≡ take (blockSize * betaOf s) t
 
--- whether a call is an accepted format of the card; on cards of one length that depends on nothing else of the card
+-- whether a call is a ream
+unfoldable pub isReam : Call → Bool
+isReam (Ream layout volume name) = true
+isReam (Read target name l block) = false
+isReam (Write l block) = false
+isReam (Snap name) = false
+isReam (Revert name) = false
+isReam (Listing records) = false
+isReam Check = false
+
+-- whether it is an accepted format of the card; on cards of one length that depends on nothing else of the card
 unfoldable pub isFormat : Call → List ℕ → Bool
-isFormat (Ream layout volume name) c = isAccepted (answerOf (Ream layout volume name) c)
-isFormat (Read target name l block) c = false
-isFormat (Write l block) c = false
-isFormat (Snap name) c = false
-isFormat (Revert name) c = false
-isFormat (Listing records) c = false
-isFormat Check c = false
+isFormat k c = isReam k && isAccepted (answerOf k c)
 
 -- numbers below 256: what a card area holds, and what is lent
 abbrev pub AreBytes : List ℕ → Type 0
