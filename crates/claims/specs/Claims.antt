@@ -244,7 +244,7 @@ pub record FirstFault (c : List ℕ) (place : ℕ) : Type 0 where
 unfoldable pub FaultClaim : Type 0
 FaultClaim = (c : List ℕ) (place : ℕ) → areaBad c ≡ false → chainSound (chain c) ≡ true → (answerOf Check c ≡ answer 10 place) ↔ FirstFault c place
 
--- Accepted reads, writes and snaps are the paper's algorithms, block by block, in both layouts: "blocks read, tables, descriptors, alpha and beta
+-- Accepted reads, writes and snaps are the paper's algorithms, block by block, in both layouts: "Blocks read, tables, descriptors, alpha and beta
 -- are those of the paper's six algorithms as document 01 completes them". Sigma is the card's blocks, alpha the descriptor's own block.
 pub record FollowsAlgorithms (c : List ℕ) : Type 0 where
   pub read : (target : Target) (name : List ℕ) (l : ℕ) (block : List ℕ) → isAccepted (answerOf (Read target name l block) c) ≡ true
@@ -275,7 +275,7 @@ ledgerAfter (k ∷ ks) c g = ledgerAfter ks (step k c .card) (pick (isAccepted (
 unfoldable pub recordNames : ℕ → List Record → List (List ℕ)
 recordNames n rs = map (λ (r : Record). r .name) (take n rs)
 
--- Demand 2 of one call on a card c whose ledger is g: "on a card that passes its check, reads match a plain ledger of named volumes;
+-- Demand 2 of one call on a card c whose ledger is g: "On a card that passes its check, reads match a plain ledger of named volumes;
 -- 'no room' comes only if the blocks needed exceed those free".
 pub record LedgerStep (k : Call) (c : List ℕ) (g : Ledger) : Type 0 where
   -- "reads match": what the card holds is the ledger, before the call
@@ -371,7 +371,7 @@ RollbackClaim =
     (s : List ℕ) (ks : List Call) → AreBytes s → chainSound (chain s) ≡ true → Standing s ks
     → (k : ℕ) (v : List ℕ) → RevertedAt s ks k v → Forgets s v ks k (latestSnap v s (take k ks))
 
--- "That visit's snapshot" exists on a card that a format made, whatever the area held.
+-- On a card that a format made, whatever the area held, every accepted revert has "that visit's latest accepted snapshot".
 unfoldable pub SnapshotClaim : Type 0
 SnapshotClaim =
     (area : List ℕ) (layout volume : ℕ) (name : List ℕ) → formattable area layout volume name ≡ true
