@@ -13,10 +13,9 @@ use Rattle.blocks.specs.Descriptor.{physical, noDescriptor, descriptorAt}
 use Rattle.blocks.specs.Chain.{Chain, Unsound, Sound, chain, chainSound, chainPlace, descriptors, descriptorsAt, startsOf, regionsOf, activeOf}
 use Rattle.blocks.specs.declared.descriptor.Descriptor.{Descriptor}
 use Rattle.blocks.specs.declared.chain.Regions.{Regions}
-use Rattle.blocks.proofs.ChainLaws.{region-volume}
 use Rattle.blocks.proofs.LinkedLaws.{Linked, chain-linked, regions-sound, starts-take, linked-some, chain-few, starts-full, at-alpha, active-at}
 use Rattle.entries.specs.Through.{Through}
-use Rattle.entries.proofs.RegionLaws.{through-at, through-region, through-rising}
+use Rattle.entries.proofs.RegionLaws.{through-at, through-rising}
 use Rattle.entries.proofs.EntryLaws.{through-alpha}
 use Rattle.calls.specs.Parts.{areaBad, snapshotsOf}
 

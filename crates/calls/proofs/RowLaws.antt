@@ -113,6 +113,7 @@ pub last-passed : (r : Row) → r .holds ≡ false → firstRow (r ∷ []) ≡ a
 unfolding firstRow
 last-passed r e = rw e
 
+-- the first row that holds is given
 pub gives : (rs : List Row) (i : ℕ) → i < length rs → Given rs i → firstRow rs ≡ answer (at rs i .number) (at rs i .place)
 gives [] i l g = absurd (omega arith)
 gives (r ∷ rs) zero l g = row-given r rs (g .0)

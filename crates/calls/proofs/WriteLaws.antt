@@ -8,8 +8,8 @@ use lib.ListN.{length, drop}
 use lib.Dec.{eqb, ltb, leb}
 use borrow.Author.Tests.{eq-eqb, ne-eqb, lt-ltb, le-ltb, eqb-false, not-false}
 use Rattle.blocks.specs.Pick.{pick}
-use Rattle.blocks.specs.Bytes.{store, blockCount, blockAt, storeBlock, storeAll}
-use Rattle.blocks.specs.Descriptor.{descriptorAt, tailAt}
+use Rattle.blocks.specs.Bytes.{blockCount, blockAt, storeBlock, storeAll}
+use Rattle.blocks.specs.Descriptor.{tailAt}
 use Rattle.blocks.specs.Chain.{chain, descriptors, regionsOf, activeOf}
 use Rattle.blocks.specs.declared.numbers.Physical.{Physical}
 use Rattle.blocks.specs.declared.descriptor.Descriptor.{Descriptor}

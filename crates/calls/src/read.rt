@@ -23,7 +23,7 @@ ghost use Rattle.entries.specs.Through.{Through};
 ghost use Rattle.entries.specs.Entry.{find as finding};
 ghost use Rattle.calls.specs.Call.{Read, Block};
 ghost use Rattle.calls.specs.Parts.{isSnapshot, targetIndex};
-ghost use Rattle.calls.specs.Effect.{Delivered, delivered};
+ghost use Rattle.calls.specs.Effect.{delivered};
 ghost use Rattle.calls.specs.Step.{step};
 
 // Whether a name is given that is none: the bytes beside the active store are not looked at.

@@ -7,7 +7,7 @@ use blocks::descriptor::Descriptor;
 use blocks::name;
 use blocks::numbers::Physical;
 ghost use mathlib.Core.Path.{_≡_};
-ghost use Prim.Native.Nat.{_+_, _*_, _≤_, _<_};
+ghost use Prim.Native.Nat.{_+_, _*_, _≤_};
 ghost use lib.ListN.{length};
 ghost use Rattle.blocks.specs.Bytes.{storeBlock};
 ghost use Rattle.blocks.specs.Descriptor.{physical, tailAt, descriptorBlock, renamedOf, linkedOf};

@@ -11,7 +11,7 @@ use borrow.Author.Tests.{ltb-true, leb-false, not-false}
 use Rattle.blocks.specs.Pick.{pick}
 use Rattle.blocks.specs.Bytes.{part, blockCount, blockAt, storeAll}
 use Rattle.blocks.specs.Descriptor.{noDescriptor, descriptorAt}
-use Rattle.blocks.specs.Chain.{Sound, chain, descriptors, named, activeOf}
+use Rattle.blocks.specs.Chain.{Sound, chain, named, activeOf}
 use Rattle.blocks.specs.declared.descriptor.Descriptor.{Descriptor}
 use Rattle.blocks.proofs.ByteLaws.{part-part}
 use Rattle.blocks.proofs.ChainLaws.{cost-least, region-volume}
@@ -22,7 +22,7 @@ use Rattle.entries.specs.declared.find.Found.{Found}
 use Rattle.calls.specs.declared.answer.Answer.{Answer}
 use Rattle.calls.specs.declared.answer.Target.{Target}
 use Rattle.calls.specs.declared.answer.Target.the-variants.{Active, Snapshot}
-use Rattle.calls.specs.Call.{Call, Ream, Read, Write, Snap, Revert, Listing, Check, Lent, Block, answer, accepted}
+use Rattle.calls.specs.Call.{Call, Ream, Read, Write, Snap, Revert, Listing, Check, Lent, Block, answer}
 use Rattle.calls.specs.Parts.{areaBad, descriptorsOf, snapshotsOf, indexOf, isSnapshot, targetOf, isMisplaced, holderOf, blockFound}
 use Rattle.calls.specs.Check.{checkAll, checkCard}
 use Rattle.calls.specs.Ladder.{Row, row, firstRow, reamRows, readRows, writeRows, snapRows, revertRows, listRows, checkRows, rowsOf, answerOf}

@@ -11,12 +11,12 @@ use borrow.Author.Tests.{ltb-true, not-false, ne-eqb}
 use Rattle.blocks.specs.Bytes.{part, blockCount, blockAt, store, storeAll}
 use Rattle.blocks.specs.Name.{isName}
 use Rattle.blocks.specs.Descriptor.{physical, costOf, noDescriptor, descriptorAt, tailAt, descriptorBlock, renamedOf, linkedOf, copying, reservedOk, phiOk}
-use Rattle.blocks.specs.Chain.{formOk, regionOk, named, sound, Sound, chain, chainSound, activeOf}
+use Rattle.blocks.specs.Chain.{formOk, regionOk, named, Sound, chain, chainSound, activeOf}
 use Rattle.blocks.specs.declared.descriptor.Descriptor.{Descriptor}
 use Rattle.blocks.proofs.DescriptorLaws.{Fits, tail-length}
 use Rattle.blocks.proofs.SoundLaws.{form-most, form-layout}
 use Rattle.blocks.proofs.ChainLaws.{region-long, region-end, cost-least}
-use Rattle.blocks.proofs.LinkedLaws.{Linked, last, chain-linked, chain-few, linked-some, linked-rise, region-start-suc, region-start-zero}
+use Rattle.blocks.proofs.LinkedLaws.{Linked, chain-linked, chain-few, linked-some, linked-rise, region-start-suc, region-start-zero}
 use Rattle.blocks.proofs.NameLaws.{name-size}
 use Rattle.calls.specs.Call.{Revert}
 use Rattle.calls.specs.Parts.{areaBad, descriptorsOf, snapshotsOf, withName, indexOf}

@@ -28,7 +28,7 @@ use Rattle.entries.specs.declared.find.Found.the-variants.{Misplaced, Entry}
 use Rattle.entries.proofs.EntryLaws.{through-alpha, through-beta, need-more}
 use Rattle.entries.proofs.SetLaws.{table-length, tail-with-length}
 use Rattle.calls.specs.declared.answer.Record.{Record}
-use Rattle.calls.specs.Call.{Call, Ream, Read, Write, Snap, Revert, Listing, Check, Records, accepted}
+use Rattle.calls.specs.Call.{Call, Ream, Read, Write, Snap, Revert, Listing, Check, Records}
 use Rattle.calls.specs.Parts.{areaBad, descriptorsOf, snapshotsOf, withName, indexOf, foundThrough}
 use Rattle.calls.specs.Ladder.{reamRows, writeRows, snapRows, revertRows, listRows, rowsOf, answerOf}
 use Rattle.calls.specs.Effect.{WriteReady, snapping, reverting, storesOf, recordOf, listed, filledOf}

@@ -3,9 +3,9 @@ use mathlib.Core.Path.{_≡_, refl, sym, ap, _∙_, subst}
 use mathlib.Core.Logic.{_⊎_, inl, inr}
 use mathlib.Core.Bool.{Bool, true, false, _&&_}
 use mathlib.Core.List.{List, [], _∷_, _++_}
-use Prim.Native.Nat.{ℕ, suc, _+_, _<_}
+use Prim.Native.Nat.{ℕ, suc, _+_}
 use native.Mathlib.Omega.{arith}
-use lib.ListN.{length, take, drop, getD, take-append-drop}
+use lib.ListN.{drop, take-append-drop}
 use lib.Seq.{append-snoc}
 use Rattle.blocks.specs.Pick.{pick, same}
 use Rattle.blocks.specs.Bytes.{storeAll}
@@ -20,7 +20,7 @@ use Rattle.calls.specs.Parts.{descriptorsOf, snapshotsOf, indexOf}
 use Rattle.calls.specs.Ladder.{answerOf}
 use Rattle.calls.specs.Effect.{storesOf}
 use Rattle.calls.specs.Step.{step, after, isAccepted}
-use Rattle.claims.specs.History.{isReam, isFormat, Standing, none, more, isSnapOf, Position, Nowhere, At, latestFrom, latestSnap}
+use Rattle.claims.specs.History.{isReam, isFormat, Standing, more, isSnapOf, Position, Nowhere, At, latestFrom, latestSnap}
 use Rattle.claims.specs.Claims.{Unsnapped, end, then, LastSnap}
 use Rattle.claims.proofs.Changed.{named-append, named-left}
 use Rattle.claims.proofs.ChainAfter.{before, snapshots-snoc, reverted-chain}

@@ -7,10 +7,9 @@ use native.Mathlib.Omega.{arith}
 use lib.ListN.{length}
 use lib.Seq.{append-snoc}
 use borrow.Author.Tests.{ne-eqb}
-use Rattle.blocks.specs.Pick.{same}
 use Rattle.blocks.specs.Bytes.{u32At, part, blockCount, blockAt}
 use Rattle.blocks.specs.Descriptor.{costOf, descriptorAt}
-use Rattle.blocks.specs.Chain.{formOk, regionOk, sound, Sound, chainFrom, chain, ends}
+use Rattle.blocks.specs.Chain.{formOk, regionOk, sound, Sound, chainFrom, chain}
 use Rattle.blocks.specs.declared.descriptor.Descriptor.{Descriptor}
 use Rattle.blocks.proofs.ByteLaws.{u32-part, part-part}
 use Rattle.blocks.proofs.ChainLaws.{cost-least}

@@ -14,7 +14,7 @@ use Rattle.blocks.specs.Descriptor.{cost}
 use Rattle.calls.specs.Parts.{areaBad}
 use Rattle.calls.specs.declared.answer.Answer.{Answer}
 use Rattle.calls.specs.Call.{Call, Ream, Read, Write, Snap, Revert, Listing, Check, answer, accepted}
-use Rattle.calls.specs.Ladder.{row, firstRow, reamRows, readRows, writeRows, snapRows, revertRows, listRows, checkRows, rowsOf, answerOf}
+use Rattle.calls.specs.Ladder.{firstRow, reamRows, readRows, writeRows, snapRows, revertRows, listRows, checkRows, rowsOf, answerOf}
 use Rattle.calls.specs.Effect.{storesOf, lentOf}
 use Rattle.calls.specs.Step.{step, isAccepted}
 use Rattle.claims.specs.History.{betaOf, formattable, formatted}

@@ -3,7 +3,7 @@ use mathlib.Core.Path.{_≡_, refl, sym, ap, _∙_, subst}
 use mathlib.Core.Logic.{_⊎_, inl, inr}
 use mathlib.Core.Bool.{Bool, true, _&&_, _||_}
 use mathlib.Core.List.{List, _++_}
-use Prim.Native.Nat.{ℕ, zero, _+_, _*_, _≤_, _<_}
+use Prim.Native.Nat.{ℕ, _+_, _*_, _≤_, _<_}
 use native.Mathlib.Omega.{arith}
 use lib.ListN.{length, take, drop, length-append}
 use lib.Seq.{drop-append-add, drop-at}
@@ -13,7 +13,7 @@ use Rattle.blocks.specs.Pick.{same}
 use Rattle.blocks.specs.Bytes.{splice, part, blockAt}
 use Rattle.blocks.specs.Name.{isName}
 use Rattle.blocks.specs.Descriptor.{costOf, mark, descriptorAt, headBytes, tailAt, descriptorBlock, reservedOk, phiOk}
-use Rattle.blocks.specs.Chain.{formOk, regionOk, sound}
+use Rattle.blocks.specs.Chain.{formOk, regionOk}
 use Rattle.blocks.specs.declared.descriptor.Descriptor.{Descriptor}
 use Rattle.blocks.proofs.Tests.{and-left, and-right}
 use Rattle.blocks.proofs.BoolLaws.{or-true}

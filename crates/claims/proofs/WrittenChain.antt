@@ -21,7 +21,7 @@ use Rattle.blocks.proofs.ByteLaws.{length-le32, part-before, store-length, stor
 use Rattle.blocks.proofs.DescriptorLaws.{Fits, tail-length}
 use Rattle.blocks.proofs.SoundLaws.{form-most, form-layout}
 use Rattle.blocks.proofs.ChainLaws.{region-long, region-end, cost-least}
-use Rattle.blocks.proofs.LinkedLaws.{Linked, last, more, chain-linked, chain-few, linked-some}
+use Rattle.blocks.proofs.LinkedLaws.{Linked, last, chain-linked, chain-few, linked-some}
 use Rattle.blocks.proofs.NameLaws.{name-size}
 use Rattle.entries.specs.InPlace.{isDescriptor, inPlace}
 use Rattle.entries.specs.Entry.{tableOf, entryAt, entryFound, find, tableIsNew, need, tableWith, tailWith, setInTable, setInNewTable, writing}

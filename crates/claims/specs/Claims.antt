@@ -24,7 +24,7 @@ use Rattle.calls.specs.Call.{Call, Ream, Read, Write, Snap, Revert, Listing, Ch
 use Rattle.calls.specs.Parts.{areaBad, descriptorsOf, snapshotsOf, indexOf, withName, isSnapshot, targetOf, foundThrough}
 use Rattle.calls.specs.Check.{Passes}
 use Rattle.calls.specs.Ladder.{row, rowsOf, answerOf}
-use Rattle.claims.specs.Algorithms.{Sigma, closeRegion, algorithm1, algorithm2, algorithm3, algorithm4, algorithm5, algorithm6}
+use Rattle.claims.specs.Algorithms.{closeRegion, algorithm1, algorithm2, algorithm3, algorithm4, algorithm5, algorithm6}
 use Rattle.calls.specs.Step.{step, after, outcomes, isAccepted}
 use Rattle.claims.specs.History.{betaOf, Agree, isReam, isFormat, AreBytes, Standing, isSnapOf, Position, Nowhere, At, latestSnap, without, formattable, formatted}
 use Rattle.claims.specs.Ledger.{Ledger, ledgerStep, ledgerNumber, cellRead, ledgerNames, ledgerOf}

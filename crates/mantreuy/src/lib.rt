@@ -13,8 +13,8 @@ use calls::write;
 ghost use mathlib.Core.Path.{_≡_};
 ghost use Rattle.calls.specs.Call.{Ream, Read, Write, Snap, Revert, Check, None, Block, answer};
 ghost use Rattle.calls.specs.Step.{step};
-ghost use Rattle.mantreuy.specs.Exported.{done, nameIn, targetIn, Padding, paddingOf};
-ghost use Rattle.mantreuy.specs.RecordBytes.{ListedBytes, listingOf};
+ghost use Rattle.mantreuy.specs.Exported.{done, nameIn, targetIn, paddingOf};
+ghost use Rattle.mantreuy.specs.RecordBytes.{listingOf};
 
 pub mod argument; // names and targets as a caller gives them
 pub mod record; // records as bytes

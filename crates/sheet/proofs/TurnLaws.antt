@@ -1,27 +1,26 @@
 -- Laws of the program's turns: a line asks for at most 64 blocks, and turn after turn is the fold of the sheet's lines.
-use mathlib.Core.Path.{_≡_, refl, sym, ap, _∙_, subst}
-use mathlib.Core.Bool.{Bool, true, false, not, _&&_}
+use mathlib.Core.Path.{_≡_, refl, sym, ap, _∙_}
+use mathlib.Core.Bool.{Bool, true, false, _&&_}
 use mathlib.Core.List.{List, [], _∷_, _++_}
 use Prim.Native.Nat.{ℕ, zero, suc, _+_, _≤_, _<_}
 use native.Mathlib.Omega.{arith}
-use lib.ListN.{length, drop, replicate}
-use lib.Dec.{eqb, ltb, leb}
-use borrow.Author.Tests.{leb-true, lt-ltb, le-ltb, ltb-true, ltb-false}
+use lib.ListN.{length, drop}
+use lib.Dec.{ltb, leb}
+use borrow.Author.Tests.{leb-true, le-ltb, ltb-true, ltb-false}
 use Rattle.blocks.specs.Pick.{pick, same}
 use Rattle.blocks.specs.Bytes.{splice, part}
 use Rattle.blocks.specs.Name.{padded, noName}
 use Rattle.blocks.specs.declared.numbers.Logical.{Logical}
 use Rattle.calls.specs.declared.answer.Target.the-variants.{Active, Snapshot}
 use Rattle.blocks.proofs.BoolLaws.{no}
-use Rattle.cutter.specs.declared.line.SheetCall.the-variants.{Malformed, Ream, Write, Read, Snap, Revert, List as Listing, Check}
+use Rattle.cutter.specs.declared.line.SheetCall.the-variants.{Ream, Write, Read, Snap, Revert, List as Listing, Check}
 use Rattle.cutter.specs.declared.line.Line.{Line}
 use Rattle.cutter.specs.declared.line.Cut.{Cut}
 use Rattle.cutter.specs.Words.{opReam, keyLayout, keyBlocks, keyVolume, keyName, opWrite, opRead, keyBlock, keyFill, keyFrom, opSnap, opRevert, opList, opCheck, star}
-use Rattle.cutter.specs.Grammar.{SheetLine, hasKey, valueOf, hasNumber, numberOf, lineWith, malformed, logical, lineOfOne, lineOfTwo, readFrom, lineOfWrite, lineOfRead, lineOfThree, lineOfFive, lineOfWords, wordsOf, lineOf, lineLength, linesOf, lineIn, cutAt}
-use Rattle.cutter.proofs.LineLaws.{lineAt, cut-lines, cut-line-in, lines-none}
+use Rattle.cutter.specs.Grammar.{hasKey, valueOf, hasNumber, numberOf, lineWith, malformed, logical, lineOfOne, lineOfTwo, readFrom, lineOfWrite, lineOfRead, lineOfThree, lineOfFive, lineOfWords, wordsOf, lineOf, lineLength, linesOf, cutAt}
+use Rattle.cutter.proofs.LineLaws.{cut-lines, cut-line-in, lines-none}
 use Rattle.sheet.specs.declared.run.Ran.{Ran}
-use Rattle.sheet.specs.declared.next.Turn.{Turn}
-use Rattle.sheet.specs.Sheet.{State, After, blocksOf, sizeOf, afterLine, stateAfter, printed, turnOf, stateTurned, turnsText, linesText, start, tooLong, sheetText, TurnsClaim}
+use Rattle.sheet.specs.Sheet.{State, After, blocksOf, sizeOf, afterLine, stateAfter, printed, turnOf, turnsText, linesText, start, tooLong, sheetText, TurnsClaim}
 
 -- a line asks for at most 64 blocks
 abbrev Small : Line → Type 0

@@ -7,12 +7,11 @@ use lib.ListN.{length, take, drop, getD, replicate}
 use lib.Dec.{ltb}
 use Rattle.blocks.specs.Pick.{pick}
 use Rattle.blocks.specs.Bytes.{blockSize, zeroBlock}
-use Rattle.calls.specs.declared.answer.Answer.{Answer}
 use Rattle.calls.specs.declared.answer.Record.{Record}
 use Rattle.calls.specs.Call.{Call, Ream, Read, Write, Snap, Revert, Listing, Check, Lent, None, Block, Records, answer}
 use Rattle.calls.specs.Parts.{descriptorsOf}
 use Rattle.calls.specs.Effect.{noRecord}
-use Rattle.calls.specs.Step.{Done, step, isAccepted}
+use Rattle.calls.specs.Step.{step, isAccepted}
 use Rattle.cutter.specs.declared.line.SheetCall.{SheetCall}
 use Rattle.cutter.specs.declared.line.SheetCall.the-variants as line
 use Rattle.cutter.specs.declared.line.Line.{Line}

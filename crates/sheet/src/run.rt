@@ -1,5 +1,4 @@
 // One line of a work sheet.
-use blocks::bytes;
 use blocks::numbers::Logical;
 use calls::answer::Answer;
 use calls::answer::Record;

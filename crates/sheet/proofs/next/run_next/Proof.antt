@@ -1,5 +1,5 @@
 -- `run_next` meets its contract: the line is cut, run and printed.
-use mathlib.Core.Path.{_≡_, sym, subst}
+use mathlib.Core.Path.{sym, subst}
 use Prim.Native.Nat.{_≤_}
 use Rattle.cutter.specs.declared.line.Cut.{Cut}
 use Rattle.sheet.specs.Sheet.{sizeOf}
