@@ -43,7 +43,7 @@ pub fn is_reserved(reserved: &[u8]) -> bool
 }
 
 // Whether the name in block `p` is one. It is judged where it stands: a copy would have to be stored first.
-pub fn is_called(card: &[u8], p: Physical) -> bool
+fn is_called(card: &[u8], p: Physical) -> bool
     requires { ⌜ 512 * p .0 + 512 ≤ length (now card) ⌝ }
     ensures { λ r. ⌜ r ≡ isName (descriptorAt (now (card .entry)) (p .0) .name) ⌝ }
 {
@@ -152,7 +152,7 @@ pub fn is_named(card: &[u8], starts: &[u32], k: usize, name: [u8; 16]) -> bool
 }
 
 // The same, where `keys` has a flag for the key of each of their names: a key without one is of no name among them.
-pub fn is_repeated(card: &[u8], starts: &[u32], k: usize, keys: &[bool], name: [u8; 16]) -> bool
+fn is_repeated(card: &[u8], starts: &[u32], k: usize, keys: &[bool], name: [u8; 16]) -> bool
     requires { ⌜ Keyed (now card) (now starts) k (now keys) × (k ≤ length (now starts)) × ((j : ℕ) → j < k → 512 * getD (now starts) j 0 + 512 ≤ length (now card)) ⌝ }
     ensures { λ r. ⌜ r ≡ named (descriptorsAt (now (card .entry)) (take k (now (starts .entry)))) name ⌝ }
 {
@@ -183,7 +183,7 @@ fn unsound(p: u32) -> Regions
 }
 
 // Whether the descriptor `d` in block `p` of `n` is formed and placed as it must be.
-pub fn is_right(card: &[u8], first: Descriptor, n: usize, p: Physical, d: Descriptor) -> bool
+fn is_right(card: &[u8], first: Descriptor, n: usize, p: Physical, d: Descriptor) -> bool
     requires { ⌜ (512 * p .0 + 512 ≤ length (now card)) × (d ≡ descriptorAt (now card) (p .0)) ⌝ }
     ensures { λ r. ⌜ r ≡ (formOk (now (card .entry)) (p .0) d && regionOk first n (p .0) d) ⌝ }
 {
@@ -191,16 +191,6 @@ pub fn is_right(card: &[u8], first: Descriptor, n: usize, p: Physical, d: Descri
         return false;
     }
     is_placed(first, n, p, d)
-}
-
-// The sixteen bytes of the name in block `p`.
-fn name_at(card: &[u8], p: Physical) -> [u8; 16]
-    requires { ⌜ 512 * p .0 + 512 ≤ length (now card) ⌝ }
-    ensures { λ r. ⌜ r ≡ descriptorAt (now (card .entry)) (p .0) .name ⌝ }
-{
-    let mut name = [0u8; 16];
-    bytes::get_bytes(card, 512 * (p.0 as usize) + 24, &mut name);
-    name
 }
 
 // Walks the chain of the card. A flag for each name's key says of most names that no earlier descriptor has them.
@@ -246,7 +236,7 @@ pub fn walk_chain(card: &[u8]) -> Regions
 }
 
 // The next of region `k` of `count`, which ends at block `end`.
-fn next_of(end: u32, k: usize, count: usize) -> Physical
+pub fn next_of(end: u32, k: usize, count: usize) -> Physical
     requires { ⌜ k < count ⌝ }
     ensures { λ r. ⌜ r ≡ physical (pick (eqb (k + 1) count) 0 end) ⌝ }
 {
@@ -269,7 +259,7 @@ pub fn descriptor_of(
 {
     let start = starts[k];
     let end = starts[k + 1];
-    let name = name_at(card, Physical(start));
+    let name = descriptor::name_at(card, Physical(start));
     Descriptor {
         layout: active.layout,
         volume: active.volume,

@@ -79,14 +79,23 @@ impl Descriptor {
     }
 }
 
+// The sixteen bytes of the name in block `p`.
+pub fn name_at(card: &[u8], p: Physical) -> [u8; 16]
+    requires { ⌜ 512 * p .0 + 512 ≤ length (now card) ⌝ }
+    ensures { λ r. ⌜ r ≡ descriptorAt (now (card .entry)) (p .0) .name ⌝ }
+{
+    let mut name = [0u8; 16];
+    bytes::get_bytes(card, 512 * (p.0 as usize) + 24, &mut name);
+    name
+}
+
 // The descriptor in block `p`.
 pub fn read_descriptor(card: &[u8], p: Physical) -> Descriptor
     requires { ⌜ 512 * p .0 + 512 ≤ length (now card) ⌝ }
     ensures { λ r. ⌜ r ≡ descriptorAt (now (card .entry)) (p .0) ⌝ }
 {
     let at = 512 * (p.0 as usize);
-    let mut name = [0u8; 16];
-    bytes::get_bytes(card, at + 24, &mut name);
+    let name = name_at(card, p);
     Descriptor {
         layout: bytes::get_u32(card, at + 4),
         volume: bytes::get_u32(card, at + 8),
@@ -138,10 +147,6 @@ pub fn store_descriptor(card: &mut [u8], from: Physical, p: Physical, d: Descrip
     requires { ⌜ (512 * from .0 + 512 ≤ length (now card)) × (512 * p .0 + 512 ≤ length (now card)) ⌝ }
     ensures { λ _. ⌜ now (card .exit) ≡ storeBlock (now (card .entry)) (p .0) (descriptorBlock d (tailAt (now (card .entry)) (from .0))) ⌝ }
 {
-    if from.0 == p.0 {
-        put_descriptor(card, p, d);
-        return;
-    }
     bytes::copy_block(card, from, p);
     put_descriptor(card, p, d);
 }

@@ -10,14 +10,8 @@ cast-at c = search needs
 mul-at : tie.Need-mul-at
 mul-at c = search needs
 
-add-get-bytes : tie.Need-add-get-bytes
-add-get-bytes c = search needs
-
-slice-aggregate-get-bytes : tie.Need-slice-aggregate-get-bytes
-slice-aggregate-get-bytes c = search needs
-
-get-bytes-requires : tie.Need-get-bytes-requires
-get-bytes-requires c κs = search needs
+name-at-requires : tie.Need-name-at-requires
+name-at-requires c κs = search needs
 
 add-get-u32 : tie.Need-add-get-u32
 add-get-u32 c = search needs
@@ -59,9 +53,7 @@ read-descriptor-spec =
     (tie.spec
     cast-at
     mul-at
-    add-get-bytes
-    slice-aggregate-get-bytes
-    get-bytes-requires
+    name-at-requires
     add-get-u32
     get-u32-requires
     add-get-u32-2

@@ -1,8 +1,8 @@
 -- `name_at` meets its contract: the bytes are read where the definition reads them.
 use borrow.Author.Needs.{needs}
 use Rattle.blocks.specs.Descriptor.{descriptorAt}
-use Rattle.blocks.proofs.chain.name_at.Statement.{statement}
-use Rattle.blocks.proofs.chain.name_at.Tie as tie
+use Rattle.blocks.proofs.descriptor.name_at.Statement.{statement}
+use Rattle.blocks.proofs.descriptor.name_at.Tie as tie
 
 cast-get-bytes : tie.Need-cast-get-bytes
 cast-get-bytes c = search needs
