@@ -5,10 +5,10 @@ use mathlib.Core.List.{List, [], _∷_, _++_}
 use Prim.Native.Nat.{ℕ, zero, suc, _+_, _*_, _-_, _/_, _≤_, _<_}
 use native.Mathlib.Numerals.{add-one}
 use native.Mathlib.Omega.{arith}
-use lib.ListN.{length, take, drop, getD, set, replicate, length-append, length-take, length-set, drop-of-length-le}
-use lib.Seq.{drop-cons, take-suc, getD-take, take-set-le, getD-set-same, getD-set-other, set-at, append-snoc}
+use lib.ListN.{length, take, getD, set, replicate, length-append, length-take, length-set}
+use lib.Seq.{take-suc, take-set-le, getD-set-same, getD-set-other, set-at, append-snoc}
 use lib.Dec.{eqb, ltb, leb}
-use borrow.Author.Tests.{ne-eqb, eqb-true, eqb-false, ltb-true, ltb-false, leb-true, not-true, not-false}
+use borrow.Author.Tests.{ne-eqb, eqb-true, eqb-false, ltb-true, ltb-false, le-ltb, leb-true, not-true, not-false}
 use Rattle.blocks.specs.Pick.{pick, same}
 use Rattle.blocks.specs.Bytes.{blockCount}
 use Rattle.blocks.specs.Descriptor.{physical, tableCount, cost, costOf, descriptorAt}
@@ -20,30 +20,7 @@ use Rattle.blocks.specs.declared.chain.Regions.{Regions}
 use Rattle.blocks.proofs.Tests.{and-left, and-right}
 use Rattle.blocks.proofs.BoolLaws.{and-false-mid}
 use Rattle.blocks.proofs.ListLaws.{same-equal}
-
--- whether one of the blocks from index j up to index k holds a descriptor with the name
-unfoldable pub namedFrom : List ℕ → List ℕ → ℕ → List ℕ → ℕ → Bool
-namedFrom c starts k name j = named (descriptorsAt c (drop j (take k starts))) name
-
-module _ (c starts : List ℕ) (k : ℕ) (name : List ℕ) where
-  pub named-start : named (descriptorsAt c (take k starts)) name ≡ namedFrom c starts k name 0
-  unfolding namedFrom
-  named-start = refl
-
-  module _ (j : ℕ) (more : j < k) (long : k ≤ length starts) where
-    named-step : namedFrom c starts k name j ≡ (same (descriptorAt c (getD starts j 0) .name) name || namedFrom c starts k name (j + 1))
-    unfolding namedFrom named descriptorsAt
-    named-step = rw (add-one, drop-cons (take k starts) j 0 (simp length-take (omega arith)), getD-take k starts j 0 more)
-
-    pub named-stop : (b : Bool) → b ≡ same (descriptorAt c (getD starts j 0) .name) name → b ≡ true → namedFrom c starts k name j ≡ true
-    named-stop b e h = named-step ∙ rw (← e, h)
-
-    pub named-more : (b : Bool) → b ≡ same (descriptorAt c (getD starts j 0) .name) name → b ≡ false → namedFrom c starts k name j ≡ namedFrom c starts k name (j + 1)
-    named-more b e h = named-step ∙ rw (← e, h)
-
-  pub named-end : (j : ℕ) → k ≤ j → namedFrom c starts k name j ≡ false
-  unfolding namedFrom named descriptorsAt
-  named-end j h = rw (drop-of-length-le (take k starts) {i = j} (simp length-take (omega arith)))
+use Rattle.blocks.proofs.NamedLaws.{indexFrom, index-start, index-more, index-end, named-index, length-descriptors}
 
 -- names passed: where the key of a name has no flag, none of them is that name
 key-apart : (keys : List Bool) (a name : List ℕ) → getD keys (keyOf a) false ≡ true → getD keys (keyOf name) false ≡ false → (b : Bool) → same a name ≡ b → b ≡ false
@@ -53,31 +30,27 @@ key-apart keys a name f g true e =
 key-apart keys a name f g false e = refl
 
 module _ (c starts : List ℕ) (k : ℕ) (keys : List Bool) (keyed : Keyed c starts k keys) (long : k ≤ length starts) (name : List ℕ) where
-  none-from-key : getD keys (keyOf name) false ≡ false → (left : ℕ) (j : ℕ) → j + left ≡ k → namedFrom c starts k name j ≡ false
-  none-from-key g zero j e = named-end c starts k name j (omega arith)
+  none-from-key : getD keys (keyOf name) false ≡ false → (left : ℕ) (j : ℕ) → j + left ≡ k → indexFrom c starts k name j ≡ k
+  none-from-key g zero j e = index-end c starts k name j (omega arith) ∙ omega (arith, e)
   none-from-key g (suc left) j e =
-      named-more c starts k name j (omega arith) long (same (descriptorAt c (getD starts j 0) .name) name) refl
+      index-more c starts k name j (omega arith) long (same (descriptorAt c (getD starts j 0) .name) name) refl
       (key-apart keys (descriptorAt c (getD starts j 0) .name) name (keyed .each j (omega arith)) g (same (descriptorAt c (getD starts j 0) .name) name) refl)
       ∙ none-from-key g left (j + 1) (omega arith)
 
   pub key-fresh : (key : ℕ) → key ≡ keyOf name → not (getD keys key false) ≡ true → false ≡ named (descriptorsAt c (take k starts)) name
   key-fresh key e h =
       let g : getD keys (keyOf name) false ≡ false = ap (λ (x : ℕ). getD keys x false) (sym e) ∙ not-true (getD keys key false) h in
-      sym (named-start c starts k name ∙ none-from-key g k 0 (omega arith))
+      let i = index-start c starts k name ∙ none-from-key g k 0 (omega arith) in
+      sym (le-ltb k k (omega arith)) ∙ named-index c starts k long name k (sym i)
 
 pub keyed-none : (c starts : List ℕ) (keys : List Bool) → length keys ≡ 1024 → Keyed c starts 0 keys
 keyed-none c starts keys long = record { long = long; each = λ j h. absurd (omega arith) }
 
--- descriptors of one more block, and how many there are
+-- descriptors of one more block
 pub descriptors-snoc : (c : List ℕ) (ps : List ℕ) (p : ℕ) → descriptorsAt c (ps ++ (p ∷ [])) ≡ descriptorsAt c ps ++ (descriptorAt c p ∷ [])
 unfolding descriptorsAt
 descriptors-snoc c [] p = refl
 descriptors-snoc c (q ∷ ps) p = rw (descriptors-snoc c ps p)
-
-pub length-descriptors : (c : List ℕ) (ps : List ℕ) → length (descriptorsAt c ps) ≡ length ps
-unfolding descriptorsAt
-length-descriptors c [] = refl
-length-descriptors c (p ∷ ps) = ap suc (length-descriptors c ps)
 
 -- one more region
 ends-snoc : (ds : List Descriptor) (d : Descriptor) → ends (ds ++ (d ∷ [])) ≡ ends ds ++ (d .beta .0 ∷ [])

@@ -6,5 +6,6 @@ pub mod ListLaws
 pub mod NameLaws
 pub mod DescriptorLaws
 pub mod SoundLaws
+pub mod NamedLaws
 pub mod ChainLaws
 pub mod LinkedLaws

@@ -36,10 +36,14 @@ regionOk first n p d =
     && leb (d .beta .0) n
     && (eqb (d .next .0) 0 || (eqb (d .next .0) (d .beta .0) && ltb (d .beta .0) n))
 
+-- the index of the first descriptor of the list that has the name, or how many there are
+unfoldable pub indexOf : List Descriptor → List ℕ → ℕ
+indexOf [] name = 0
+indexOf (d ∷ ds) name = pick (same (d .name) name) 0 (suc (indexOf ds name))
+
 -- whether a descriptor of the list has the name
 unfoldable pub named : List Descriptor → List ℕ → Bool
-named [] name = false
-named (d ∷ ds) name = same (d .name) name || named ds name
+named ds name = ltb (indexOf ds name) (length ds)
 
 -- the descriptors in the blocks of a list
 unfoldable pub descriptorsAt : List ℕ → List ℕ → List Descriptor

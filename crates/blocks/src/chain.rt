@@ -13,7 +13,7 @@ ghost use Rattle.blocks.specs.Pick.{pick, same};
 ghost use Rattle.blocks.specs.Bytes.{part};
 ghost use Rattle.blocks.specs.Name.{isName};
 ghost use Rattle.blocks.specs.Descriptor.{physical, mark, descriptorAt, reservedOk};
-ghost use Rattle.blocks.specs.Chain.{formOk, regionOk, named, descriptorsAt, chain, regionsOf, Unsound};
+ghost use Rattle.blocks.specs.Chain.{formOk, regionOk, indexOf, named, descriptorsAt, chain, regionsOf, Unsound};
 ghost use Rattle.blocks.specs.Walk.{Keyed};
 
 // What a walk along the chain finds. Where every descriptor is sound, `active` is the last, and region k of the chain runs
@@ -135,20 +135,29 @@ pub fn has_name(card: &[u8], p: Physical, name: [u8; 16]) -> bool
     bytes::same_bytes(&card[at..at + 16], &name)
 }
 
+// The index of the first of `n` descriptors that has the name, or `n` where none has it.
+pub fn index_of(card: &[u8], starts: &[u32], n: usize, name: [u8; 16]) -> usize
+    requires { ⌜ (n ≤ length (now starts)) × ((j : ℕ) → j < n → 512 * getD (now starts) j 0 + 512 ≤ length (now card)) ⌝ }
+    ensures { λ r. ⌜ r ≡ indexOf (descriptorsAt (now (card .entry)) (take n (now (starts .entry)))) name ⌝ }
+    ensures { λ r. ⌜ r ≤ n ⌝ }
+{
+    let mut j = 0;
+    while j < n {
+        let p = starts[j];
+        if has_name(card, Physical(p), name) {
+            return j;
+        }
+        j += 1;
+    }
+    j
+}
+
 // Whether one of the descriptors in the first `k` blocks of `starts` has the name.
 pub fn is_named(card: &[u8], starts: &[u32], k: usize, name: [u8; 16]) -> bool
     requires { ⌜ (k ≤ length (now starts)) × ((j : ℕ) → j < k → 512 * getD (now starts) j 0 + 512 ≤ length (now card)) ⌝ }
     ensures { λ r. ⌜ r ≡ named (descriptorsAt (now (card .entry)) (take k (now (starts .entry)))) name ⌝ }
 {
-    let mut j = 0;
-    while j < k {
-        let p = starts[j];
-        if has_name(card, Physical(p), name) {
-            return true;
-        }
-        j += 1;
-    }
-    false
+    index_of(card, starts, k, name) < k
 }
 
 // The same, where `keys` has a flag for the key of each of their names: a key without one is of no name among them.

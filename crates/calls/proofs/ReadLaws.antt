@@ -1,23 +1,23 @@
 -- Laws of the read, as the code asks them.
 use mathlib.Core.Path.{_≡_, refl, sym, ap, _∙_}
 use mathlib.Core.Bool.{Bool, true, false, not, _&&_}
-use mathlib.Core.List.{List, [], _∷_}
-use Prim.Native.Nat.{ℕ, suc, _+_, _-_, _≤_, _<_}
+use mathlib.Core.List.{List}
+use Prim.Native.Nat.{ℕ, _+_, _-_, _≤_, _<_}
 use native.Mathlib.Omega.{arith}
 use lib.ListN.{length, take, drop, getD}
-use lib.Seq.{length-take-le}
 use lib.Dec.{eqb}
 use borrow.Author.Tests.{eq-eqb, ne-eqb, lt-ltb, le-ltb, eqb-true, eqb-false, not-false}
-use Rattle.blocks.specs.Pick.{pick, same}
+use Rattle.blocks.specs.Pick.{pick}
 use Rattle.blocks.specs.Bytes.{blockCount, blockAt, zeroBlock, splice, storeAll}
 use Rattle.blocks.specs.Name.{isName}
 use Rattle.blocks.specs.Descriptor.{descriptorAt}
-use Rattle.blocks.specs.Chain.{chain, descriptors, named, descriptorsAt, regionsOf}
+use Rattle.blocks.specs.Chain.{chain, descriptors, named, descriptorsAt, regionsOf, indexOf}
 use Rattle.blocks.specs.declared.numbers.Physical.{Physical}
 use Rattle.blocks.specs.declared.descriptor.Descriptor.{Descriptor}
 use Rattle.blocks.specs.declared.chain.Regions.{Regions}
 use Rattle.blocks.proofs.ByteLaws.{splice-whole}
-use Rattle.blocks.proofs.ChainLaws.{length-descriptors, region-volume}
+use Rattle.blocks.proofs.NamedLaws.{index-le}
+use Rattle.blocks.proofs.ChainLaws.{region-volume}
 use Rattle.entries.specs.Entry.{find}
 use Rattle.entries.proofs.RegionLaws.{through-region}
 use Rattle.entries.specs.declared.find.Found.{Found}
@@ -26,19 +26,15 @@ use Rattle.calls.specs.declared.answer.Answer.{Answer}
 use Rattle.calls.specs.declared.answer.Target.{Target}
 use Rattle.calls.specs.declared.answer.Target.the-variants.{Active, Snapshot}
 use Rattle.calls.specs.Call.{Call, Read, Block, answer, accepted}
-use Rattle.calls.specs.Parts.{areaBad, snapshotsOf, indexOf, isSnapshot, targetOf, targetIndex, isMisplaced, holderOf, blockFound}
+use Rattle.calls.specs.Parts.{areaBad, snapshotsOf, isSnapshot, targetOf, targetIndex, isMisplaced, holderOf, blockFound}
 use Rattle.calls.specs.Ladder.{firstRow, readRows, rowsOf, answerOf}
 use Rattle.calls.specs.Effect.{Delivered, delivered, lentOf, filledOf, storesOf}
 use Rattle.calls.specs.Step.{Done, step}
-use Rattle.calls.proofs.NamedLaws.{named-index, with-name-index}
 use Rattle.calls.proofs.StepLaws.{step-refused, step-accepted}
 use Rattle.calls.proofs.CardLaws.{card-some, card-snapshots, card-snapshot-count, card-snapshot, card-found, card-active, card-through}
 use Rattle.calls.proofs.RowLaws.{row-given, row-passed, area-passed, block-given, block-passed, chain-given, chain-passed, volume-given, volume-passed}
 
 -- the index of what is read
-pub snapshots-counted : (c starts : List ℕ) (n : ℕ) → n ≤ length starts → length (descriptorsAt c (take n starts)) ≡ n
-snapshots-counted c starts n h = length-descriptors c (take n starts) ∙ length-take-le n starts h
-
 module _ (ss : List Descriptor) (name : List ℕ) (n : ℕ) (counted : length ss ≡ n) where
   pub index-active : n ≡ targetIndex ss Active name
   unfolding targetIndex
@@ -52,22 +48,14 @@ module _ (ss : List Descriptor) (name : List ℕ) (n : ℕ) (counted : length ss
   unfolding targetIndex
   index-some k e h = rw (← e, counted, ne-eqb k n h)
 
-index-le-by : (t : Bool) (i n : ℕ) → i ≤ n → pick t 0 (suc i) ≤ suc n
-index-le-by true i n h = omega arith
-index-le-by false i n h = omega arith
-
-index-le : (ss : List Descriptor) (name : List ℕ) → indexOf ss name ≤ length ss
-unfolding indexOf
-index-le [] name = omega arith
-index-le (d ∷ ss) name = index-le-by (same (d .name) name) (indexOf ss name) (length ss) (index-le ss name)
-
 -- no snapshot has the name exactly where the index is past the chain
 module _ (ss : List Descriptor) (name : List ℕ) where
   missing-by : (t : Bool) → eqb (indexOf ss name) (length ss) ≡ t → not (named ss name) ≡ eqb (pick t (length ss + 1) (indexOf ss name)) (length ss + 1)
-  missing-by true e = rw (named-index ss name, le-ltb (indexOf ss name) (length ss) (omega (arith, eqb-true (indexOf ss name) (length ss) e)), eq-eqb (length ss + 1) (length ss + 1) refl)
+  unfolding named
+  missing-by true e = rw (le-ltb (indexOf ss name) (length ss) (omega (arith, eqb-true (indexOf ss name) (length ss) e)), eq-eqb (length ss + 1) (length ss + 1) refl)
   missing-by false e =
       let l : indexOf ss name < length ss = omega (arith, index-le ss name, eqb-false (indexOf ss name) (length ss) e) in
-      rw (named-index ss name, lt-ltb (indexOf ss name) (length ss) l, ne-eqb (indexOf ss name) (length ss + 1) (omega arith))
+      rw (lt-ltb (indexOf ss name) (length ss) l, ne-eqb (indexOf ss name) (length ss + 1) (omega arith))
 
   pub missing-is : (target : Target) → (isSnapshot target && not (named ss name)) ≡ eqb (targetIndex ss target name) (length ss + 1)
   unfolding targetIndex
@@ -161,7 +149,7 @@ module _ (c : List ℕ) (target : Target) (name : List ℕ) (l : ℕ) (block : L
             let f = found-index (snapshotsOf ds) name (λ h. n (e ∙ h ∙ count-is)) in
             let q : k ≡ indexOf (snapshotsOf ds) name = e ∙ f .1 in
             let s : k < r .count - 1 = omega (arith, f .0, card-snapshot-count c r walked good ok) in
-            (omega arith, with-name-index (snapshotsOf ds) name ∙ rw (← q) (card-snapshot c r walked good ok k s))
+            (omega arith, rw (← q) (card-snapshot c r walked good ok k s))
 
         pub index-inside : (k ≡ r .count → ⊥) → k < r .count
         index-inside n = place-of target index-is n .0

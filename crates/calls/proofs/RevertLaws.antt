@@ -10,14 +10,13 @@ use borrow.Author.Tests.{lt-ltb, le-ltb, not-false}
 use Rattle.blocks.specs.Bytes.{storeBlock, storeAll}
 use Rattle.blocks.specs.Name.{isName}
 use Rattle.blocks.specs.Descriptor.{physical, descriptorAt, tailAt, descriptorBlock, renamedOf, linkedOf}
-use Rattle.blocks.specs.Chain.{chain, descriptors, named, descriptorsAt, regionsOf, activeOf}
+use Rattle.blocks.specs.Chain.{chain, descriptors, indexOf, named, descriptorsAt, regionsOf, activeOf}
 use Rattle.blocks.specs.declared.descriptor.Descriptor.{Descriptor}
 use Rattle.blocks.specs.declared.chain.Regions.{Regions}
 use Rattle.calls.specs.Call.{Revert, answer, accepted}
-use Rattle.calls.specs.Parts.{areaBad, snapshotsOf, withName, indexOf}
+use Rattle.calls.specs.Parts.{areaBad, snapshotsOf, withName}
 use Rattle.calls.specs.Ladder.{firstRow, revertRows, rowsOf, answerOf}
 use Rattle.calls.specs.Effect.{reverting, storesOf}
-use Rattle.calls.proofs.NamedLaws.{named-index, with-name-index}
 use Rattle.calls.proofs.StepLaws.{stored-one}
 use Rattle.calls.proofs.CardLaws.{card-snapshots, card-snapshot-count, card-snapshot, card-alpha, card-at, card-found}
 use Rattle.calls.proofs.RowLaws.{row-given, last-passed, named-passed}
@@ -35,7 +34,8 @@ module _ (c : List ℕ) (name : List ℕ) (bad : Bool) (area : bad ≡ areaBad c
   index-is = index ∙ ap (λ (ds : List Descriptor). indexOf ds name) (card-snapshots c r walked good ok)
 
   found-is : named (snapshotsOf (descriptors (chain c))) name ≡ ltb k (r .count - 1)
-  found-is = named-index (snapshotsOf (descriptors (chain c))) name ∙ rw (← index-is, card-snapshot-count c r walked good ok)
+  unfolding named
+  found-is = rw (← index-is, card-snapshot-count c r walked good ok)
 
   to-found : answerOf (Revert name) c ≡ firstRow (drop 3 (revertRows c name))
   unfolding answerOf rowsOf revertRows
@@ -52,7 +52,7 @@ module _ (c : List ℕ) (name : List ℕ) (bad : Bool) (area : bad ≡ areaBad c
 
     -- the snapshot, and where it stands
     snapshot-is : withName (snapshotsOf (descriptors (chain c))) name ≡ descriptorAt c (getD (r .starts) k 0)
-    snapshot-is = with-name-index (snapshotsOf (descriptors (chain c))) name ∙ rw (← index-is) (card-snapshot c r walked good ok k inside)
+    snapshot-is = rw (← index-is) (card-snapshot c r walked good ok k inside)
 
     alpha-is : descriptorAt c (getD (r .starts) k 0) .alpha .0 ≡ getD (r .starts) k 0
     alpha-is = ap (λ (d : Descriptor). d .alpha .0) (sym (card-at c r walked good ok k (omega arith))) ∙ card-alpha c r walked good ok k (omega arith)

@@ -1,13 +1,13 @@
 -- Parts of a card that the calls speak of: its area, its chain, the active descriptor, a snapshot by name, the block that a read gives.
 use mathlib.Core.Bool.{Bool, true, false, not, _||_}
 use mathlib.Core.List.{List, [], _∷_}
-use Prim.Native.Nat.{ℕ, suc, _+_, _%_}
-use lib.ListN.{length}
+use Prim.Native.Nat.{ℕ, _+_, _%_}
+use lib.ListN.{length, getD}
 use lib.Dec.{eqb, ltb}
-use Rattle.blocks.specs.Pick.{pick, same}
+use Rattle.blocks.specs.Pick.{pick}
 use Rattle.blocks.specs.Bytes.{blockSize, blockCount, blockAt, zeroBlock}
 use Rattle.blocks.specs.Descriptor.{noDescriptor}
-use Rattle.blocks.specs.Chain.{chain, descriptors, activeOf}
+use Rattle.blocks.specs.Chain.{indexOf, chain, descriptors, activeOf}
 use Rattle.blocks.specs.declared.descriptor.Descriptor.{Descriptor}
 use Rattle.entries.specs.Entry.{find}
 use Rattle.entries.specs.declared.find.Found.{Found}
@@ -38,15 +38,9 @@ snapshotsOf [] = []
 snapshotsOf (d ∷ []) = []
 snapshotsOf (d ∷ e ∷ ds) = d ∷ snapshotsOf (e ∷ ds)
 
--- the index of the first descriptor of the list that has the name, or how many there are
-unfoldable pub indexOf : List Descriptor → List ℕ → ℕ
-indexOf [] name = 0
-indexOf (d ∷ ds) name = pick (same (d .name) name) 0 (suc (indexOf ds name))
-
 -- the descriptor of the list that has the name
-unfoldable pub withName : List Descriptor → List ℕ → Descriptor
-withName [] name = noDescriptor
-withName (d ∷ ds) name = pick (same (d .name) name) d (withName ds name)
+abbrev pub withName : List Descriptor → List ℕ → Descriptor
+withName ds name = getD ds (indexOf ds name) noDescriptor
 
 -- whether a read's target is a snapshot, so that a name is given
 abbrev pub isSnapshot : Target → Bool

@@ -53,7 +53,7 @@ fn snapshot_index(card: &[u8], starts: &[u32], last: usize, name: [u8; 16]) -> u
     requires { ⌜ (last < length (now starts)) × ((j : ℕ) → j < last → 512 * getD (now starts) j 0 + 512 ≤ length (now card)) ⌝ }
     ensures { λ r. ⌜ r ≡ targetIndex (descriptorsAt (now (card .entry)) (take last (now (starts .entry)))) Target.Snapshot name ⌝ }
 {
-    let k = area::index_of(card, starts, last, name);
+    let k = chain::index_of(card, starts, last, name);
     if k == last {
         return last + 1;
     }

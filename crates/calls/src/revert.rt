@@ -47,7 +47,7 @@ pub fn revert(card: &mut [u8], name: [u8; 16]) -> Answer
         return Answer { number: 6, place };
     }
     let last = count - 1;
-    let k = area::index_of(card, &starts, last, name);
+    let k = chain::index_of(card, &starts, last, name);
     if k == last {
         return Answer {
             number: 7,

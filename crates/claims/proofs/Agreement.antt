@@ -7,13 +7,14 @@ use native.Mathlib.Omega.{arith}
 use lib.ListN.{length, take, getD}
 use lib.Seq.{length-take-le, getD-take}
 use lib.Dec.{ltb, leb}
-use borrow.Author.Tests.{ltb-true, leb-false, not-false}
+use borrow.Author.Tests.{leb-false, not-false}
 use Rattle.blocks.specs.Pick.{pick}
 use Rattle.blocks.specs.Bytes.{part, blockCount, blockAt, storeAll}
 use Rattle.blocks.specs.Descriptor.{noDescriptor, descriptorAt}
-use Rattle.blocks.specs.Chain.{Sound, chain, named, activeOf}
+use Rattle.blocks.specs.Chain.{Sound, chain, named, activeOf, indexOf}
 use Rattle.blocks.specs.declared.descriptor.Descriptor.{Descriptor}
 use Rattle.blocks.proofs.ByteLaws.{part-part}
+use Rattle.blocks.proofs.NamedLaws.{index-below}
 use Rattle.blocks.proofs.ChainLaws.{cost-least, region-volume}
 use Rattle.blocks.proofs.SoundLaws.{form-most}
 use Rattle.blocks.proofs.LinkedLaws.{Linked, chain-linked, chain-few, regionStart, region-start-zero, region-start-suc, linked-some, linked-end, linked-rise, linked-at, RegionAt, at-alpha, at-long, active-at}
@@ -23,13 +24,12 @@ use Rattle.calls.specs.declared.answer.Answer.{Answer}
 use Rattle.calls.specs.declared.answer.Target.{Target}
 use Rattle.calls.specs.declared.answer.Target.the-variants.{Active, Snapshot}
 use Rattle.calls.specs.Call.{Call, Ream, Read, Write, Snap, Revert, Listing, Check, Lent, Block, answer}
-use Rattle.calls.specs.Parts.{areaBad, descriptorsOf, snapshotsOf, indexOf, isSnapshot, targetOf, isMisplaced, holderOf, blockFound}
+use Rattle.calls.specs.Parts.{areaBad, descriptorsOf, snapshotsOf, isSnapshot, targetOf, isMisplaced, holderOf, blockFound}
 use Rattle.calls.specs.Check.{checkAll, checkCard}
 use Rattle.calls.specs.Ladder.{Row, row, firstRow, reamRows, readRows, writeRows, snapRows, revertRows, listRows, checkRows, rowsOf, answerOf}
 use Rattle.calls.specs.Effect.{storesOf, lentOf, filledOf}
 use Rattle.calls.specs.Step.{Done, step, isAccepted}
 use Rattle.claims.specs.History.{betaOf, Agree}
-use Rattle.calls.proofs.NamedLaws.{named-index, with-name-index}
 use Rattle.calls.proofs.CardLaws.{snapshots-at, chain-is}
 use Rattle.calls.proofs.RowLaws.{rows-passed}
 use Rattle.claims.proofs.Local.{Below, below-linked, linked-chain}
@@ -74,11 +74,10 @@ module _ (ds : List Descriptor) (some : 0 < length ds) where
   target-member Snapshot name h =
       let e = snapshots-at ds some in
       let n : length (snapshotsOf ds) ≡ length ds - 1 = ap length e ∙ length-take-le (length ds - 1) ds (omega arith) in
-      let i : indexOf (snapshotsOf ds) name < length (snapshotsOf ds) = ltb-true _ _ (sym (named-index (snapshotsOf ds) name) ∙ not-false (named (snapshotsOf ds) name) h) in (
+      let i : indexOf (snapshotsOf ds) name < length (snapshotsOf ds) = index-below (snapshotsOf ds) name (not-false (named (snapshotsOf ds) name) h) in (
         indexOf (snapshotsOf ds) name,
         omega arith,
-        with-name-index (snapshotsOf ds) name
-            ∙ ap (λ (xs : List Descriptor). getD xs (indexOf (snapshotsOf ds) name) noDescriptor) e
+        ap (λ (xs : List Descriptor). getD xs (indexOf (snapshotsOf ds) name) noDescriptor) e
             ∙ getD-take (length ds - 1) ds (indexOf (snapshotsOf ds) name) noDescriptor (omega arith),
       )
 

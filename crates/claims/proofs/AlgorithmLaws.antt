@@ -12,13 +12,14 @@ use Rattle.blocks.specs.Pick.{pick}
 use Rattle.blocks.specs.Bytes.{u32At, le32, splice, store, blockCount, blockAt, zeroBlock, storeBlock, storeAll}
 use Rattle.blocks.specs.Name.{isName}
 use Rattle.blocks.specs.Descriptor.{physical, tableCount, cost, costOf, noDescriptor, descriptorAt, headBytes, tailAt, descriptorBlock, renamedOf, linkedOf, extendedOf, reopenedOf, copying}
-use Rattle.blocks.specs.Chain.{chain, chainSound, named, regionsOf, activeOf}
+use Rattle.blocks.specs.Chain.{chain, chainSound, indexOf, named, regionsOf, activeOf}
 use Rattle.blocks.specs.declared.descriptor.Descriptor.{Descriptor}
 use Rattle.blocks.specs.declared.chain.Regions.{Regions}
 use Rattle.blocks.proofs.Tests.{and-left}
 use Rattle.blocks.proofs.BoolLaws.{no, or-true}
 use Rattle.blocks.proofs.ByteLaws.{u32-part, store-length, store-same, store-other, length-blockAt}
 use Rattle.blocks.proofs.DescriptorLaws.{head-length, block-back, tail-length}
+use Rattle.blocks.proofs.NamedLaws.{index-below}
 use Rattle.blocks.proofs.ChainLaws.{cost-least}
 use Rattle.blocks.proofs.LinkedLaws.{at-alpha, RegionAt}
 use Rattle.blocks.proofs.SoundLaws.{form-mark}
@@ -33,14 +34,13 @@ use Rattle.entries.proofs.EntryLaws.{through-alpha, through-beta, through-end, 
 use Rattle.entries.proofs.SetLaws.{table-length, tail-with-length}
 use Rattle.calls.specs.declared.answer.Target.{Target}
 use Rattle.calls.specs.Call.{Call, Read, Write, Snap, Revert, Block}
-use Rattle.calls.specs.Parts.{areaBad, descriptorsOf, snapshotsOf, withName, indexOf, targetOf, foundThrough, isMisplaced, blockFound}
+use Rattle.calls.specs.Parts.{areaBad, descriptorsOf, snapshotsOf, withName, targetOf, foundThrough, isMisplaced, blockFound}
 use Rattle.calls.specs.Ladder.{rowsOf, readRows, writeRows, snapRows, revertRows, answerOf}
 use Rattle.calls.specs.Effect.{storesOf, filledOf, snapping, reverting}
 use Rattle.claims.specs.Algorithms.{Sigma, put, putNumber, copyRange, closeRegion, openRegion, algorithm1, algorithm2, algorithm3, algorithm4, algorithm5, algorithm6}
 use Rattle.calls.specs.Step.{step, isAccepted}
 use Rattle.claims.specs.History.{AreBytes}
 use Rattle.claims.specs.Claims.{AlgorithmClaim}
-use Rattle.calls.proofs.NamedLaws.{named-index, with-name-index}
 use Rattle.calls.proofs.CardLaws.{card-through, card-snapshot, card-snapshot-count}
 use Rattle.calls.proofs.RowLaws.{rows-passed}
 use Rattle.calls.proofs.StepLaws.{stored-append, accepted-card}
@@ -166,8 +166,8 @@ module _ (c : List ℕ) (area : areaBad c ≡ false) (sound : chainSound (chain 
   snapshot-through name called =
       let ss : List Descriptor = snapshotsOf (descriptorsOf c) in
       let ok = regions-ok (chain c) sound in
-      let h : indexOf ss name < r .count - 1 = omega (arith, ltb-true (indexOf ss name) (length ss) (sym (named-index ss name) ∙ called), card-snapshot-count c r refl area ok) in
-      card-through c r refl area ok (indexOf ss name) (omega arith) (withName ss name) (with-name-index ss name ∙ card-snapshot c r refl area ok (indexOf ss name) h)
+      let h : indexOf ss name < r .count - 1 = omega (arith, index-below ss name called, card-snapshot-count c r refl area ok) in
+      card-through c r refl area ok (indexOf ss name) (omega arith) (withName ss name) (card-snapshot c r refl area ok (indexOf ss name) h)
 
 through-name : (c starts : List ℕ) (count : ℕ) (d : Descriptor) → Through c starts count d → length (d .name) ≡ 16
 through-name c starts count d t = name-size (d .name) (form-name c _ d (through-region c starts count d t .form))

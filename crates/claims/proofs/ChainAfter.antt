@@ -7,23 +7,23 @@ use Prim.Native.Nat.{ℕ, zero, suc, _+_, _*_, _≤_, _<_}
 use native.Mathlib.Omega.{arith}
 use lib.ListN.{length, take, drop, length-append}
 use lib.Seq.{split-at}
-use borrow.Author.Tests.{ltb-true, not-false, ne-eqb}
+use borrow.Author.Tests.{not-false, ne-eqb}
 use Rattle.blocks.specs.Bytes.{part, blockCount, blockAt, store, storeAll}
 use Rattle.blocks.specs.Name.{isName}
 use Rattle.blocks.specs.Descriptor.{physical, costOf, noDescriptor, descriptorAt, tailAt, descriptorBlock, renamedOf, linkedOf, copying, reservedOk, phiOk}
-use Rattle.blocks.specs.Chain.{formOk, regionOk, named, Sound, chain, chainSound, activeOf}
+use Rattle.blocks.specs.Chain.{formOk, regionOk, named, Sound, chain, chainSound, activeOf, indexOf}
 use Rattle.blocks.specs.declared.descriptor.Descriptor.{Descriptor}
 use Rattle.blocks.proofs.DescriptorLaws.{Fits, tail-length}
+use Rattle.blocks.proofs.NamedLaws.{index-below}
 use Rattle.blocks.proofs.SoundLaws.{form-most, form-layout}
 use Rattle.blocks.proofs.ChainLaws.{region-long, region-end, cost-least}
 use Rattle.blocks.proofs.LinkedLaws.{Linked, chain-linked, chain-few, linked-some, linked-rise, region-start-suc, region-start-zero}
 use Rattle.blocks.proofs.NameLaws.{name-size}
 use Rattle.calls.specs.Call.{Revert}
-use Rattle.calls.specs.Parts.{areaBad, descriptorsOf, snapshotsOf, withName, indexOf}
+use Rattle.calls.specs.Parts.{areaBad, descriptorsOf, snapshotsOf, withName}
 use Rattle.calls.specs.Ladder.{rowsOf, revertRows, answerOf}
 use Rattle.calls.specs.Effect.{storesOf, reverting}
 use Rattle.calls.specs.Step.{isAccepted}
-use Rattle.calls.proofs.NamedLaws.{named-index, with-name-index}
 use Rattle.calls.proofs.CardLaws.{card-most, chain-is}
 use Rattle.calls.proofs.RowLaws.{rows-passed}
 use Rattle.claims.proofs.Agreement.{end-from}
@@ -67,9 +67,7 @@ abbrev pub behind : List Descriptor → List ℕ → List Descriptor
 behind ss name = drop (suc (indexOf ss name)) ss
 
 name-split : (ss : List Descriptor) (name : List ℕ) → named ss name ≡ true → ss ≡ before ss name ++ (withName ss name ∷ behind ss name)
-name-split ss name h =
-    split-at ss (indexOf ss name) noDescriptor (ltb-true (indexOf ss name) (length ss) (sym (named-index ss name) ∙ h))
-    ∙ ap (λ (d : Descriptor). before ss name ++ (d ∷ behind ss name)) (sym (with-name-index ss name))
+name-split ss name h = split-at ss (indexOf ss name) noDescriptor (index-below ss name h)
 
 -- numbers that a card's descriptors have fit 32 bits
 pub fits-of : (e : Descriptor) → e .layout ≤ 2 → e .volume ≤ 14336 → e .alpha .0 ≤ 65536 → e .beta .0 ≤ 65536 → e .next .0 ≤ 65536 → isName (e .name) ≡ true → Fits e

@@ -17,6 +17,7 @@ use Rattle.blocks.specs.declared.descriptor.Descriptor.{Descriptor}
 use Rattle.blocks.proofs.Tests.{and-right}
 use Rattle.blocks.proofs.BoolLaws.{or-assoc, or-false-left}
 use Rattle.blocks.proofs.DescriptorLaws.{Fits}
+use Rattle.blocks.proofs.NamedLaws.{named-none, named-cons}
 use Rattle.blocks.proofs.ChainLaws.{region-layout, region-volume, region-end, region-long, cost-least}
 use Rattle.blocks.proofs.LinkedLaws.{Linked, last, chain-linked, sound-form, sound-region}
 use Rattle.claims.proofs.Local.{linked-chain, shared-descriptor}
@@ -34,9 +35,8 @@ layout-small l h = layout-by l (eqb l 1) (eqb l 2) refl refl h
 
 -- names of lists joined
 pub named-append : (xs ys : List Descriptor) (n : List ℕ) → named (xs ++ ys) n ≡ (named xs n || named ys n)
-unfolding named
-named-append [] ys n = refl
-named-append (x ∷ xs) ys n = rw (named-append xs ys n) (or-assoc (same (x .name) n) (named xs n) (named ys n))
+named-append [] ys n = rw (named-none n)
+named-append (x ∷ xs) ys n = rw (named-cons x (xs ++ ys) n, named-cons x xs n, named-append xs ys n) (or-assoc (same (x .name) n) (named xs n) (named ys n))
 
 pub named-left : (xs ys : List Descriptor) (n : List ℕ) → named (xs ++ ys) n ≡ false → named xs n ≡ false
 named-left xs ys n h = or-false-left (named xs n) (named ys n) (sym (named-append xs ys n) ∙ h)

@@ -7,6 +7,7 @@ use lib.ListN.{take}
 use Rattle.blocks.specs.Chain.{chain, chainSound, named}
 use Rattle.blocks.specs.declared.descriptor.Descriptor.{Descriptor}
 use Rattle.blocks.proofs.BoolLaws.{no}
+use Rattle.blocks.proofs.NamedLaws.{named-none}
 use Rattle.calls.specs.Call.{Call}
 use Rattle.calls.specs.Parts.{descriptorsOf, snapshotsOf}
 use Rattle.claims.specs.History.{AreBytes, Standing, Position, Nowhere, At, latestSnap, without, formattable, formatted}
@@ -41,8 +42,8 @@ module _ (area : List ℕ) (layout volume : ℕ) (name : List ℕ) (can : format
   card-sound = formatted-passes area layout volume name can .sound
 
   none-named : named (snapshotsOf (descriptorsOf card)) v ≡ false
-  unfolding snapshotsOf named
-  none-named = ap (λ (ds : List Descriptor). named (snapshotsOf ds) v) (formatted-descriptors area layout volume name can)
+  unfolding snapshotsOf
+  none-named = ap (λ (ds : List Descriptor). named (snapshotsOf ds) v) (formatted-descriptors area layout volume name can) ∙ named-none v
 
   snap-by : (place : Position) → latestSnap v card (take k ks) ≡ place → (i : ℕ) × (i < k) × (latestSnap v card (take k ks) ≡ At i) × LastSnap v card (take k ks) i
   snap-by Nowhere e = no (sym none-named ∙ s-named card ks card-sound standing k v reverted (latest-nowhere v card (take k ks) e))

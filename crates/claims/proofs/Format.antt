@@ -14,7 +14,7 @@ use Rattle.blocks.specs.Pick.{pick, allZero}
 use Rattle.blocks.specs.Bytes.{part, u32At, splice, store, blockCount, blockAt, zeroBlock, storeBlock, storeAll}
 use Rattle.blocks.specs.Name.{isName}
 use Rattle.blocks.specs.Descriptor.{physical, mark, tableCount, cost, firstOf, noDescriptor, descriptorAt, descriptorBlock, reservedOk, phiOk, clearing, opening}
-use Rattle.blocks.specs.Chain.{formOk, named, sound, Sound, chain, chainSound, descriptors, activeOf}
+use Rattle.blocks.specs.Chain.{formOk, sound, Sound, chain, chainSound, descriptors, activeOf}
 use Rattle.blocks.specs.declared.numbers.Physical.{Physical}
 use Rattle.blocks.specs.declared.descriptor.Descriptor.{Descriptor}
 use Rattle.blocks.proofs.Tests.{and-left, and-right}
@@ -22,6 +22,7 @@ use Rattle.blocks.proofs.ByteLaws.{length-splice, splice-after, store-length, s
 use Rattle.blocks.proofs.ListLaws.{same-self}
 use Rattle.blocks.proofs.NameLaws.{drop-replicate, name-size}
 use Rattle.blocks.proofs.DescriptorLaws.{Fits}
+use Rattle.blocks.proofs.NamedLaws.{named-none}
 use Rattle.blocks.proofs.ChainLaws.{cost-least}
 use Rattle.blocks.proofs.LinkedLaws.{last}
 use Rattle.entries.specs.InPlace.{inPlace}
@@ -273,9 +274,10 @@ module _ (area : List ℕ) (layout volume : ℕ) (name : List ℕ) (ok : formatt
   formatted-count = ap (λ (n : ℕ). n / 512) formatted-length
 
   formatted-sound : sound card [] 0 ≡ true
-  unfolding sound named
+  unfolding sound
   formatted-sound =
       rw (
+        named-none (descriptorAt card 0 .name),
         formatted-descriptor,
         formatted-form,
         formatted-count,

@@ -7,17 +7,18 @@ use Prim.Native.Nat.{ℕ, zero, suc, _+_, _*_, _-_, _/_, _%_, _≤_, _<_}
 use native.Mathlib.Omega.{arith}
 use lib.ListN.{length, drop, getD, replicate, length-drop, length-append, length-replicate}
 use lib.Dec.{eqb}
-use borrow.Author.Tests.{eqb-true, eqb-false, ltb-true, ltb-false, leb-false, not-false}
+use borrow.Author.Tests.{eqb-true, eqb-false, ltb-false, leb-false, not-false}
 use Rattle.blocks.specs.Pick.{pick}
 use Rattle.blocks.specs.Bytes.{store, blockCount, blockAt, zeroBlock, storeAll}
 use Rattle.blocks.specs.Name.{isName}
 use Rattle.blocks.specs.Descriptor.{physical, cost, costOf, noDescriptor, descriptorAt, firstOf, headBytes, tailAt, descriptorBlock, renamedOf, linkedOf, extendedOf, reopenedOf, clearing, copying, opening}
-use Rattle.blocks.specs.Chain.{Chain, Sound, Unsound, chain, chainSound, named, regionsOf, activeOf}
+use Rattle.blocks.specs.Chain.{Chain, Sound, Unsound, chain, chainSound, indexOf, named, regionsOf, activeOf}
 use Rattle.blocks.specs.declared.numbers.Physical.{Physical}
 use Rattle.blocks.specs.declared.descriptor.Descriptor.{Descriptor}
 use Rattle.blocks.specs.declared.chain.Regions.{Regions}
 use Rattle.blocks.proofs.BoolLaws.{no}
 use Rattle.blocks.proofs.ByteLaws.{length-part, length-blockAt}
+use Rattle.blocks.proofs.NamedLaws.{index-below}
 use Rattle.blocks.proofs.ChainLaws.{cost-least}
 use Rattle.blocks.proofs.DescriptorLaws.{head-length, tail-length}
 use Rattle.blocks.proofs.NameLaws.{name-size}
@@ -29,12 +30,11 @@ use Rattle.entries.proofs.EntryLaws.{through-alpha, through-beta, need-more}
 use Rattle.entries.proofs.SetLaws.{table-length, tail-with-length}
 use Rattle.calls.specs.declared.answer.Record.{Record}
 use Rattle.calls.specs.Call.{Call, Ream, Read, Write, Snap, Revert, Listing, Check, Records}
-use Rattle.calls.specs.Parts.{areaBad, descriptorsOf, snapshotsOf, withName, indexOf, foundThrough}
+use Rattle.calls.specs.Parts.{areaBad, descriptorsOf, snapshotsOf, withName, foundThrough}
 use Rattle.calls.specs.Ladder.{reamRows, writeRows, snapRows, revertRows, listRows, rowsOf, answerOf}
 use Rattle.calls.specs.Effect.{WriteReady, snapping, reverting, storesOf, recordOf, listed, filledOf}
 use Rattle.calls.specs.Step.{step, isAccepted}
 use Rattle.claims.specs.Claims.{lentAtEntry, ListClaim, storesNothing, fills, FrameClaim}
-use Rattle.calls.proofs.NamedLaws.{named-index, with-name-index}
 use Rattle.calls.proofs.CardLaws.{card-some, card-found, card-active, card-through, card-inside, card-snapshot, card-snapshot-count}
 use Rattle.calls.proofs.WriteLaws.{put-inside, write-ready}
 use Rattle.calls.proofs.RowLaws.{rows-passed}
@@ -204,8 +204,8 @@ module _ (c : List ℕ) (area : areaBad c ≡ false) (sound : chainSound (chain 
   revert-inside name called =
       let ss : List Descriptor = snapshotsOf (descriptorsOf c) in
       let v : Descriptor = withName ss name in
-      let h : indexOf ss name < r .count - 1 = omega (arith, ltb-true (indexOf ss name) (length ss) (sym (named-index ss name) ∙ called), card-snapshot-count c r refl area ok) in
-      let is : v ≡ descriptorAt c (getD (r .starts) (indexOf ss name) 0) = with-name-index ss name ∙ card-snapshot c r refl area ok (indexOf ss name) h in
+      let h : indexOf ss name < r .count - 1 = omega (arith, index-below ss name called, card-snapshot-count c r refl area ok) in
+      let is : v ≡ descriptorAt c (getD (r .starts) (indexOf ss name) 0) = card-snapshot c r refl area ok (indexOf ss name) h in
       let inside = through-alpha c (r .starts) (r .count) v (card-through c r refl area ok (indexOf ss name) (omega arith) v is) in
       also (v .alpha .0) _ (block-whole (linkedOf (renamedOf v (active .name)) (physical 0)) (tailAt c (v .alpha .0)) active-name (tail-length c (v .alpha .0) inside)) inside none
 

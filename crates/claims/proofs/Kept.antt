@@ -13,7 +13,7 @@ use borrow.Author.Tests.{ne-eqb, leb-true, leb-false, ltb-false, not-false}
 use Rattle.blocks.specs.Pick.{pick}
 use Rattle.blocks.specs.Bytes.{blockAt, store, storeAll}
 use Rattle.blocks.specs.Descriptor.{physical, renamedOf, linkedOf, extendedOf, reopenedOf}
-use Rattle.blocks.specs.Chain.{Sound, chain, chainSound, named, activeOf}
+use Rattle.blocks.specs.Chain.{Sound, chain, chainSound, indexOf, named, activeOf}
 use Rattle.blocks.specs.declared.descriptor.Descriptor.{Descriptor}
 use Rattle.blocks.proofs.Tests.{and-right}
 use Rattle.blocks.proofs.BoolLaws.{no, or-false-right}
@@ -23,7 +23,7 @@ use Rattle.entries.specs.Entry.{tableIsNew, need, setInTable, setInNewTable, wr
 use Rattle.entries.specs.declared.find.Found.{Found}
 use Rattle.entries.specs.declared.find.Found.the-variants.{Misplaced, Entry}
 use Rattle.calls.specs.Call.{Call, Ream, Read, Write, Snap, Revert, Listing, Check}
-use Rattle.calls.specs.Parts.{areaBad, descriptorsOf, snapshotsOf, withName, indexOf, foundThrough}
+use Rattle.calls.specs.Parts.{areaBad, descriptorsOf, snapshotsOf, withName, foundThrough}
 use Rattle.calls.specs.Ladder.{rowsOf, writeRows, answerOf}
 use Rattle.calls.specs.Effect.{storesOf, reverting}
 use Rattle.calls.specs.Step.{step, isAccepted}

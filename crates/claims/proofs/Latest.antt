@@ -10,13 +10,14 @@ use lib.Seq.{append-snoc}
 use Rattle.blocks.specs.Pick.{pick, same}
 use Rattle.blocks.specs.Bytes.{storeAll}
 use Rattle.blocks.specs.Descriptor.{renamedOf, linkedOf, reopenedOf}
-use Rattle.blocks.specs.Chain.{Sound, chain, named, activeOf}
+use Rattle.blocks.specs.Chain.{Sound, chain, indexOf, named, activeOf}
 use Rattle.blocks.specs.declared.descriptor.Descriptor.{Descriptor}
 use Rattle.blocks.proofs.BoolLaws.{no}
 use Rattle.blocks.proofs.ListLaws.{same-equal}
+use Rattle.blocks.proofs.NamedLaws.{named-one}
 use Rattle.blocks.proofs.ChainLaws.{descriptors-are}
 use Rattle.calls.specs.Call.{Call, Ream, Read, Write, Snap, Revert, Listing, Check}
-use Rattle.calls.specs.Parts.{descriptorsOf, snapshotsOf, indexOf}
+use Rattle.calls.specs.Parts.{descriptorsOf, snapshotsOf}
 use Rattle.calls.specs.Ladder.{answerOf}
 use Rattle.calls.specs.Effect.{storesOf}
 use Rattle.calls.specs.Step.{step, after, isAccepted}
@@ -38,13 +39,12 @@ module _ (n t : List ℕ) (gone : named (snapshotsOf (descriptorsOf t)) n ≡ fa
   gone-write l block e = gone-by (storeAll t (storesOf (Write l block) t)) (snapshotsOf (descriptorsOf t)) _ (written-chain t l block e) gone
 
   gone-snap : (name : List ℕ) → isAccepted (answerOf (Snap name) t) ≡ true → same name n ≡ false → named (snapshotsOf (descriptorsOf (storeAll t (storesOf (Snap name) t)))) n ≡ false
-  unfolding named
   gone-snap name e other =
       let d = activeOf (descriptorsOf t) in
       let old = linkedOf (renamedOf d name) (d .beta) in
       gone-by (storeAll t (storesOf (Snap name) t)) (snapshotsOf (descriptorsOf t) ++ (old ∷ [])) (reopenedOf d)
       (snapped-chain t name e ∙ ap Sound (sym (append-snoc (snapshotsOf (descriptorsOf t)) old (reopenedOf d ∷ []))))
-      (named-append (snapshotsOf (descriptorsOf t)) (old ∷ []) n ∙ rw (gone, other))
+      (named-append (snapshotsOf (descriptorsOf t)) (old ∷ []) n ∙ rw (gone, named-one old n, other))
 
   gone-revert : (name : List ℕ) → isAccepted (answerOf (Revert name) t) ≡ true → named (snapshotsOf (descriptorsOf (storeAll t (storesOf (Revert name) t)))) n ≡ false
   gone-revert name e =

@@ -11,10 +11,11 @@ use borrow.Author.Tests.{eq-eqb, ne-eqb, eqb-true, eqb-false, ltb-true, ltb-fals
 use Rattle.blocks.specs.Pick.{pick, same}
 use Rattle.blocks.specs.Bytes.{blockCount}
 use Rattle.blocks.specs.Descriptor.{physical, tableCount, noDescriptor, descriptorAt}
-use Rattle.blocks.specs.Chain.{chain, named, activeOf}
+use Rattle.blocks.specs.Chain.{chain, indexOf, named, activeOf}
 use Rattle.blocks.specs.declared.descriptor.Descriptor.{Descriptor}
 use Rattle.blocks.proofs.Tests.{and-left, and-right}
-use Rattle.blocks.proofs.BoolLaws.{no, or-nil}
+use Rattle.blocks.proofs.BoolLaws.{no}
+use Rattle.blocks.proofs.NamedLaws.{named-none, named-cons, named-one}
 use Rattle.blocks.proofs.ChainLaws.{region-volume}
 use Rattle.blocks.proofs.SoundLaws.{form-layout}
 use Rattle.blocks.proofs.LinkedLaws.{Linked, chain-linked, regionStart, linked-some, linked-end, linked-at, RegionAt, active-at}
@@ -128,20 +129,21 @@ volumes-length c [] = refl
 volumes-length c (d ∷ ds) = ap suc (volumes-length c ds)
 
 has-volume : (c : List ℕ) (ds : List Descriptor) (name : List ℕ) → hasVolume (volumesOf c ds) name ≡ named ds name
-unfolding hasVolume volumesOf volumeOf named
-has-volume c [] name = refl
-has-volume c (d ∷ ds) name = ap (λ (b : Bool). same (d .name) name || b) (has-volume c ds name)
+unfolding hasVolume volumesOf volumeOf
+has-volume c [] name = sym (named-none name)
+has-volume c (d ∷ ds) name = ap (λ (b : Bool). same (d .name) name || b) (has-volume c ds name) ∙ sym (named-cons d ds name)
 
-which-volume : (c : List ℕ) (d e : Descriptor) (v : Volume) (b : Bool) → (b ≡ false → v ≡ volumeOf c e) → pick b (volumeOf c d) v ≡ volumeOf c (pick b d e)
-which-volume c d e v true h = refl
-which-volume c d e v false h = h refl
+which-volume : (c : List ℕ) (d : Descriptor) (ds : List Descriptor) (i : ℕ) (v : Volume) (b : Bool) → (b ≡ false → v ≡ volumeOf c (getD ds i noDescriptor))
+    → pick b (volumeOf c d) v ≡ volumeOf c (getD (d ∷ ds) (pick b 0 (suc i)) noDescriptor)
+which-volume c d ds i v true h = refl
+which-volume c d ds i v false h = h refl
 
 pub volume-named : (c : List ℕ) (ds : List Descriptor) (name : List ℕ) → named ds name ≡ true → volumeNamed (volumesOf c ds) name ≡ volumeOf c (withName ds name)
-unfolding volumeNamed volumesOf withName named volumeOf
-volume-named c [] name h = no h
+unfolding volumeNamed volumesOf indexOf volumeOf
+volume-named c [] name h = no (sym (named-none name) ∙ h)
 volume-named c (d ∷ ds) name h =
-    which-volume c d (withName ds name) (volumeNamed (volumesOf c ds) name) (same (d .name) name)
-    (λ e. volume-named c ds name (second-layout (same (d .name) name) (named ds name) h e))
+    which-volume c d ds (indexOf ds name) (volumeNamed (volumesOf c ds) name) (same (d .name) name)
+    (λ e. volume-named c ds name (second-layout (same (d .name) name) (named ds name) (sym (named-cons d ds name) ∙ h) e))
 
 volume-read : (c : List ℕ) (target : Target) (name : List ℕ) → (isSnapshot target && not (named (snapshotsOf (descriptorsOf c)) name)) ≡ false
     → volumeRead (ledgerOf c) target name ≡ volumeOf c (targetOf (descriptorsOf c) target name)
@@ -306,8 +308,7 @@ roomy-by true n a b e = rw e
 roomy-by false n a b e = refl
 
 named-active : (ss : List Descriptor) (d : Descriptor) (name : List ℕ) → named (ss ++ (d ∷ [])) name ≡ (named ss name || same (d .name) name)
-unfolding named
-named-active ss d name = named-append ss (d ∷ []) name ∙ ap (λ (b : Bool). named ss name || b) (or-nil (same (d .name) name))
+named-active ss d name = named-append ss (d ∷ []) name ∙ ap (λ (b : Bool). named ss name || b) (named-one d name)
 
 module _ (c : List ℕ) (p : Passes c) where
   read-answer : (target : Target) (name : List ℕ) (l : ℕ) (block : List ℕ) → answerOf (Read target name l block) c ≡ firstRow (ledgerRows (Read target name l block) (ledgerOf c))

@@ -13,13 +13,13 @@ use Rattle.blocks.specs.Bytes.{u32At, part, blockCount, blockAt, zeroBlock, sto
 use Rattle.blocks.specs.Descriptor.{physical, tableCount, noDescriptor, tailAt, descriptorBlock, linkedOf, renamedOf}
 use Rattle.blocks.specs.declared.numbers.Physical.{Physical}
 use Rattle.blocks.specs.declared.descriptor.Descriptor.{Descriptor}
-use Rattle.blocks.specs.Chain.{activeOf}
+use Rattle.blocks.specs.Chain.{indexOf, activeOf}
 use Rattle.entries.specs.InPlace.{inPlace}
 use Rattle.entries.specs.Entry.{entryAt, phiAt, tableOf, entryFound, find}
 use Rattle.entries.specs.declared.find.Found.{Found}
 use Rattle.entries.specs.declared.find.Found.the-variants.{Misplaced, Entry}
 use Rattle.entries.proofs.EntryLaws.{placed-below, find-placed}
-use Rattle.calls.specs.Parts.{descriptorsOf, snapshotsOf, withName, indexOf, foundThrough, isMisplaced, blockFound}
+use Rattle.calls.specs.Parts.{descriptorsOf, snapshotsOf, withName, foundThrough, isMisplaced, blockFound}
 use Rattle.claims.specs.Ledger.{Volume, volumesBefore, volumeNamed, ledgerStep, cellsFrom, volumeOf, volumesOf, ledgerOf}
 use Rattle.calls.specs.Call.{Revert}
 use Rattle.calls.specs.Check.{Passes}

@@ -12,19 +12,19 @@ use Rattle.blocks.specs.Pick.{pick, same}
 use Rattle.blocks.specs.Bytes.{blockAt, store, storeAll}
 use Rattle.blocks.specs.Name.{isName}
 use Rattle.blocks.specs.Descriptor.{physical, noDescriptor, tailAt, descriptorBlock, renamedOf, linkedOf, reopenedOf}
-use Rattle.blocks.specs.Chain.{Sound, chain, chainSound, named, activeOf}
+use Rattle.blocks.specs.Chain.{Sound, chain, chainSound, named, activeOf, indexOf}
 use Rattle.blocks.specs.declared.descriptor.Descriptor.{Descriptor}
-use Rattle.blocks.proofs.BoolLaws.{no, or-false-both}
+use Rattle.blocks.proofs.BoolLaws.{no}
 use Rattle.blocks.proofs.ListLaws.{same-equal, same-self}
+use Rattle.blocks.proofs.NamedLaws.{named-none, named-cons, index-at}
 use Rattle.blocks.proofs.ChainLaws.{active-snoc, descriptors-are, is-sound}
 use Rattle.calls.specs.Call.{Call, Snap, Revert, Check}
-use Rattle.calls.specs.Parts.{descriptorsOf, snapshotsOf, withName, indexOf}
+use Rattle.calls.specs.Parts.{descriptorsOf, snapshotsOf, withName}
 use Rattle.calls.specs.Ladder.{rowsOf, revertRows, answerOf}
 use Rattle.calls.specs.Effect.{storesOf, reverting}
 use Rattle.calls.specs.Step.{step, after, isAccepted}
 use Rattle.claims.specs.History.{betaOf, Agree, AreBytes, Standing, without}
 use Rattle.claims.specs.Claims.{Unsnapped, LastSnap, Matched, RevertedAt}
-use Rattle.calls.proofs.NamedLaws.{with-name-index}
 use Rattle.calls.proofs.RowLaws.{rows-passed}
 use Rattle.claims.proofs.Local.{shared-bytes}
 use Rattle.calls.proofs.CardLaws.{chain-is}
@@ -40,12 +40,6 @@ use Rattle.claims.proofs.Latest.{gone-run, stands-run, snap-of}
 use Rattle.claims.proofs.Runs.{standing-length, standing-take, standing-drop, after-append, after-length, matched-from, without-drop, without-take}
 use Rattle.claims.proofs.Undone.{revert-passes, area-kept, undone, undone-accepted}
 
--- the first of a name stands after those that have another
-index-at : (xs : List Descriptor) (v : Descriptor) (zs : List Descriptor) → named xs (v .name) ≡ false → indexOf (xs ++ (v ∷ zs)) (v .name) ≡ length xs
-unfolding indexOf named
-index-at [] v zs h = rw (same-self (v .name))
-index-at (x ∷ xs) v zs h = let r = or-false-both (same (x .name) (v .name)) (named xs (v .name)) h in rw (r .0, index-at xs v zs (r .1))
-
 -- v stands on t: a revert to it leaves the descriptors before it, then v with the active name and a nil next
 module _ (s : List ℕ) (xs : List Descriptor) (v : Descriptor) (n t : List ℕ) (h : Stands s xs v n t) (e : isAccepted (answerOf (Revert (v .name)) t) ≡ true) where
   abbrev w : Descriptor
@@ -55,7 +49,7 @@ module _ (s : List ℕ) (xs : List Descriptor) (v : Descriptor) (n t : List ℕ)
   fresh = member-fresh t (xs ++ (v ∷ h .rest)) xs v (h .rest) (h .is) refl
 
   index-is : indexOf (snapshotsOf (descriptorsOf t)) (v .name) ≡ length xs
-  index-is = ap (λ (ss : List Descriptor). indexOf ss (v .name)) (stands-snapshots s xs v n t h) ∙ index-at xs v (snapshotsOf (h .rest)) fresh
+  index-is = ap (λ (ss : List Descriptor). indexOf ss (v .name)) (stands-snapshots s xs v n t h) ∙ index-at xs v (snapshotsOf (h .rest)) (v .name) fresh (same-self (v .name))
 
   before-is : before (snapshotsOf (descriptorsOf t)) (v .name) ≡ xs
   before-is =
@@ -65,8 +59,7 @@ module _ (s : List ℕ) (xs : List Descriptor) (v : Descriptor) (n t : List ℕ)
 
   with-is : withName (snapshotsOf (descriptorsOf t)) (v .name) ≡ v
   with-is =
-      with-name-index (snapshotsOf (descriptorsOf t)) (v .name)
-      ∙ ap (λ (j : ℕ). getD (snapshotsOf (descriptorsOf t)) j noDescriptor) index-is
+      ap (λ (j : ℕ). getD (snapshotsOf (descriptorsOf t)) j noDescriptor) index-is
       ∙ ap (λ (ss : List Descriptor). getD ss (length xs) noDescriptor) (stands-snapshots s xs v n t h)
       ∙ getD-append-seam xs v (snapshotsOf (h .rest)) noDescriptor
 
@@ -154,11 +147,11 @@ agree-trans a b c x y =
 
 -- a snapshot of a name stands on its own card
 with-name-is : (ss : List Descriptor) (n : List ℕ) → named ss n ≡ true → withName ss n .name ≡ n
-unfolding named withName
-with-name-is [] n h = no h
-with-name-is (d ∷ ss) n h = name-by d ss n (same (d .name) n) refl h (with-name-is ss n)
+unfolding indexOf
+with-name-is [] n h = no (sym (named-none n) ∙ h)
+with-name-is (d ∷ ss) n h = name-by d ss n (same (d .name) n) refl (sym (named-cons d ss n) ∙ h) (with-name-is ss n)
   where
-    name-by : (d : Descriptor) (ss : List Descriptor) (n : List ℕ) (z : Bool) → same (d .name) n ≡ z → (z || named ss n) ≡ true → (named ss n ≡ true → withName ss n .name ≡ n) → pick z d (withName ss n) .name ≡ n
+    name-by : (d : Descriptor) (ss : List Descriptor) (n : List ℕ) (z : Bool) → same (d .name) n ≡ z → (z || named ss n) ≡ true → (named ss n ≡ true → withName ss n .name ≡ n) → getD (d ∷ ss) (pick z 0 (suc (indexOf ss n))) noDescriptor .name ≡ n
     name-by d ss n true e h f = same-equal (d .name) n e
     name-by d ss n false e h f = f h
 

@@ -4,10 +4,10 @@ use Rattle.blocks.specs.Pick.{same, allZero}
 use Rattle.blocks.specs.Bytes.{splice, u32At, le32, blockCount, blockAt, storeBlock, storeAll}
 use Rattle.blocks.specs.Name.{nameByte, nameLength, isName, isText, padded}
 use Rattle.blocks.specs.Descriptor.{tableCount, cost, descriptorAt, headBytes, descriptorBlock, reservedOk, phiOk, clearing, copying, opening}
-use Rattle.blocks.specs.Chain.{formOk, regionOk, named, sound, chainFrom, chain, chainSound, descriptors, chainPlace, activeOf}
+use Rattle.blocks.specs.Chain.{formOk, regionOk, indexOf, named, sound, chainFrom, chain, chainSound, descriptors, chainPlace, activeOf}
 use Rattle.entries.specs.InPlace.{isDescriptor, isTable, inPlace}
 use Rattle.entries.specs.Entry.{entryAt, phiAt, tableOf, entryFound, find, tableIsNew, need, tableWith, tailWith, setInTable, setInNewTable, writing}
-use Rattle.calls.specs.Parts.{areaBad, snapshotsOf, withName, targetOf, isMisplaced, holderOf, blockFound}
+use Rattle.calls.specs.Parts.{areaBad, snapshotsOf, targetOf, isMisplaced, holderOf, blockFound}
 use Rattle.entries.specs.Naming.{tableNamings, tablesNamings, phiNamings, namings, among, atFault, firstFault, checkOne}
 use Rattle.calls.specs.Check.{orElse, checkAll, checkCard, isFault, faultHolder}
 use Rattle.calls.specs.Ladder.{firstRow, reamRows, readRows, writeRows, snapRows, revertRows, listRows, checkRows, rowsOf, answerOf}
@@ -17,9 +17,9 @@ use Rattle.claims.specs.History.{betaOf, formatted}
 
 unfoldable pub running : ℕ
 unfolding step after outcomes answerOf rowsOf firstRow reamRows readRows writeRows snapRows revertRows listRows checkRows
-    storesOf snapping reverting listed lentOf filledOf betaOf formatted areaBad activeOf snapshotsOf withName targetOf isMisplaced holderOf blockFound
+    storesOf snapping reverting listed lentOf filledOf betaOf formatted areaBad activeOf snapshotsOf targetOf isMisplaced holderOf blockFound
     entryAt phiAt tableOf entryFound find tableIsNew need tableWith tailWith setInTable setInNewTable writing isDescriptor isTable inPlace
-    formOk regionOk named sound chainFrom chain chainSound descriptors chainPlace tableCount cost descriptorAt headBytes descriptorBlock reservedOk phiOk
+    formOk regionOk indexOf named sound chainFrom chain chainSound descriptors chainPlace tableCount cost descriptorAt headBytes descriptorBlock reservedOk phiOk
     clearing copying opening nameByte nameLength isName isText padded splice u32At le32 blockCount blockAt storeBlock storeAll same allZero
     tableNamings tablesNamings phiNamings namings among atFault firstFault checkOne orElse checkAll checkCard isFault faultHolder
 running = 0

@@ -14,9 +14,10 @@ use Rattle.blocks.specs.Name.{isName}
 use Rattle.blocks.specs.Descriptor.{costOf, descriptorAt, tailAt, descriptorBlock, renamedOf, linkedOf, reopenedOf, copying}
 use Rattle.blocks.specs.Chain.{named, sound, Sound, chain, chainSound, activeOf}
 use Rattle.blocks.specs.declared.descriptor.Descriptor.{Descriptor}
-use Rattle.blocks.proofs.BoolLaws.{no, or-false-right, or-nil}
+use Rattle.blocks.proofs.BoolLaws.{no, or-false-right}
 use Rattle.blocks.proofs.ListLaws.{same-equal, same-self}
 use Rattle.blocks.proofs.DescriptorLaws.{Fits, tail-length}
+use Rattle.blocks.proofs.NamedLaws.{named-one}
 use Rattle.blocks.proofs.ChainLaws.{cost-least}
 use Rattle.blocks.proofs.LinkedLaws.{last, more, chain-linked}
 use Rattle.calls.specs.Call.{Snap}
@@ -36,10 +37,6 @@ use Rattle.claims.proofs.ChainAfter.{fits-of, sound-is, active-last, ac
 same-not : (a b : List ℕ) (z : Bool) → same a b ≡ z → same b a ≡ false → same a b ≡ false
 same-not a b false e h = e
 same-not a b true e h = let q = same-equal a b e in no (sym h ∙ rw q (same-self b))
-
-named-one : (d : Descriptor) (n : List ℕ) → named (d ∷ []) n ≡ same (d .name) n
-unfolding named
-named-one d n = or-nil (same (d .name) n)
 
 module _ (c name : List ℕ) (e : isAccepted (answerOf (Snap name) c) ≡ true) where
   pub snap-rows : (areaBad c ≡ false) × (isName name ≡ true) × (chainSound (chain c) ≡ true) × (named (descriptorsOf c) name ≡ false) × (length (snapshotsOf (descriptorsOf c)) < 255)

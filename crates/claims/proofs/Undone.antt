@@ -5,23 +5,24 @@ use mathlib.Core.List.{List, [], _∷_, _++_, append-assoc}
 use Prim.Native.Nat.{ℕ, _+_, _*_, _-_, _≤_, _<_}
 use native.Mathlib.Omega.{arith}
 use lib.ListN.{length, take}
-use lib.Seq.{take-all, drop-at}
+use lib.Seq.{take-append-seam, getD-append-seam, take-all, drop-at}
 use lib.Dec.{eqb}
 use borrow.Author.Tests.{eqb-true, eqb-false, ne-eqb}
 use Rattle.blocks.specs.Pick.{same}
 use Rattle.blocks.specs.Bytes.{part, blockCount, blockAt, Store, store, storeAll}
-use Rattle.blocks.specs.Descriptor.{physical, costOf, headBytes, tailAt, descriptorBlock, renamedOf, linkedOf, reopenedOf, copying}
+use Rattle.blocks.specs.Descriptor.{physical, noDescriptor, costOf, headBytes, tailAt, descriptorBlock, renamedOf, linkedOf, reopenedOf, copying}
 use Rattle.blocks.specs.Chain.{named, Sound, chain, chainSound, activeOf}
 use Rattle.blocks.specs.declared.descriptor.Descriptor.{Descriptor}
-use Rattle.blocks.proofs.BoolLaws.{or-false-left, or-false-right, or-true}
+use Rattle.blocks.proofs.BoolLaws.{or-true}
 use Rattle.blocks.proofs.ByteLaws.{part-part, length-blockAt}
 use Rattle.blocks.proofs.ListLaws.{same-self}
 use Rattle.blocks.proofs.DescriptorLaws.{head-length, block-back}
 use Rattle.blocks.specs.Name.{isName}
+use Rattle.blocks.proofs.NamedLaws.{named-one, index-at}
 use Rattle.blocks.proofs.ChainLaws.{active-snoc, is-sound, descriptors-are}
 use Rattle.blocks.proofs.SoundLaws.{form-mark}
 use Rattle.calls.specs.Call.{Snap, Revert}
-use Rattle.calls.specs.Parts.{areaBad, descriptorsOf, snapshotsOf, withName, indexOf}
+use Rattle.calls.specs.Parts.{areaBad, descriptorsOf, snapshotsOf, withName}
 use Rattle.calls.specs.Ladder.{firstRow, rowsOf, revertRows, answerOf}
 use Rattle.calls.specs.Effect.{storesOf, reverting, snapping}
 use Rattle.calls.specs.Step.{isAccepted}
@@ -35,22 +36,13 @@ use Rattle.claims.proofs.SnappedChain.{snap-rows, snapped-chain, next-n
 -- the last of a list under a name that the others do not have
 module _ (o : Descriptor) (n : List ℕ) (here : same (o .name) n ≡ true) where
   named-snoc : (xs : List Descriptor) → named (xs ++ (o ∷ [])) n ≡ true
-  unfolding named
-  named-snoc xs = named-append xs (o ∷ []) n ∙ rw here (or-true (named xs n))
+  named-snoc xs = named-append xs (o ∷ []) n ∙ rw (named-one o n, here) (or-true (named xs n))
 
   before-snoc : (xs : List Descriptor) → named xs n ≡ false → before (xs ++ (o ∷ [])) n ≡ xs
-  unfolding named indexOf
-  before-snoc [] h = rw here
-  before-snoc (x ∷ xs) h =
-      rw (or-false-left (same (x .name) n) (named xs n) h)
-      (ap (λ (zs : List Descriptor). x ∷ zs) (before-snoc xs (or-false-right (same (x .name) n) (named xs n) h)))
+  before-snoc xs h = rw (index-at xs o [] n h here) (take-append-seam xs (o ∷ []))
 
   with-snoc : (xs : List Descriptor) → named xs n ≡ false → withName (xs ++ (o ∷ [])) n ≡ o
-  unfolding named withName
-  with-snoc [] h = rw here
-  with-snoc (x ∷ xs) h =
-      rw (or-false-left (same (x .name) n) (named xs n) h)
-      (with-snoc xs (or-false-right (same (x .name) n) (named xs n) h))
+  with-snoc xs h = rw (index-at xs o [] n h here) (getD-append-seam xs o [] noDescriptor)
 
 pub area-kept : (s t : List ℕ) → length s ≡ length t → areaBad s ≡ areaBad t
 unfolding areaBad blockCount

@@ -12,7 +12,7 @@ use lib.Dec.{eqb}
 use Rattle.blocks.specs.Bytes.{blockSize, blockCount, blockAt, zeroBlock}
 use Rattle.blocks.specs.Name.{isName}
 use Rattle.blocks.specs.Descriptor.{physical, noDescriptor, tableSize, tableCount, cost, costOf, firstOf, descriptorAt, descriptorBlock, renamedOf, linkedOf, extendedOf, reopenedOf}
-use Rattle.blocks.specs.Chain.{Sound, Unsound, sound, chain, chainSound, named, activeOf}
+use Rattle.blocks.specs.Chain.{Sound, Unsound, sound, chain, chainSound, indexOf, named, activeOf}
 use Rattle.blocks.specs.declared.descriptor.Descriptor.{Descriptor}
 use Rattle.entries.specs.InPlace.{inPlace}
 use Rattle.entries.specs.Entry.{entryAt, phiAt, need}
@@ -21,7 +21,7 @@ use Rattle.entries.specs.Rules.{Rules}
 use Rattle.calls.specs.declared.answer.Target.{Target}
 use Rattle.calls.specs.declared.answer.Record.{Record}
 use Rattle.calls.specs.Call.{Call, Ream, Read, Write, Snap, Revert, Listing, Check, Lent, None, Block, Records, answer, accepted}
-use Rattle.calls.specs.Parts.{areaBad, descriptorsOf, snapshotsOf, indexOf, withName, isSnapshot, targetOf, foundThrough}
+use Rattle.calls.specs.Parts.{areaBad, descriptorsOf, snapshotsOf, withName, isSnapshot, targetOf, foundThrough}
 use Rattle.calls.specs.Check.{Passes}
 use Rattle.calls.specs.Ladder.{row, rowsOf, answerOf}
 use Rattle.claims.specs.Algorithms.{closeRegion, algorithm1, algorithm2, algorithm3, algorithm4, algorithm5, algorithm6}

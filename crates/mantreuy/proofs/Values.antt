@@ -4,7 +4,7 @@ use Rattle.blocks.specs.Pick.{same, allZero}
 use Rattle.blocks.specs.Bytes.{u32At, le32, blockCount}
 use Rattle.blocks.specs.Name.{nameByte, nameLength, isName, isText, padded}
 use Rattle.blocks.specs.Descriptor.{tableCount, cost, descriptorAt, headBytes, descriptorBlock, reservedOk, phiOk}
-use Rattle.blocks.specs.Chain.{formOk, regionOk, named, sound, chainFrom, chain, chainSound, descriptors, chainPlace}
+use Rattle.blocks.specs.Chain.{formOk, regionOk, indexOf, named, sound, chainFrom, chain, chainSound, descriptors, chainPlace}
 use Rattle.calls.specs.Parts.{areaBad}
 use Rattle.calls.specs.Ladder.{firstRow, listRows, rowsOf, answerOf}
 use Rattle.calls.specs.Effect.{listed}
@@ -36,6 +36,6 @@ record-values = (refl, refl)
 pub listing-values : ListingValues
 unfolding ListingValues listingOf roomIn recordsBytes recordBytes
     step answerOf rowsOf firstRow listRows listed areaBad
-    formOk regionOk named sound chainFrom chain chainSound descriptors chainPlace tableCount cost descriptorAt headBytes descriptorBlock reservedOk phiOk
+    formOk regionOk indexOf named sound chainFrom chain chainSound descriptors chainPlace tableCount cost descriptorAt headBytes descriptorBlock reservedOk phiOk
     nameByte nameLength isName u32At le32 blockCount same allZero
 listing-values = (refl, refl, refl)

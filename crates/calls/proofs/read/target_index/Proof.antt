@@ -3,7 +3,8 @@ use mathlib.Core.Path.{_≡_}
 use Rattle.calls.specs.declared.answer.Target.the-variants.{Active, Snapshot}
 use native.Mathlib.Omega.{arith}
 use borrow.Author.Needs.{needs}
-use Rattle.calls.proofs.ReadLaws.{snapshots-counted, index-active}
+use Rattle.blocks.proofs.NamedLaws.{descriptors-counted}
+use Rattle.calls.proofs.ReadLaws.{index-active}
 use Rattle.calls.proofs.read.target_index.Statement.{statement}
 use Rattle.calls.proofs.read.target_index.Tie as tie
 
@@ -23,7 +24,7 @@ returns : tie.Need-returns
 returns c =
     let s = c .before .before .before .before in
     let e : s .args .target ≡ Active = cc in
-    rw e (index-active _ _ _ (snapshots-counted _ _ _ (omega (arith, s .pre .1))))
+    rw e (index-active _ _ _ (descriptors-counted _ _ _ (omega (arith, s .pre .1))))
 
 returns-2 : tie.Need-returns-2
 returns-2 c =

@@ -3,11 +3,10 @@ use mathlib.Core.Path.{_≡_, sym, _∙_}
 use Prim.Native.Nat.{_≤_, _-_}
 use native.Mathlib.Omega.{arith}
 use lib.ListN.{take}
-use Rattle.blocks.specs.Chain.{descriptorsAt}
-use Rattle.calls.specs.Parts.{indexOf}
-use Rattle.calls.proofs.NamedLaws.{indexFrom, index-start, index-stop, index-more, index-end}
-use Rattle.calls.proofs.area.index_of.Statement.{statement}
-use Rattle.calls.proofs.area.index_of.Tie as tie
+use Rattle.blocks.specs.Chain.{indexOf, descriptorsAt}
+use Rattle.blocks.proofs.NamedLaws.{indexFrom, index-start, index-stop, index-more, index-end}
+use Rattle.blocks.proofs.chain.index_of.Statement.{statement}
+use Rattle.blocks.proofs.chain.index_of.Tie as tie
 
 abbrev Inv-loop : tie.InvT-loop
 Inv-loop card starts n name j₀ j = (j ≤ n) × (indexOf (descriptorsAt card (take n starts)) name ≡ indexFrom card starts n name j)
