@@ -37,7 +37,7 @@ module _ (c starts : List ℕ) (n : ℕ) (name : List ℕ) where
   unfolding indexFrom indexOf descriptorsAt
   index-end j h = rw (drop-of-length-le (take n starts) {i = j} (simp length-take (omega arith))) (omega arith)
 
--- the index is no more than their number
+-- the index is no more than how many there are
 index-le-by : (t : Bool) (i n : ℕ) → i ≤ n → pick t 0 (suc i) ≤ suc n
 index-le-by true i n h = omega arith
 index-le-by false i n h = omega arith
@@ -67,7 +67,7 @@ named-cons d ds name = cons-by (indexOf ds name) (length ds) (same (d .name) nam
 pub named-one : (d : Descriptor) (name : List ℕ) → named (d ∷ []) name ≡ same (d .name) name
 named-one d name = named-cons d [] name ∙ rw (named-none name) (or-nil (same (d .name) name))
 
--- a name that is there has an index of the list, and the first after those of another name has their number as index
+-- where a descriptor has the name the index is one of theirs; the first after others without the name has the index after them
 pub index-below : (ds : List Descriptor) (name : List ℕ) → named ds name ≡ true → indexOf ds name < length ds
 unfolding named
 index-below ds name h = ltb-true (indexOf ds name) (length ds) h

@@ -121,7 +121,7 @@ pub fn is_placed(first: Descriptor, n: usize, p: Physical, d: Descriptor) -> boo
 }
 
 // Whether the descriptor in block `p` has the name: names that differ do so in one of two 64-bit words.
-pub fn has_name(card: &[u8], p: Physical, name: [u8; 16]) -> bool
+fn has_name(card: &[u8], p: Physical, name: [u8; 16]) -> bool
     requires { ⌜ 512 * p .0 + 512 ≤ length (now card) ⌝ }
     ensures { λ r. ⌜ r ≡ same (descriptorAt (now (card .entry)) (p .0) .name) name ⌝ }
 {
