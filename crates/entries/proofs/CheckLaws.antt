@@ -17,11 +17,13 @@ use Rattle.blocks.specs.Descriptor.{physical, tableCount}
 use Rattle.blocks.specs.declared.numbers.Physical.{Physical}
 use Rattle.blocks.specs.declared.descriptor.Descriptor.{Descriptor}
 use Rattle.blocks.proofs.BoolLaws.{no, or-false-left, or-false-right, or-true, and-false}
+use Rattle.blocks.proofs.Tests.{and-left, and-right}
 use Rattle.entries.specs.InPlace.{isDescriptor, isTable, inPlace}
 use Rattle.entries.specs.Entry.{entryAt, phiAt, tableOf}
 use Rattle.entries.specs.Naming.{Naming, among, atFault, tableNamings, tablesNamings, phiNamings, firstFault}
-use Rattle.entries.specs.Marks.{isFlagged, takes, taking, Marks, Walked, Judged, namedTable, TableReady, TablesReady, PhiReady}
-use Rattle.entries.proofs.MarkLaws.{takes-below, takes-free, length-taking}
+use Rattle.entries.specs.Marks.{isFlagged, takes, taking, Marks, limitOf, Taken, takingAll, namedTable, TableReady, TablesReady, PhiReady}
+use Rattle.entries.proofs.MarkLaws.{takes-below, takes-free, taking-refused, length-taking}
+use Rattle.entries.specs.declared.check.Verdict.{Verdict}
 use Rattle.entries.specs.declared.check.Verdict.the-variants.{Passed, Fault}
 
 -- one entry, as tests: z nil, b below beta, o in an opening, k counted, a named before, f against the rule on old tables, t below the limit, s flagged
@@ -156,26 +158,26 @@ module _ (ds : List Descriptor) (d : Descriptor) (holder v : ℕ) (counted phi :
   pub marks-taken : takes seen turn limit counted v ≡ true → Marks ds turn (taking seen turn limit counted v) (v ∷ before)
   marks-taken h = marks-by (eqb v 0) refl h
 
--- the limit of a table block: alpha where the table is an old one, else beta
-module _ (d : Descriptor) (m v : ℕ) (rising : d .alpha .0 ≤ d .beta .0) (own : (d .layout ≡ 2) ⊎ (d .alpha .0 ≤ m)) where
-  abbrev limit-for : ℕ
-  limit-for = pick (ltb m (d .alpha .0)) (d .alpha .0) (d .beta .0)
+-- the limit of an entry that block m holds: alpha where m is an old table, else beta
+limit-to : (d : Descriptor) → d .alpha .0 ≤ d .beta .0 → (t : Bool) → pick t (d .alpha .0) (d .beta .0) ≤ d .beta .0
+limit-to d rising true = rising
+limit-to d rising false = omega arith
 
-  abbrev old : Bool
-  old = eqb (d .layout) 2 && not false && leb (d .alpha .0) v && ltb m (d .alpha .0)
+pub limit-low : (d : Descriptor) (m : ℕ) → d .alpha .0 ≤ d .beta .0 → pick (ltb m (d .alpha .0)) (d .alpha .0) (d .beta .0) ≤ d .beta .0
+limit-low d m rising = limit-to d rising (ltb m (d .alpha .0))
 
-  limit-by : (t : Bool) → ltb m (d .alpha .0) ≡ t → pick t (d .alpha .0) (d .beta .0) ≤ d .beta .0
-  limit-by true e = rising
-  limit-by false e = omega arith
+module _ (d : Descriptor) (m v : ℕ) (own : (d .layout ≡ 2) ⊎ (d .alpha .0 ≤ m)) where
+  abbrev limit-for : Bool → ℕ
+  limit-for phi = pick (not phi && ltb m (d .alpha .0)) (d .alpha .0) (d .beta .0)
 
-  pub limit-low : limit-for ≤ d .beta .0
-  limit-low = limit-by (ltb m (d .alpha .0)) refl
+  abbrev old : Bool → Bool
+  old phi = eqb (d .layout) 2 && not phi && leb (d .alpha .0) v && ltb m (d .alpha .0)
 
   above : (t : Bool) → ltb v (d .alpha .0) ≡ t → leb (d .alpha .0) v ≡ not t
   above true e = lt-leb (d .alpha .0) v (ltb-true v (d .alpha .0) e)
   above false e = le-leb (d .alpha .0) v (ltb-false v (d .alpha .0) e)
 
-  rule-old : m < d .alpha .0 → (d .layout ≡ 2) ⊎ (d .alpha .0 ≤ m) → old ≡ not (ltb v limit-for)
+  rule-old : m < d .alpha .0 → (d .layout ≡ 2) ⊎ (d .alpha .0 ≤ m) → old false ≡ not (ltb v (limit-for false))
   rule-old h (inl e) = rw (lt-ltb m (d .alpha .0) h, eq-eqb (d .layout) 2 e, above (ltb v (d .alpha .0)) refl) (and-true (not (ltb v (d .alpha .0))))
     where
       and-true : (x : Bool) → (x && true) ≡ x
@@ -183,23 +185,29 @@ module _ (d : Descriptor) (m v : ℕ) (rising : d .alpha .0 ≤ d .beta .0) (own
       and-true false = refl
   rule-old h (inr l) = absurd (omega arith)
 
-  rule-own : d .alpha .0 ≤ m → v < d .beta .0 → old ≡ not (ltb v limit-for)
+  rule-own : d .alpha .0 ≤ m → v < d .beta .0 → old false ≡ not (ltb v (limit-for false))
   rule-own h l = rw (le-ltb m (d .alpha .0) h, lt-ltb v (d .beta .0) l, and-false (eqb (d .layout) 2 && not false && leb (d .alpha .0) v))
 
-  rule-by : (t : Bool) → ltb m (d .alpha .0) ≡ t → v < d .beta .0 → old ≡ not (ltb v limit-for)
+  rule-by : (t : Bool) → ltb m (d .alpha .0) ≡ t → v < d .beta .0 → old false ≡ not (ltb v (limit-for false))
   rule-by true e l = rule-old (ltb-true m (d .alpha .0) e) own
   rule-by false e l = rule-own (ltb-false m (d .alpha .0) e) l
 
-  pub table-rule : v < d .beta .0 → old ≡ not (ltb v limit-for)
-  table-rule l = rule-by (ltb m (d .alpha .0)) refl l
-
-  nil-by : (t : Bool) → leb (d .alpha .0) v ≡ t → v ≡ 0 → old ≡ false
+  nil-by : (t : Bool) → leb (d .alpha .0) v ≡ t → v ≡ 0 → old false ≡ false
   nil-by true e z =
       rw (le-ltb m (d .alpha .0) (omega (arith, leb-true (d .alpha .0) v e)), and-false (eqb (d .layout) 2 && not false && leb (d .alpha .0) v))
   nil-by false e z = rw (e, and-false (eqb (d .layout) 2 && not false))
 
-  pub table-nil : v ≡ 0 → old ≡ false
-  table-nil z = nil-by (leb (d .alpha .0) v) refl z
+  -- an entry of Phi is of no table
+  old-phi : old true ≡ false
+  old-phi = rw (and-false (eqb (d .layout) 2))
+
+  entry-rule : (phi : Bool) → v < d .beta .0 → old phi ≡ not (ltb v (limit-for phi))
+  entry-rule true l = rw (lt-ltb v (d .beta .0) l) old-phi
+  entry-rule false l = rule-by (ltb m (d .alpha .0)) refl l
+
+  entry-nil : (phi : Bool) → v ≡ 0 → old phi ≡ false
+  entry-nil true z = old-phi
+  entry-nil false z = nil-by (leb (d .alpha .0) v) refl z
 
 -- the first fault of a list, by its first entry
 module _ (ds : List Descriptor) (d : Descriptor) (before : List ℕ) (e : Naming) (es : List Naming) where
@@ -211,180 +219,173 @@ module _ (ds : List Descriptor) (d : Descriptor) (before : List ℕ) (e : Naming
   unfolding firstFault
   fault-here h = rw h
 
--- the walk over the entries of table block m, with j of them taken
-module _ (c : List ℕ) (ds : List Descriptor) (d : Descriptor) (turn i m : ℕ) where
-  pub TableWalk : List ℕ → List ℕ → ℕ → Type 0
-  TableWalk seen₀ seen j =
-      (before₀ : List ℕ) → Marks ds turn seen₀ before₀
-      → (before : List ℕ) × Marks ds turn seen before
-      × ((rest : List Naming) → firstFault ds d before₀ (tableNamings c d i m 128 0 ++ rest) ≡ firstFault ds d before (tableNamings c d i m (128 - j) j ++ rest))
+-- the walk, by its first entry
+module _ (d : Descriptor) (turn : ℕ) (seen : List ℕ) (e : Naming) (es : List Naming) where
+  taking-first : takes seen turn (limitOf d e) (e .counted) (e .value) ≡ true → takingAll d turn seen (e ∷ es) ≡ takingAll d turn (taking seen turn (limitOf d e) (e .counted) (e .value)) es
+  unfolding takingAll
+  taking-first h = rw h
 
-  pub table-start : (seen : List ℕ) → TableWalk seen seen 0
-  unfolding TableWalk
-  table-start seen = λ before marks. (before, marks, λ rest. refl)
+  taking-stop : takes seen turn (limitOf d e) (e .counted) (e .value) ≡ false → takingAll d turn seen (e ∷ es) ≡ record { verdict = Fault (physical (e .holder)); flags = seen }
+  unfolding takingAll
+  taking-stop h = rw h
 
+-- the walk keeps the length of the flags
+length-by : (n : ℕ) (some stop : Taken) (t : Bool) → length (some .flags) ≡ n → length (stop .flags) ≡ n → length (pick t some stop .flags) ≡ n
+length-by n some stop true e f = e
+length-by n some stop false e f = f
+
+pub taking-length : (d : Descriptor) (turn : ℕ) (es : List Naming) (seen : List ℕ) → length (takingAll d turn seen es .flags) ≡ length seen
+unfolding takingAll
+taking-length d turn [] seen = refl
+taking-length d turn (e ∷ es) seen =
+    let next = taking seen turn (limitOf d e) (e .counted) (e .value) in
+    length-by (length seen) (takingAll d turn next es) (record { verdict = Fault (physical (e .holder)); flags = seen }) (takes seen turn (limitOf d e) (e .counted) (e .value))
+    (taking-length d turn es next ∙ length-taking seen turn (limitOf d e) (e .counted) (e .value)) refl
+
+-- a fault is no pass
+not-passed : {A : Type 0} (h : Physical) → Fault h ≡ Passed → A
+not-passed h e = let z : _≡_ {A = ℕ} 0 1 = cc in absurd (omega arith)
+
+-- the walk over two lists: that over the second starts from the flags that the first left, and is not made after a fault
+module _ (d : Descriptor) (turn : ℕ) (ys : List Naming) where
+  onward : Verdict → List ℕ → Taken
+  onward Passed seen = takingAll d turn seen ys
+  onward (Fault h) seen = record { verdict = Fault h; flags = seen }
+
+  append-by : (all some : Taken) (h : Physical) (seen : List ℕ) (t : Bool) → all ≡ onward (some .verdict) (some .flags) → pick t all (record { verdict = Fault h; flags = seen }) ≡ onward (pick t some (record { verdict = Fault h; flags = seen }) .verdict) (pick t some (record { verdict = Fault h; flags = seen }) .flags)
+  unfolding onward
+  append-by all some h seen true e = e
+  append-by all some h seen false e = refl
+
+  taking-append : (xs : List Naming) (seen : List ℕ) → takingAll d turn seen (xs ++ ys) ≡ onward (takingAll d turn seen xs .verdict) (takingAll d turn seen xs .flags)
+  unfolding takingAll onward
+  taking-append [] seen = refl
+  taking-append (e ∷ xs) seen =
+      let next = taking seen turn (limitOf d e) (e .counted) (e .value) in
+      append-by (takingAll d turn next (xs ++ ys)) (takingAll d turn next xs) (physical (e .holder)) seen (takes seen turn (limitOf d e) (e .counted) (e .value)) (taking-append xs next)
+
+  module _ (xs : List Naming) (seen seen′ : List ℕ) where
+    taking-through : record { verdict = Passed; flags = seen′ } ≡ takingAll d turn seen xs → takingAll d turn seen (xs ++ ys) ≡ takingAll d turn seen′ ys
+    unfolding onward
+    taking-through e = taking-append xs seen ∙ ap (λ (t : Taken). onward (t .verdict) (t .flags)) (sym e)
+
+    taking-within : (h : Physical) → record { verdict = Fault h; flags = seen′ } ≡ takingAll d turn seen xs → takingAll d turn seen (xs ++ ys) ≡ record { verdict = Fault h; flags = seen′ }
+    unfolding onward
+    taking-within h e = taking-append xs seen ∙ ap (λ (t : Taken). onward (t .verdict) (t .flags)) (sym e)
+
+-- whether the blocks that hold some entries are at or above alpha
+pub above-all : ℕ → List Naming → Bool
+above-all alpha [] = true
+above-all alpha (e ∷ es) = leb alpha (e .holder) && above-all alpha es
+
+-- the walk with flags finds the first fault, and where it passes its flags say what was named; in layout 1 no table may be an old one
+module _ (ds : List Descriptor) (d : Descriptor) (turn : ℕ) (rising : d .alpha .0 ≤ d .beta .0) where
+  abbrev pub Agrees : List ℕ → List ℕ → List Naming → Type 0
+  Agrees seen before es =
+      (takingAll d turn seen es .verdict ≡ firstFault ds d before es)
+      × (takingAll d turn seen es .verdict ≡ Passed → (after : List ℕ) × Marks ds turn (takingAll d turn seen es .flags) after)
+
+  module _ (e : Naming) (es : List Naming) (seen before : List ℕ) (own : (d .layout ≡ 2) ⊎ (d .alpha .0 ≤ e .holder)) (long : d .beta .0 ≤ length seen) (marks : Marks ds turn seen before) where
+    abbrev next : List ℕ
+    next = taking seen turn (limitOf d e) (e .counted) (e .value)
+
+    low : limitOf d e ≤ d .beta .0
+    unfolding limitOf
+    low = limit-to d rising (not (e .phi) && ltb (e .holder) (d .alpha .0))
+
+    rule : e .value < d .beta .0 → old d (e .holder) (e .value) own (e .phi) ≡ not (ltb (e .value) (limitOf d e))
+    unfolding limitOf
+    rule = entry-rule d (e .holder) (e .value) own (e .phi)
+
+    agrees-by : (d .beta .0 ≤ length next → Marks ds turn next (e .value ∷ before) → Agrees next (e .value ∷ before) es)
+        → (t : Bool) → takes seen turn (limitOf d e) (e .counted) (e .value) ≡ t → Agrees seen before (e ∷ es)
+    agrees-by rest true q =
+        let f = entry-taken ds d (e .holder) (e .value) (e .counted) (e .phi) (limitOf d e) before turn seen marks low long rule (entry-nil d (e .holder) (e .value) own (e .phi)) q in
+        rw (taking-first d turn seen e es q, fault-later ds d before e es f)
+        (rest (omega (arith, length-taking seen turn (limitOf d e) (e .counted) (e .value)))
+        (marks-taken ds d (e .holder) (e .value) (e .counted) (e .phi) (limitOf d e) before turn seen marks low long q))
+    agrees-by rest false q =
+        let f = entry-refused ds d (e .holder) (e .value) (e .counted) (e .phi) (limitOf d e) before turn seen marks low long rule (entry-nil d (e .holder) (e .value) own (e .phi)) q in
+        rw (taking-stop d turn seen e es q, fault-here ds d before e es f) (refl, λ p. not-passed (physical (e .holder)) p)
+
+  own-first : (e : Naming) (es : List Naming) → (d .layout ≡ 2) ⊎ (above-all (d .alpha .0) (e ∷ es) ≡ true) → ((d .layout ≡ 2) ⊎ (d .alpha .0 ≤ e .holder)) × ((d .layout ≡ 2) ⊎ (above-all (d .alpha .0) es ≡ true))
+  unfolding above-all
+  own-first e es (inl l) = (inl l, inl l)
+  own-first e es (inr h) =
+      (inr (leb-true (d .alpha .0) (e .holder) (and-left (leb (d .alpha .0) (e .holder)) (above-all (d .alpha .0) es) h)), inr (and-right (leb (d .alpha .0) (e .holder)) (above-all (d .alpha .0) es) h))
+
+  pub taking-agrees : (es : List Naming) → (d .layout ≡ 2) ⊎ (above-all (d .alpha .0) es ≡ true) → (seen before : List ℕ) → d .beta .0 ≤ length seen → Marks ds turn seen before → Agrees seen before es
+  unfolding takingAll firstFault
+  taking-agrees [] own seen before long marks = (refl, λ p. (before, marks))
+  taking-agrees (e ∷ es) own seen before long marks =
+      let o = own-first e es own in
+      let next = taking seen turn (limitOf d e) (e .counted) (e .value) in
+      agrees-by e es seen before (o .0) long marks (taking-agrees es (o .1) next (e .value ∷ before)) (takes seen turn (limitOf d e) (e .counted) (e .value)) refl
+
+-- the tables of a layout 1 descriptor are above it
+above-table : (c : List ℕ) (d : Descriptor) (i m : ℕ) → d .alpha .0 ≤ m → (k j : ℕ) (rest : List Naming) → above-all (d .alpha .0) rest ≡ true → above-all (d .alpha .0) (tableNamings c d i m k j ++ rest) ≡ true
+unfolding above-all tableNamings
+above-table c d i m h zero j rest e = e
+above-table c d i m h (suc k) j rest e = rw (le-leb (d .alpha .0) m h) (above-table c d i m h k (suc j) rest e)
+
+pub above-tables : (c : List ℕ) (d : Descriptor) → d .layout ≡ 1 → (k i : ℕ) → above-all (d .alpha .0) (tablesNamings c d k i) ≡ true
+unfolding above-all tablesNamings tableOf
+above-tables c d e zero i = refl
+above-tables c d e (suc k) i =
+    let q : tableOf c d i ≡ d .alpha .0 + 1 + i = rw (eq-eqb (d .layout) 1 e) in
+    above-table c d i (tableOf c d i) (omega arith) 128 0 (tablesNamings c d k (suc i)) (above-tables c d e k (suc i))
+
+-- the walk over the entries of table block m, as the code makes it
+module _ (c : List ℕ) (d : Descriptor) (turn i m : ℕ) where
   -- the next entry
   next-naming : (j : ℕ) → j < 128
       → tableNamings c d i m (128 - j) j ≡ record { holder = m; value = entryAt c m j; counted = ltb (128 * i + j) (d .volume); phi = false } ∷ tableNamings c d i m (128 - (j + 1)) (j + 1)
   unfolding tableNamings
   next-naming j h = let e : 128 - j ≡ suc (128 - (j + 1)) = omega arith in rw (e, ← (add-one j))
 
-  none : (j : ℕ) → tableNamings c d i m zero j ≡ []
-  unfolding tableNamings
-  none j = refl
+  module _ (w : Taken) (seen : List ℕ) (j : ℕ) (walk : w ≡ takingAll d turn seen (tableNamings c d i m (128 - j) j)) where
+    pub table-end : 128 ≤ j → record { verdict = Passed; flags = seen } ≡ w
+    unfolding tableNamings takingAll
+    table-end h = let z : 128 - j ≡ zero = omega arith in sym (rw z at walk)
 
-  module _ (seen₀ seen : List ℕ) (j : ℕ) (w : TableWalk seen₀ seen j) (kept : length seen ≡ length seen₀) (more : j < 128) (ready : TableReady c d i m seen₀) (limit : ℕ) (limit-is : limit ≡ pick (ltb m (d .alpha .0)) (d .alpha .0) (d .beta .0))
-      (left : ℕ) (left-is : left ≡ d .volume - 128 * i) (v : Physical) (v-is : v ≡ physical (entryAt c m j)) (r : Bool) (seen′ : List ℕ)
-      (taken : (r ≡ takes seen turn limit (ltb j left) (v .0)) × (seen′ ≡ taking seen turn limit (ltb j left) (v .0))) where
-    abbrev counted : Bool
-    counted = ltb j left
+    module _ (more : j < 128) (limit : ℕ) (limit-is : limit ≡ pick (ltb m (d .alpha .0)) (d .alpha .0) (d .beta .0)) (left : ℕ) (left-is : left ≡ d .volume - 128 * i)
+        (v : Physical) (v-is : v ≡ physical (entryAt c m j)) (r : Bool) (seen′ : List ℕ) (took : (r ≡ takes seen turn limit (ltb j left) (v .0)) × (seen′ ≡ taking seen turn limit (ltb j left) (v .0))) where
+      abbrev entry-here : Naming
+      entry-here = record { holder = m; value = v .0; counted = ltb j left; phi = false }
 
-    counted-is : (t : Bool) → ltb j left ≡ t → ltb (128 * i + j) (d .volume) ≡ ltb j left
-    counted-is true e = lt-ltb (128 * i + j) (d .volume) (omega (arith, ltb-true j left e, left-is)) ∙ sym e
-    counted-is false e = le-ltb (128 * i + j) (d .volume) (omega (arith, ltb-false j left e, left-is)) ∙ sym e
+      counted-is : (t : Bool) → ltb j left ≡ t → ltb (128 * i + j) (d .volume) ≡ ltb j left
+      counted-is true e = lt-ltb (128 * i + j) (d .volume) (omega (arith, ltb-true j left e, left-is)) ∙ sym e
+      counted-is false e = le-ltb (128 * i + j) (d .volume) (omega (arith, ltb-false j left e, left-is)) ∙ sym e
 
-    long : d .beta .0 ≤ length seen
-    long = omega (arith, kept, ready .flags)
+      here : w ≡ takingAll d turn seen (entry-here ∷ tableNamings c d i m (128 - (j + 1)) (j + 1))
+      here =
+          let value : v .0 ≡ entryAt c m j = ap (λ (x : Physical). x .0) v-is in
+          rw (value, ← (counted-is (ltb j left) refl), ← (next-naming j more)) walk
 
-    low : limit ≤ d .beta .0
-    low = rw limit-is (limit-low d m (v .0) (ready .rising) (ready .own))
+      limit-here : limitOf d entry-here ≡ limit
+      unfolding limitOf
+      limit-here = sym limit-is
 
-    rule : v .0 < d .beta .0 → old d m (v .0) (ready .rising) (ready .own) ≡ not (ltb (v .0) limit)
-    rule l = rw limit-is (table-rule d m (v .0) (ready .rising) (ready .own) l)
+      pub table-more : r ≡ true → w ≡ takingAll d turn seen′ (tableNamings c d i m (128 - (j + 1)) (j + 1))
+      table-more e =
+          rw (took .1, ← limit-here)
+          (here ∙ taking-first d turn seen entry-here (tableNamings c d i m (128 - (j + 1)) (j + 1)) (rw limit-here (sym (took .0) ∙ e)))
 
-    value : v .0 ≡ entryAt c m j
-    value = ap (λ (x : Physical). x .0) v-is
-
-    abbrev rest-of : List Naming
-    rest-of = tableNamings c d i m (128 - (j + 1)) (j + 1)
-
-    here : tableNamings c d i m (128 - j) j ≡ record { holder = m; value = v .0; counted = counted; phi = false } ∷ rest-of
-    here = next-naming j more ∙ rw (← value, counted-is (ltb j left) refl)
-
-    pub table-more : r ≡ true → TableWalk seen₀ seen′ (j + 1)
-    unfolding TableWalk
-    table-more e = λ before₀ marks₀.
-        let p = w before₀ marks₀ in
-        let t : takes seen turn limit counted (v .0) ≡ true = sym (taken .0) ∙ e in
-        let f = entry-taken ds d m (v .0) counted false limit (p .0) turn seen (p .1) low long rule (table-nil d m (v .0) (ready .rising) (ready .own)) t in (
-          v .0 ∷ p .0,
-          rw (taken .1) (marks-taken ds d m (v .0) counted false limit (p .0) turn seen (p .1) low long t),
-          λ rest.
-              p .2 rest
-              ∙ ap (λ (es : List Naming). firstFault ds d (p .0) (es ++ rest)) here
-              ∙ fault-later ds d (p .0) (record { holder = m; value = v .0; counted = counted; phi = false }) (rest-of ++ rest) f,
-        )
-
-    pub table-failed : r ≡ false → Walked ds d turn (tableNamings c d i m 128 0) m seen₀ false seen′
-    unfolding TableWalk
-    table-failed e =
-        let t : takes seen turn limit counted (v .0) ≡ false = sym (taken .0) ∙ e in
-        record {
-          passed = λ q. no q;
-          failed = λ q before marks rest.
-              let p = w before marks in
-              p .2 rest
-              ∙ ap (λ (es : List Naming). firstFault ds d (p .0) (es ++ rest)) here
-              ∙ fault-here ds d (p .0) (record { holder = m; value = v .0; counted = counted; phi = false }) (rest-of ++ rest)
-              (entry-refused ds d m (v .0) counted false limit (p .0) turn seen (p .1) low long rule (table-nil d m (v .0) (ready .rising) (ready .own)) t);
-          kept = ap length (taken .1) ∙ length-taking seen turn limit counted (v .0) ∙ kept;
-        }
-
-  pub table-passed : (seen₀ seen : List ℕ) (j : ℕ) → TableWalk seen₀ seen j → j ≤ 128 → 128 ≤ j → length seen ≡ length seen₀ → Walked ds d turn (tableNamings c d i m 128 0) m seen₀ true seen
-  unfolding TableWalk
-  table-passed seen₀ seen j w h k long =
-      let z : 128 - j ≡ zero = omega arith in
-      record {
-        passed = λ q before marks. let p = w before marks in (p .0, p .1, λ rest. p .2 rest ∙ end j z (p .0) rest);
-        failed = λ q. no (sym q);
-        kept = long;
-      }
-    where
-      end : (j : ℕ) → 128 - j ≡ zero → (before : List ℕ) (rest : List Naming) → firstFault ds d before (tableNamings c d i m (128 - j) j ++ rest) ≡ firstFault ds d before rest
-      end j z before rest = rw (z, none j)
+      pub table-stop : r ≡ false → record { verdict = Fault (physical m); flags = seen′ } ≡ w
+      table-stop e =
+          let f : takes seen turn limit (ltb j left) (v .0) ≡ false = sym (took .0) ∙ e in
+          rw (took .1, taking-refused seen turn limit (ltb j left) (v .0) f)
+          (sym (here ∙ taking-stop d turn seen entry-here (tableNamings c d i m (128 - (j + 1)) (j + 1)) (rw limit-here f)))
 
 -- a table block that may be nil
-module _ (c : List ℕ) (ds : List Descriptor) (d : Descriptor) (turn i m : ℕ) where
-  pub named-nil : (seen : List ℕ) → m ≡ 0 → Walked ds d turn (namedTable c d i m) m seen true seen
+module _ (c : List ℕ) (d : Descriptor) (turn i m : ℕ) (seen : List ℕ) where
+  pub named-nil : m ≡ 0 → record { verdict = Passed; flags = seen } ≡ takingAll d turn seen (namedTable c d i m)
+  unfolding namedTable takingAll
+  named-nil e = rw (eq-eqb m 0 e)
+
+  pub named-table : (w : Taken) → (m ≡ 0 → ⊥) → w ≡ takingAll d turn seen (tableNamings c d i m 128 0) → w ≡ takingAll d turn seen (namedTable c d i m)
   unfolding namedTable
-  named-nil seen e = rw (eq-eqb m 0 e) record { passed = λ q before marks. (before, marks, λ rest. refl); failed = λ q. no (sym q); kept = refl }
-
-  pub named-table : (seen : List ℕ) (r : Bool) (seen′ : List ℕ) → (m ≡ 0 → ⊥) → Walked ds d turn (tableNamings c d i m 128 0) m seen r seen′ → Walked ds d turn (namedTable c d i m) m seen r seen′
-  unfolding namedTable
-  named-table seen r seen′ n w = rw (ne-eqb m 0 n) w
-
--- a walk over all namings that has come to those that are left
-module _ (ds : List Descriptor) (d : Descriptor) (turn : ℕ) where
-  pub Reached : List ℕ → List Naming → List ℕ → List Naming → Type 0
-  Reached seen₀ all seen left =
-      (before₀ : List ℕ) → Marks ds turn seen₀ before₀ → (before : List ℕ) × Marks ds turn seen before × (firstFault ds d before₀ all ≡ firstFault ds d before left)
-
-  -- after a fault the flags need not say anything
-  not-passed : {A : Type 0} (h : Physical) → Fault h ≡ Passed → A
-  not-passed h e = let z : _≡_ {A = ℕ} 0 1 = cc in absurd (omega arith)
-
-  judged-fault : (seen : List ℕ) (all : List Naming) (h : Physical) (seen′ : List ℕ) → ((before : List ℕ) → Marks ds turn seen before → Fault h ≡ firstFault ds d before all) → Judged ds d turn all seen (Fault h) seen′
-  judged-fault seen all h seen′ f = record { verdict = f; passed = λ e. not-passed h e }
-
-  pub reached-start : (seen : List ℕ) (all : List Naming) → Reached seen all seen all
-  unfolding Reached
-  reached-start seen all = λ before marks. (before, marks, refl)
-
-  module _ (seen₀ : List ℕ) (all : List Naming) (seen : List ℕ) (xs left : List Naming) (holder : ℕ) (seen′ : List ℕ) where
-    pub reached-through : Reached seen₀ all seen (xs ++ left) → Walked ds d turn xs holder seen true seen′ → Reached seen₀ all seen′ left
-    unfolding Reached
-    reached-through r w = λ before₀ marks₀.
-        let p = r before₀ marks₀ in
-        let q = w .passed refl (p .0) (p .1) in
-        (q .0, q .1, p .2 ∙ q .2 left)
-
-    pub reached-fault : Reached seen₀ all seen (xs ++ left) → Walked ds d turn xs holder seen false seen′ → Judged ds d turn all seen₀ (Fault (physical holder)) seen′
-    unfolding Reached
-    reached-fault r w = judged-fault seen₀ all (physical holder) seen′ (λ before₀ marks₀. let p = r before₀ marks₀ in sym (p .2 ∙ w .failed refl (p .0) (p .1) left))
-
-  -- the entries that are left pass, or have a fault, whatever was named before
-  module _ (seen₀ : List ℕ) (all : List Naming) (seen : List ℕ) (left : List Naming) where
-    pub reached-passed : ((before : List ℕ) → firstFault ds d before left ≡ Passed) → Reached seen₀ all seen left → Judged ds d turn all seen₀ Passed seen
-    unfolding Reached
-    reached-passed f r =
-        record {
-          verdict = λ before₀ marks₀. let p = r before₀ marks₀ in sym (p .2 ∙ f (p .0));
-          passed = λ q before₀ marks₀. let p = r before₀ marks₀ in (p .0, p .1);
-        }
-
-    pub reached-failed : (h : Physical) (seen′ : List ℕ) → ((before : List ℕ) → firstFault ds d before left ≡ Fault h) → Reached seen₀ all seen left → Judged ds d turn all seen₀ (Fault h) seen′
-    unfolding Reached
-    reached-failed h seen′ f r = judged-fault seen₀ all h seen′ (λ before₀ marks₀. let p = r before₀ marks₀ in sym (p .2 ∙ f (p .0)))
-
-    pub reached-end : left ≡ [] → Reached seen₀ all seen left → Judged ds d turn all seen₀ Passed seen
-    unfolding firstFault
-    reached-end e r = reached-passed (λ before. rw e) r
-
-  -- an entry of Phi: below beta, and of no table
-  module _ (seen₀ : List ℕ) (all : List Naming) (seen : List ℕ) (v : ℕ) (counted : Bool) (left : List Naming) (long : d .beta .0 ≤ length seen) where
-    abbrev phi-entry : Naming
-    phi-entry = record { holder = d .alpha .0; value = v; counted = counted; phi = true }
-
-    no-rule : (b e : Bool) → (e && not true && leb (d .alpha .0) v && b) ≡ false
-    no-rule b true = refl
-    no-rule b false = refl
-
-    phi-rule : v < d .beta .0 → (eqb (d .layout) 2 && not true && leb (d .alpha .0) v && ltb (d .alpha .0) (d .alpha .0)) ≡ not (ltb v (d .beta .0))
-    phi-rule l = rw (lt-ltb v (d .beta .0) l, no-rule (ltb (d .alpha .0) (d .alpha .0)) (eqb (d .layout) 2))
-
-    pub reached-entry : Reached seen₀ all seen (phi-entry ∷ left) → takes seen turn (d .beta .0) counted v ≡ true → Reached seen₀ all (taking seen turn (d .beta .0) counted v) left
-    unfolding Reached
-    reached-entry r t = λ before₀ marks₀.
-        let p = r before₀ marks₀ in
-        let f = entry-taken ds d (d .alpha .0) v counted true (d .beta .0) (p .0) turn seen (p .1) (omega arith) long phi-rule (λ z. no-rule (ltb (d .alpha .0) (d .alpha .0)) (eqb (d .layout) 2)) t in
-        (v ∷ p .0, marks-taken ds d (d .alpha .0) v counted true (d .beta .0) (p .0) turn seen (p .1) (omega arith) long t, p .2 ∙ fault-later ds d (p .0) phi-entry left f)
-
-    pub reached-refused : Reached seen₀ all seen (phi-entry ∷ left) → takes seen turn (d .beta .0) counted v ≡ false → (seen′ : List ℕ) → Judged ds d turn all seen₀ (Fault (d .alpha)) seen′
-    unfolding Reached
-    reached-refused r t seen′ = judged-fault seen₀ all (d .alpha) seen′ (λ before₀ marks₀.
-        let p = r before₀ marks₀ in
-        let f = entry-refused ds d (d .alpha .0) v counted true (d .beta .0) (p .0) turn seen (p .1) (omega arith) long phi-rule (λ z. no-rule (ltb (d .alpha .0) (d .alpha .0)) (eqb (d .layout) 2)) t in
-        sym (p .2 ∙ fault-here ds d (p .0) phi-entry left f))
+  named-table w n e = rw (ne-eqb m 0 n) e
 
 -- the namings that are left, table by table
 module _ (c : List ℕ) (d : Descriptor) where
@@ -409,7 +410,7 @@ module _ (c : List ℕ) (d : Descriptor) where
       rw (e, lt-ltb i (tableCount (d .volume)) l, follows (tableNamings c d i (phiAt c d i) 128 0) (eqb (phiAt c d i) 0), ← (add-one i))
 
 -- the walk over the tables of a layout 1 descriptor, as the code makes it
-module _ (c : List ℕ) (ds : List Descriptor) (d : Descriptor) (n turn : ℕ) (seen₀ : List ℕ) (ready : TablesReady c d n seen₀) where
+module _ (c : List ℕ) (d : Descriptor) (n : ℕ) (seen₀ : List ℕ) (ready : TablesReady c d n seen₀) where
   pub tables-ask : (i : ℕ) → i < n → (512 * d .alpha .0 + 512 ≤ length c) × (i < 112) × (d .alpha .0 + 113 < 2 ^ 32)
   tables-ask i h = (omega (arith, ready .on-card, ready .region), omega (arith, ready .groups), omega (arith, ready .region, ready .small))
 
@@ -422,25 +423,30 @@ module _ (c : List ℕ) (ds : List Descriptor) (d : Descriptor) (n turn : ℕ) (
         flags = omega (arith, long, ready .flags);
         rising = omega (arith, ready .region);
         group = omega (arith, ready .groups);
-        own = inr (omega arith);
       }
 
-  pub tables-start : Reached ds d turn seen₀ (tablesNamings c d n 0) seen₀ (tablesNamings c d (n - 0) 0)
-  tables-start = let e : n - 0 ≡ n = omega arith in rw e (reached-start ds d turn seen₀ (tablesNamings c d n 0))
+module _ (c : List ℕ) (d : Descriptor) (n turn : ℕ) where
+  pub tables-start : (seen : List ℕ) → takingAll d turn seen (tablesNamings c d n 0) ≡ takingAll d turn seen (tablesNamings c d (n - 0) 0)
+  tables-start seen = let e : n - 0 ≡ n = omega arith in rw e
 
-  module _ (seen : List ℕ) (i : ℕ) (r : Reached ds d turn seen₀ (tablesNamings c d n 0) seen (tablesNamings c d (n - i) i)) where
-    pub tables-end : n ≤ i → Judged ds d turn (tablesNamings c d n 0) seen₀ Passed seen
-    tables-end h = reached-end ds d turn seen₀ (tablesNamings c d n 0) seen (tablesNamings c d (n - i) i) (tables-none c d n i h) r
+  module _ (w : Taken) (seen : List ℕ) (i : ℕ) (walk : w ≡ takingAll d turn seen (tablesNamings c d (n - i) i)) where
+    pub tables-end : n ≤ i → record { verdict = Passed; flags = seen } ≡ w
+    unfolding takingAll
+    tables-end h = sym (rw (tables-none c d n i h) at walk)
 
-    module _ (more : i < n) (m : Physical) (is : m ≡ physical (tableOf c d i)) (seen′ : List ℕ) where
-      split : Reached ds d turn seen₀ (tablesNamings c d n 0) seen (tableNamings c d i (m .0) 128 0 ++ tablesNamings c d (n - (i + 1)) (i + 1))
-      split = let q : m .0 ≡ tableOf c d i = ap (λ (x : Physical). x .0) is in rw (q, ← (tables-next c d n i more)) r
+    module _ (more : i < n) (m : Physical) (is : m ≡ physical (tableOf c d i)) (b : Bool) (seen′ : List ℕ)
+        (one : record { verdict = pick b Passed (Fault m); flags = seen′ } ≡ takingAll d turn seen (tableNamings c d i (m .0) 128 0)) where
+      abbrev later : List Naming
+      later = tablesNamings c d (n - (i + 1)) (i + 1)
 
-      pub tables-more : (b : Bool) → Walked ds d turn (tableNamings c d i (m .0) 128 0) (m .0) seen b seen′ → b ≡ true → Reached ds d turn seen₀ (tablesNamings c d n 0) seen′ (tablesNamings c d (n - (i + 1)) (i + 1))
-      tables-more b w e = reached-through ds d turn seen₀ (tablesNamings c d n 0) seen (tableNamings c d i (m .0) 128 0) (tablesNamings c d (n - (i + 1)) (i + 1)) (m .0) seen′ split (rw e at w)
+      split : w ≡ takingAll d turn seen (tableNamings c d i (m .0) 128 0 ++ later)
+      split = let q : m .0 ≡ tableOf c d i = ap (λ (x : Physical). x .0) is in rw (q, ← (tables-next c d n i more)) walk
 
-      pub tables-fault : (b : Bool) → Walked ds d turn (tableNamings c d i (m .0) 128 0) (m .0) seen b seen′ → b ≡ false → Judged ds d turn (tablesNamings c d n 0) seen₀ (Fault m) seen′
-      tables-fault b w e = reached-fault ds d turn seen₀ (tablesNamings c d n 0) seen (tableNamings c d i (m .0) 128 0) (tablesNamings c d (n - (i + 1)) (i + 1)) (m .0) seen′ split (rw e at w)
+      pub tables-more : b ≡ true → w ≡ takingAll d turn seen′ later
+      tables-more e = split ∙ taking-through d turn later (tableNamings c d i (m .0) 128 0) seen seen′ (rw e at one)
+
+      pub tables-fault : b ≡ false → record { verdict = Fault m; flags = seen′ } ≡ w
+      tables-fault e = sym (split ∙ taking-within d turn later (tableNamings c d i (m .0) 128 0) seen seen′ m (rw e at one))
 
 -- bytes are all zero where the number of the first four is 0 and the others are zero
 module _ (w x y z v : ℕ) (is : v ≡ w + 256 * x + 65536 * y + 16777216 * z) (r : Bool) where
@@ -469,103 +475,99 @@ zero-bytes c at m n e h =
 pub clear-past : (c : List ℕ) (a n : ℕ) (r : Bool) → n ≤ 112 → r ≡ allZero (part c (512 * a + 64 + 4 * n) (512 * a + 512 - (512 * a + 64 + 4 * n))) → r ≡ allZero (part c (512 * a + 64 + 4 * n) (448 - 4 * n))
 clear-past c a n r h e = let q : 448 - 4 * n ≡ 512 * a + 512 - (512 * a + 64 + 4 * n) = omega arith in rw q e
 
--- the entries of Phi past n, which are at fault where they are set
-module _ (c : List ℕ) (ds : List Descriptor) (d : Descriptor) where
+-- the entries of Phi past n, which are refused where they are set
+module _ (c : List ℕ) (d : Descriptor) (turn : ℕ) (seen : List ℕ) where
   abbrev past-entry : ℕ → Naming
   past-entry v = record { holder = d .alpha .0; value = v; counted = false; phi = true }
-
-  past-fault : (before : List ℕ) (v : ℕ) → atFault ds d before (past-entry v) ≡ not (eqb v 0)
-  unfolding atFault inPlace
-  past-fault before v = by (eqb v 0) (eqb (d .layout) 2) (ltb v (d .beta .0) && not (isDescriptor ds v || isTable ds v))
-    where
-      by : (z e x : Bool) → (not (z || x) || (not z && (not false || among before v)) || (e && not true && leb (d .alpha .0) v && ltb (d .alpha .0) (d .alpha .0))) ≡ not z
-      by true true x = refl
-      by true false x = refl
-      by false e x = rw (or-true (not x))
 
   past-next : (k i : ℕ) → tableCount (d .volume) ≤ i → phiNamings c d (suc k) i ≡ past-entry (phiAt c d i) ∷ phiNamings c d k (i + 1)
   unfolding phiNamings
   past-next k i h = rw (le-ltb i (tableCount (d .volume)) h, ← (add-one i))
 
-  past-step : (before : List ℕ) (v : ℕ) (rest : List Naming) (r : Bool) → firstFault ds d (v ∷ before) rest ≡ pick r Passed (Fault (d .alpha)) → (z : Bool) → eqb v 0 ≡ z
-      → firstFault ds d before (past-entry v ∷ rest) ≡ pick (z && r) Passed (Fault (d .alpha))
-  past-step before v rest r f true e = fault-later ds d before (past-entry v) rest (past-fault before v ∙ rw e) ∙ f
-  past-step before v rest r f false e = fault-here ds d before (past-entry v) rest (past-fault before v ∙ rw e)
+  past-step : (v : ℕ) (rest : List Naming) (r : Bool) → takingAll d turn seen rest ≡ record { verdict = pick r Passed (Fault (d .alpha)); flags = seen } → (z : Bool) → eqb v 0 ≡ z
+      → takingAll d turn seen (past-entry v ∷ rest) ≡ record { verdict = pick (z && r) Passed (Fault (d .alpha)); flags = seen }
+  unfolding takingAll takes taking
+  past-step v rest r f true e = rw e f
+  past-step v rest r f false e = rw e
 
   abbrev phi-place : ℕ → ℕ
   phi-place i = 512 * d .alpha .0 + 64 + 4 * i
 
-  -- k of them from entry i on: nil where their bytes are zero, and else the first that is set is at fault
-  pub phi-past : (k i : ℕ) → tableCount (d .volume) ≤ i → phi-place i + 4 * k ≤ length c → (before : List ℕ)
-      → firstFault ds d before (phiNamings c d k i) ≡ pick (allZero (part c (phi-place i) (4 * k))) Passed (Fault (d .alpha))
-  unfolding firstFault phiNamings phiAt allZero
-  phi-past zero i h l before = refl
-  phi-past (suc k) i h l before =
+  -- k of them from entry i on: nil where their bytes are zero, and else the first that is set is refused
+  pub phi-past : (k i : ℕ) → tableCount (d .volume) ≤ i → phi-place i + 4 * k ≤ length c
+      → takingAll d turn seen (phiNamings c d k i) ≡ record { verdict = pick (allZero (part c (phi-place i) (4 * k))) Passed (Fault (d .alpha)); flags = seen }
+  unfolding takingAll phiNamings phiAt allZero
+  phi-past zero i h l = refl
+  phi-past (suc k) i h l =
       let next : phi-place (i + 1) ≡ phi-place i + 4 = omega arith in
-      let rest = phi-past k (i + 1) (omega arith) (omega arith) (phiAt c d i ∷ before) in
-      ap (firstFault ds d before) (past-next k i h)
-      ∙ past-step before (phiAt c d i) (phiNamings c d k (i + 1)) (allZero (part c (phi-place i + 4) (4 * k))) (rw next at rest) (eqb (phiAt c d i) 0) refl
-      ∙ ap (λ (z : Bool). pick z Passed (Fault (d .alpha))) (sym (zero-bytes c (phi-place i) (4 * k) (4 * suc k) (omega arith) (omega arith)))
+      let rest = phi-past k (i + 1) (omega arith) (omega arith) in
+      ap (takingAll d turn seen) (past-next k i h)
+      ∙ past-step (phiAt c d i) (phiNamings c d k (i + 1)) (allZero (part c (phi-place i + 4) (4 * k))) (rw next at rest) (eqb (phiAt c d i) 0) refl
+      ∙ ap (λ (z : Bool). record { verdict = pick z Passed (Fault (d .alpha)); flags = seen }) (sym (zero-bytes c (phi-place i) (4 * k) (4 * suc k) (omega arith) (omega arith)))
 
 -- the walk over Phi of a layout 2 descriptor, as the code makes it
-module _ (c : List ℕ) (ds : List Descriptor) (d : Descriptor) (n turn : ℕ) (seen₀ : List ℕ) (ready : PhiReady c d n seen₀) where
+module _ (c : List ℕ) (d : Descriptor) (n : ℕ) (seen₀ : List ℕ) (ready : PhiReady c d n seen₀) where
   pub phi-ask : (i : ℕ) → i < n → (512 * d .alpha .0 + 512 ≤ length c) × (i < 112) × (d .alpha .0 + 113 < 2 ^ 32)
   phi-ask i h = (omega (arith, ready .on-card, ready .region), omega (arith, ready .groups), omega (arith, ready .region, ready .small))
 
   pub phi-past-ask : (512 * d .alpha .0 + 512 ≤ length c) × (n ≤ 112)
   phi-past-ask = (omega (arith, ready .on-card, ready .region), ready .groups)
 
-  module _ (seen : List ℕ) (i : ℕ) (r : Reached ds d turn seen₀ (phiNamings c d 112 0) seen (phiNamings c d (112 - i) i)) where
+  module _ (turn : ℕ) (w : Taken) (seen : List ℕ) (i : ℕ) (walk : w ≡ takingAll d turn seen (phiNamings c d (112 - i) i)) where
     -- all counted entries have passed, and z says whether those past n are nil
     module _ (low : i ≤ n) (high : n ≤ i) (z : Bool) (clear : z ≡ allZero (part c (512 * d .alpha .0 + 64 + 4 * n) (448 - 4 * n))) where
-      past : (before : List ℕ) → firstFault ds d before (phiNamings c d (112 - i) i) ≡ pick z Passed (Fault (d .alpha))
-      past before =
+      past : w ≡ record { verdict = pick z Passed (Fault (d .alpha)); flags = seen }
+      past =
           let q : i ≡ n = omega arith in
           let k : 448 - 4 * n ≡ 4 * (112 - n) = omega (arith, ready .groups) in
-          rw (q, clear, k) (phi-past c ds d (112 - n) n (omega (arith, ready .tables)) (omega (arith, ready .groups, ready .on-card, ready .region)) before)
+          rw (clear, k) (rw q at walk ∙ phi-past c d turn seen (112 - n) n (omega (arith, ready .tables)) (omega (arith, ready .groups, ready .on-card, ready .region)))
 
-      pub phi-passed : z ≡ true → Judged ds d turn (phiNamings c d 112 0) seen₀ Passed seen
-      phi-passed e = reached-passed ds d turn seen₀ (phiNamings c d 112 0) seen (phiNamings c d (112 - i) i) (λ before. rw e at (past before)) r
+      pub phi-clear : z ≡ true → record { verdict = Passed; flags = seen } ≡ w
+      phi-clear e = sym (rw e at past)
 
-      pub phi-set-past : z ≡ false → Judged ds d turn (phiNamings c d 112 0) seen₀ (Fault (d .alpha)) seen
-      phi-set-past e = reached-failed ds d turn seen₀ (phiNamings c d 112 0) seen (phiNamings c d (112 - i) i) (d .alpha) seen (λ before. rw e at (past before)) r
+      pub phi-set : z ≡ false → record { verdict = Fault (d .alpha); flags = seen } ≡ w
+      phi-set e = sym (rw e at past)
 
-    module _ (kept : length seen ≡ length seen₀) (more : i < n) (m : Physical) (is : m ≡ physical (tableOf c d i)) (b : Bool) (seen′ : List ℕ)
-        (taken : (b ≡ takes seen turn (d .beta .0) true (m .0)) × (seen′ ≡ taking seen turn (d .beta .0) true (m .0))) where
-      phi-long : d .beta .0 ≤ length seen
-      phi-long = omega (arith, kept, ready .flags)
-
+    module _ (more : i < n) (m : Physical) (is : m ≡ physical (tableOf c d i)) (b : Bool) (seen′ : List ℕ)
+        (took : (b ≡ takes seen turn (d .beta .0) true (m .0)) × (seen′ ≡ taking seen turn (d .beta .0) true (m .0))) where
       phi-is : m .0 ≡ phiAt c d i
       unfolding tableOf
       phi-is = ap (λ (x : Physical). x .0) is ∙ rw (ne-eqb (d .layout) 1 (omega (arith, ready .layout)))
 
-      abbrev rest-of-phi : List Naming
-      rest-of-phi = phiNamings c d (112 - (i + 1)) (i + 1)
+      abbrev phi-entry : Naming
+      phi-entry = record { holder = d .alpha .0; value = m .0; counted = true; phi = true }
 
-      here-phi : Reached ds d turn seen₀ (phiNamings c d 112 0) seen (record { holder = d .alpha .0; value = m .0; counted = true; phi = true } ∷ (namedTable c d i (m .0) ++ rest-of-phi))
-      here-phi = rw (phi-is, ← (phi-next c d i (omega (arith, ready .groups)) (omega (arith, ready .tables)))) r
+      abbrev phi-later : List Naming
+      phi-later = phiNamings c d (112 - (i + 1)) (i + 1)
 
-      pub phi-refused : b ≡ false → Judged ds d turn (phiNamings c d 112 0) seen₀ (Fault (d .alpha)) seen′
-      phi-refused e = reached-refused ds d turn seen₀ (phiNamings c d 112 0) seen (m .0) true (namedTable c d i (m .0) ++ rest-of-phi) phi-long here-phi (sym (taken .0) ∙ e) seen′
+      here-phi : w ≡ takingAll d turn seen (phi-entry ∷ (namedTable c d i (m .0) ++ phi-later))
+      here-phi = rw (phi-is, ← (phi-next c d i (omega (arith, ready .groups)) (omega (arith, ready .tables)))) walk
+
+      pub phi-refused : b ≡ false → record { verdict = Fault (d .alpha); flags = seen′ } ≡ w
+      unfolding limitOf
+      phi-refused e =
+          let f : takes seen turn (d .beta .0) true (m .0) ≡ false = sym (took .0) ∙ e in
+          rw (took .1, taking-refused seen turn (d .beta .0) true (m .0) f)
+          (sym (here-phi ∙ taking-stop d turn seen phi-entry (namedTable c d i (m .0) ++ phi-later) f))
 
       module _ (e : b ≡ true) where
-        pub phi-table-ready : (m .0 ≡ 0 → ⊥) → TableReady c d i (m .0) seen′
-        phi-table-ready z =
-            let l : m .0 < d .beta .0 = takes-below seen turn (d .beta .0) true (m .0) (sym (taken .0) ∙ e) z in
+        pub phi-table-ready : length seen ≡ length seen₀ → (m .0 ≡ 0 → ⊥) → TableReady c d i (m .0) seen′
+        phi-table-ready kept z =
+            let l : m .0 < d .beta .0 = takes-below seen turn (d .beta .0) true (m .0) (sym (took .0) ∙ e) z in
             record {
               on-card = omega (arith, ready .on-card);
-              flags = omega (arith, ap length (taken .1), length-taking seen turn (d .beta .0) true (m .0), phi-long);
+              flags = omega (arith, ap length (took .1), length-taking seen turn (d .beta .0) true (m .0), kept, ready .flags);
               rising = omega (arith, ready .region);
               group = omega (arith, ready .groups);
-              own = inl (ready .layout);
             }
 
-        after-entry : Reached ds d turn seen₀ (phiNamings c d 112 0) seen′ (namedTable c d i (m .0) ++ rest-of-phi)
-        after-entry = rw (taken .1) (reached-entry ds d turn seen₀ (phiNamings c d 112 0) seen (m .0) true (namedTable c d i (m .0) ++ rest-of-phi) phi-long here-phi (sym (taken .0) ∙ e))
+        after-entry : w ≡ takingAll d turn seen′ (namedTable c d i (m .0) ++ phi-later)
+        unfolding limitOf
+        after-entry = rw (took .1) (here-phi ∙ taking-first d turn seen phi-entry (namedTable c d i (m .0) ++ phi-later) (sym (took .0) ∙ e))
 
-        module _ (a : Bool) (seen″ : List ℕ) (w : Walked ds d turn (namedTable c d i (m .0)) (m .0) seen′ a seen″) where
-          pub phi-fault : a ≡ false → Judged ds d turn (phiNamings c d 112 0) seen₀ (Fault m) seen″
-          phi-fault f = reached-fault ds d turn seen₀ (phiNamings c d 112 0) seen′ (namedTable c d i (m .0)) rest-of-phi (m .0) seen″ after-entry (rw f at w)
+        module _ (a : Bool) (seen″ : List ℕ) (one : record { verdict = pick a Passed (Fault m); flags = seen″ } ≡ takingAll d turn seen′ (namedTable c d i (m .0))) where
+          pub phi-fault : a ≡ false → record { verdict = Fault m; flags = seen″ } ≡ w
+          phi-fault f = sym (after-entry ∙ taking-within d turn phi-later (namedTable c d i (m .0)) seen′ seen″ m (rw f at one))
 
-          pub phi-more : a ≡ true → Reached ds d turn seen₀ (phiNamings c d 112 0) seen″ rest-of-phi
-          phi-more f = reached-through ds d turn seen₀ (phiNamings c d 112 0) seen′ (namedTable c d i (m .0)) rest-of-phi (m .0) seen″ after-entry (rw f at w)
+          pub phi-more : a ≡ true → w ≡ takingAll d turn seen″ phi-later
+          phi-more f = after-entry ∙ taking-through d turn phi-later (namedTable c d i (m .0)) seen′ seen″ (rw f at one)

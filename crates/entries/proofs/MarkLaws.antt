@@ -10,6 +10,7 @@ use lib.ListN.{length, getD, set, replicate, length-set, length-replicate}
 use lib.Dec.{eqb, ltb}
 use borrow.Author.Tests.{ne-eqb, lt-ltb, le-ltb, le-leb, lt-leb, ltb-true, not-true, not-false}
 use Rattle.blocks.specs.Pick.{pick}
+use Rattle.blocks.proofs.BoolLaws.{and-false}
 use Rattle.blocks.proofs.ByteLaws.{copied, copied-all, splice-whole, cleared-more}
 use Rattle.entries.specs.Marks.{isFlagged, takes, taking, flagged, openingsFlagged, nextTurn, nextFlags}
 
@@ -91,6 +92,11 @@ and-end false b c h = let z : _≡_ {A = ℕ} 0 1 = cc in absurd (omega arith)
 pub takes-free : (seen : List ℕ) (turn limit : ℕ) (counted : Bool) (v : ℕ) → takes seen turn limit counted v ≡ true → (v ≡ 0 → ⊥) → isFlagged seen turn v ≡ false
 unfolding takes
 takes-free seen turn limit counted v h n = not-true (isFlagged seen turn v) (and-end counted (ltb v limit) (not (isFlagged seen turn v)) (rw (ne-eqb v 0 n) at h))
+
+-- one that is refused leaves the flags
+pub taking-refused : (seen : List ℕ) (turn limit : ℕ) (counted : Bool) (v : ℕ) → takes seen turn limit counted v ≡ false → taking seen turn limit counted v ≡ seen
+unfolding taking
+taking-refused seen turn limit counted v h = rw (h, and-false (not (eqb v 0)))
 
 length-pick : (seen : List ℕ) (turn v : ℕ) (t : Bool) → length (pick t (set seen v turn) seen) ≡ length seen
 length-pick seen turn v true = length-set seen v turn

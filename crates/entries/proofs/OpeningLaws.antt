@@ -1,5 +1,6 @@
 -- The flags of all openings say which blocks are descriptors or layout 1 table blocks, and the check of one descriptor starts from them.
 use mathlib.Core.Path.{_≡_, refl, sym, ap, _∙_}
+use mathlib.Core.Logic.{_⊎_, inl, inr}
 use mathlib.Core.Bool.{Bool, true, false, not, _&&_, _||_}
 use mathlib.Core.List.{List, [], _∷_, _++_}
 use Prim.Native.Nat.{ℕ, zero, suc, _+_, _*_, _≤_, _<_}
@@ -13,18 +14,18 @@ use Rattle.blocks.specs.Bytes.{blockCount}
 use Rattle.blocks.specs.Descriptor.{tableCount, cost, costOf, noDescriptor}
 use Rattle.blocks.specs.Chain.{chain, descriptors}
 use Rattle.blocks.specs.declared.descriptor.Descriptor.{Descriptor}
-use Rattle.blocks.proofs.BoolLaws.{or-assoc, or-nil}
+use Rattle.blocks.proofs.BoolLaws.{no, or-assoc, or-nil}
 use Rattle.blocks.proofs.SoundLaws.{form-layout}
 use Rattle.blocks.proofs.ChainLaws.{cost-least}
 use Rattle.blocks.proofs.LinkedLaws.{at-alpha, at-cost, at-long, at-end}
 use Rattle.entries.specs.InPlace.{isDescriptor, isTable}
 use Rattle.entries.specs.Through.{Through}
-use Rattle.entries.specs.Naming.{Naming, among, tablesNamings, phiNamings, namings, checkOne}
-use Rattle.entries.specs.Marks.{flagged, openingsFlagged, nextTurn, nextFlags, Marks, Judged, TablesReady, PhiReady}
-use Rattle.entries.specs.declared.check.Verdict.{Verdict}
+use Rattle.entries.specs.Naming.{among, tablesNamings, phiNamings, namings, checkOne}
+use Rattle.entries.specs.Marks.{flagged, openingsFlagged, nextTurn, nextFlags, Marks, Taken, takingAll, TablesReady, PhiReady}
 use Rattle.entries.specs.declared.check.Verdict.the-variants.{Passed}
 use Rattle.entries.proofs.RegionLaws.{opening-alone, through-count, through-at, through-region, through-rising}
 use Rattle.entries.proofs.EntryLaws.{through-beta, through-end, through-volume}
+use Rattle.entries.proofs.CheckLaws.{Agrees, above-all, above-tables, taking-agrees}
 
 -- a run of flags
 flagged-length : (seen : List ℕ) (from n : ℕ) → length (flagged seen from n) ≡ length seen
@@ -147,7 +148,7 @@ marks-first ds seen at =
     first false = refl
 
 -- what a turn leaves is below the next
-pub marks-next : (ds : List Descriptor) (turn : ℕ) (seen before : List ℕ) → turn < 255 → Marks ds turn seen before → Marks ds (turn + 1) seen []
+marks-next : (ds : List Descriptor) (turn : ℕ) (seen before : List ℕ) → turn < 255 → Marks ds turn seen before → Marks ds (turn + 1) seen []
 unfolding among
 marks-next ds turn seen before h marks =
     record {
@@ -164,6 +165,14 @@ openings-length : (seen : List ℕ) (starts : List ℕ) (k n : ℕ) → length (
 unfolding openingsFlagged
 openings-length seen starts k zero = refl
 openings-length seen starts k (suc n) = flagged-length (openingsFlagged seen starts k n) (getD starts n 0) k ∙ openings-length seen starts k n
+
+pub turn-length : (seen starts : List ℕ) (k n turn : ℕ) → length (nextFlags seen starts k n turn) ≡ length seen
+unfolding nextFlags
+turn-length seen starts k n turn = by (ltb turn 255)
+  where
+    by : (t : Bool) → length (pick t seen (openingsFlagged (replicate (length seen) 0) starts k n)) ≡ length seen
+    by true = refl
+    by false = openings-length (replicate (length seen) 0) starts k n ∙ length-replicate {A = ℕ} (length seen) 0
 
 module _ (c starts : List ℕ) (count : ℕ) (d : Descriptor) (t : Through c starts count d) where
   abbrev ds : List Descriptor
@@ -225,8 +234,15 @@ module _ (c starts : List ℕ) (count : ℕ) (d : Descriptor) (t : Through c sta
       let zeros = replicate {A = ℕ} n 0 in
       rw e (openings-marked c starts count d t zeros (omega (arith, length-replicate {A = ℕ} n 0)) (replicate-clear n) cost cost-is (openingsFlagged zeros starts cost count) refl)
 
-  pub turn-marked : (turn′ : ℕ) (seen′ : List ℕ) → (turn′ ≡ nextTurn turn) × (seen′ ≡ nextFlags seen starts cost count turn) → Marks (descriptors (chain c)) turn′ seen′ []
-  turn-marked turn′ seen′ e = rw (e .0, e .1) (turn-by (ltb turn 255) refl)
+  pub turn-marked : Marks (descriptors (chain c)) (nextTurn turn) (nextFlags seen starts cost count turn) []
+  turn-marked = turn-by (ltb turn 255) refl
+
+-- a descriptor of the chain that has not layout 1 has layout 2
+layout-2 : (c starts : List ℕ) (count : ℕ) (d : Descriptor) → Through c starts count d → (b : Bool) → eqb (d .layout) 2 ≡ b → (d .layout ≡ 1 → ⊥) → d .layout ≡ 2
+layout-2 c starts count d t true q e = eqb-true (d .layout) 2 q
+layout-2 c starts count d t false q e =
+    let f : false ≡ true = sym (rw (ne-eqb (d .layout) 1 e, q)) ∙ form-layout c _ d (through-region c starts count d t .form) in
+    no f
 
 -- the check of one descriptor, as the code makes it
 module _ (c starts : List ℕ) (count : ℕ) (d : Descriptor) (t : Through c starts count d) (n : ℕ) (tables-are : n ≡ tableCount (d .volume)) where
@@ -261,26 +277,33 @@ module _ (c starts : List ℕ) (count : ℕ) (d : Descriptor) (t : Through c sta
         small = small-beta;
         tables = tables-are;
         groups = few-tables;
-        layout = layout-2 (eqb (d .layout) 2) refl;
+        layout = layout-2 c starts count d t (eqb (d .layout) 2) refl e;
       }
-    where
-      layout-2 : (b : Bool) → eqb (d .layout) 2 ≡ b → d .layout ≡ 2
-      layout-2 true q = eqb-true (d .layout) 2 q
-      layout-2 false q =
-          let f : false ≡ true = sym (rw (ne-eqb (d .layout) 1 e, q)) ∙ form-layout c _ d (through-region c starts count d t .form) in
-          let z : _≡_ {A = ℕ} 0 1 = cc in
-          absurd (omega arith)
 
-  module _ (turn : ℕ) (seen : List ℕ) (marks : Marks (descriptors (chain c)) turn seen []) (r : Verdict) (seen′ : List ℕ) where
-    next-marks : (entries : List Naming) → Judged (descriptors (chain c)) d turn entries seen r seen′ → r ≡ Passed → turn < 255 → Marks (descriptors (chain c)) (turn + 1) seen′ []
-    next-marks entries j e h = let p = j .passed e [] marks in marks-next (descriptors (chain c)) turn seen′ (p .0) h (p .1)
+  -- the walk of the layout is that over all entries of the descriptor
+  module _ (turn : ℕ) (seen : List ℕ) (w : Taken) where
+    pub one-by-tables : d .layout ≡ 1 → w ≡ takingAll d turn seen (tablesNamings c d n 0) → w ≡ takingAll d turn seen (namings c d)
+    unfolding namings
+    one-by-tables e walk = walk ∙ rw (tables-are, eq-eqb (d .layout) 1 e)
 
-    pub one-by-tables : d .layout ≡ 1 → Judged (descriptors (chain c)) d turn (tablesNamings c d n 0) seen r seen′
-        → (r ≡ checkOne c (descriptors (chain c)) d) × (r ≡ Passed → turn < 255 → Marks (descriptors (chain c)) (turn + 1) seen′ [])
-    unfolding checkOne namings
-    one-by-tables e j = (j .verdict [] marks ∙ rw (tables-are, eq-eqb (d .layout) 1 e), next-marks (tablesNamings c d n 0) j)
+    pub one-by-phi : (d .layout ≡ 1 → ⊥) → w ≡ takingAll d turn seen (phiNamings c d 112 0) → w ≡ takingAll d turn seen (namings c d)
+    unfolding namings
+    one-by-phi e walk = walk ∙ rw (ne-eqb (d .layout) 1 e)
 
-    pub one-by-phi : (d .layout ≡ 1 → ⊥) → Judged (descriptors (chain c)) d turn (phiNamings c d 112 0) seen r seen′
-        → (r ≡ checkOne c (descriptors (chain c)) d) × (r ≡ Passed → turn < 255 → Marks (descriptors (chain c)) (turn + 1) seen′ [])
-    unfolding checkOne namings
-    one-by-phi e j = (j .verdict [] marks ∙ rw (ne-eqb (d .layout) 1 e), next-marks (phiNamings c d 112 0) j)
+-- from flags that are ready for the turn, the walk over all entries of a descriptor gives the verdict on it, and leaves flags that are ready for the next turn
+module _ (c starts : List ℕ) (count : ℕ) (d : Descriptor) (t : Through c starts count d) where
+  own-by : (o : Bool) → eqb (d .layout) 1 ≡ o → (d .layout ≡ 2) ⊎ (above-all (d .alpha .0) (namings c d) ≡ true)
+  unfolding namings
+  own-by true e = inr (rw e (above-tables c d (eqb-true (d .layout) 1 e) (tableCount (d .volume)) 0))
+  own-by false e = inl (layout-2 c starts count d t (eqb (d .layout) 2) refl (eqb-false (d .layout) 1 e))
+
+  module _ (turn : ℕ) (seen : List ℕ) (long : length c ≤ 512 * length seen) (marks : Marks (descriptors (chain c)) turn seen []) where
+    agrees : Agrees (descriptors (chain c)) d turn (omega (arith, through-beta c starts count d t)) seen [] (namings c d)
+    agrees = taking-agrees (descriptors (chain c)) d turn (omega (arith, through-beta c starts count d t)) (namings c d) (own-by (eqb (d .layout) 1) refl) seen [] (omega (arith, through-end c starts count d t)) marks
+
+    pub one-verdict : takingAll d turn seen (namings c d) .verdict ≡ checkOne c (descriptors (chain c)) d
+    unfolding checkOne
+    one-verdict = agrees .0
+
+    pub one-marked : takingAll d turn seen (namings c d) .verdict ≡ Passed → turn < 255 → Marks (descriptors (chain c)) (turn + 1) (takingAll d turn seen (namings c d) .flags) []
+    one-marked e h = let p = agrees .1 e in marks-next (descriptors (chain c)) turn (takingAll d turn seen (namings c d) .flags) (p .0) h (p .1)

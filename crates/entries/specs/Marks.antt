@@ -1,18 +1,16 @@
 -- Flags for the blocks of a card, which the check in code keeps: a byte for each block. Each descriptor is checked in a turn of its own, and the
--- turns rise, so that what an earlier turn left is below the turn and needs no clearing.
+-- turns rise, so that what an earlier turn left is below the turn. The flags are cleared only after turn 255, and then the turns start again.
 use mathlib.Core.Path.{_≡_}
-use mathlib.Core.Logic.{_⊎_}
 use mathlib.Core.Bool.{Bool, true, false, not, _&&_, _||_}
-use mathlib.Core.List.{List, [], _++_}
+use mathlib.Core.List.{List, [], _∷_}
 use Prim.Native.Nat.{ℕ, zero, suc, _+_, _*_, _≤_, _<_}
 use lib.ListN.{length, getD, set, replicate}
 use lib.Dec.{eqb, ltb, leb}
 use Rattle.blocks.specs.Pick.{pick}
-use Rattle.blocks.specs.Chain.{chain, descriptors}
 use Rattle.blocks.specs.Descriptor.{physical, tableSize, phiSize, tableCount}
 use Rattle.blocks.specs.declared.descriptor.Descriptor.{Descriptor}
 use Rattle.entries.specs.InPlace.{isDescriptor, isTable}
-use Rattle.entries.specs.Naming.{Naming, among, tableNamings, firstFault}
+use Rattle.entries.specs.Naming.{Naming, among, tableNamings}
 use Rattle.entries.specs.Through.{Through}
 use Rattle.entries.specs.declared.check.Verdict.{Verdict}
 use Rattle.entries.specs.declared.check.Verdict.the-variants.{Passed, Fault}
@@ -56,25 +54,28 @@ pub record Marks (ds : List Descriptor) (turn : ℕ) (seen before : List ℕ) : 
   pub opening : (v : ℕ) → v < length seen → (v ≡ 0 → ⊥) → (isDescriptor ds v || isTable ds v) ≡ true → getD seen v 0 ≡ openingFlag
   pub other : (v : ℕ) → v < length seen → (v ≡ 0 → ⊥) → (isDescriptor ds v || isTable ds v) ≡ false → getD seen v 0 ≤ turn
 
--- what a walk over some entries leaves, whatever was named before and whatever comes after: either all pass, and the flags say so, or the fault is at the holder
-pub record Walked (ds : List Descriptor) (d : Descriptor) (turn : ℕ) (entries : List Naming) (holder : ℕ) (seen : List ℕ) (ok : Bool) (seen′ : List ℕ) : Type 0 where
-  pub passed : ok ≡ true → (before : List ℕ) → Marks ds turn seen before
-      → (after : List ℕ) × Marks ds turn seen′ after × ((rest : List Naming) → firstFault ds d before (entries ++ rest) ≡ firstFault ds d after rest)
-  pub failed : ok ≡ false → (before : List ℕ) → Marks ds turn seen before → (rest : List Naming) → firstFault ds d before (entries ++ rest) ≡ Fault (physical holder)
-  pub kept : length seen′ ≡ length seen
+-- where an entry must stay below: alpha for one of a table block below alpha, else beta
+unfoldable pub limitOf : Descriptor → Naming → ℕ
+limitOf d e = pick (not (e .phi) && ltb (e .holder) (d .alpha .0)) (d .alpha .0) (d .beta .0)
 
--- what the walk over all entries of a descriptor leaves: the verdict, and after a pass flags that say what was named
-pub record Judged (ds : List Descriptor) (d : Descriptor) (turn : ℕ) (entries : List Naming) (seen : List ℕ) (r : Verdict) (seen′ : List ℕ) : Type 0 where
-  pub verdict : (before : List ℕ) → Marks ds turn seen before → r ≡ firstFault ds d before entries
-  pub passed : r ≡ Passed → (before : List ℕ) → Marks ds turn seen before → (after : List ℕ) × Marks ds turn seen′ after
+-- what a walk over some entries leaves: the verdict, and the flags
+pub record Taken : Type 0 where
+  pub verdict : Verdict
+  pub flags : List ℕ
 
--- what the walk over a table needs: the block is on the card, the region is one, and a layout 1 table stands in its own region
+-- the walk over some entries of a descriptor in a turn: each is taken, and flagged where it is set, up to the first that is not taken
+unfoldable pub takingAll : Descriptor → ℕ → List ℕ → List Naming → Taken
+takingAll d turn seen [] = record { verdict = Passed; flags = seen }
+takingAll d turn seen (e ∷ es) =
+    let rest = takingAll d turn (taking seen turn (limitOf d e) (e .counted) (e .value)) es in
+    pick (takes seen turn (limitOf d e) (e .counted) (e .value)) rest (record { verdict = Fault (physical (e .holder)); flags = seen })
+
+-- what the walk over a table needs: the block is on the card, and there is a flag for each block below beta
 pub record TableReady (c : List ℕ) (d : Descriptor) (i m : ℕ) (seen : List ℕ) : Type 0 where
   pub on-card : 512 * m + 512 ≤ length c
   pub flags : d .beta .0 ≤ length seen
   pub rising : d .alpha .0 ≤ d .beta .0
   pub group : i < phiSize
-  pub own : (d .layout ≡ 2) ⊎ (d .alpha .0 ≤ m)
 
 -- the namings of the table block m, none where it is nil
 unfoldable pub namedTable : List ℕ → Descriptor → ℕ → ℕ → List Naming
@@ -99,10 +100,9 @@ pub record PhiReady (c : List ℕ) (d : Descriptor) (n : ℕ) (seen : List ℕ) 
   pub groups : n ≤ phiSize
   pub layout : d .layout ≡ 2
 
--- what the check of a descriptor needs: it is one of a sound chain, there is a flag for each block of the card, and only openings are flagged
-pub record CheckReady (c : List ℕ) (d : Descriptor) (turn : ℕ) (seen : List ℕ) : Type 0 where
+-- what the check of a descriptor needs: it is one of a sound chain, and there is a flag for each block of the card
+pub record CheckReady (c : List ℕ) (d : Descriptor) (seen : List ℕ) : Type 0 where
   pub starts : List ℕ
   pub count : ℕ
   pub through : Through c starts count d
   pub flags : length c ≤ 512 * length seen
-  pub marks : Marks (descriptors (chain c)) turn seen []

@@ -8,16 +8,14 @@ use blocks::descriptor::Descriptor;
 use blocks::numbers::Physical;
 ghost use mathlib.Core.Path.{_≡_};
 ghost use mathlib.Core.Bool.{true, false};
-ghost use mathlib.Core.List.{[]};
 ghost use Prim.Native.Nat.{ℕ, _+_, _*_, _-_, _≤_, _<_};
 ghost use lib.ListN.{length, getD, replicate};
 ghost use lib.Dec.{ltb};
 ghost use Rattle.blocks.specs.Pick.{pick, allZero};
 ghost use Rattle.blocks.specs.Bytes.{part};
-ghost use Rattle.blocks.specs.Chain.{chain, descriptors};
-ghost use Rattle.entries.specs.Naming.{tableNamings, tablesNamings, phiNamings, checkOne};
-ghost use Rattle.entries.specs.Marks.{takes, taking, flagged, openingsFlagged, nextTurn, nextFlags, Marks, Walked, Judged, namedTable, TableReady, TablesReady, PhiReady, CheckReady};
-ghost use Rattle.entries.specs.declared.check.Verdict.the-variants.{Passed};
+ghost use Rattle.entries.specs.Naming.{tableNamings, tablesNamings, phiNamings, namings};
+ghost use Rattle.entries.specs.Marks.{takes, taking, flagged, openingsFlagged, nextTurn, nextFlags, takingAll, namedTable, TableReady, TablesReady, PhiReady, CheckReady};
+ghost use Rattle.entries.specs.declared.check.Verdict.the-variants.{Passed, Fault};
 
 // What a check finds: nothing, or the block that holds the first entry at fault.
 pub enum Verdict {
@@ -25,7 +23,7 @@ pub enum Verdict {
     Fault(Physical),
 }
 
-// Takes an entry of value `v`: says whether it is nil, or counted, below `limit` and not flagged in this turn, and flags it.
+// Takes an entry of value `v`: says whether it is nil, or counted, below `limit` and not flagged in this turn. A set entry that is taken is flagged.
 fn take_entry(seen: &mut [u8], turn: u8, limit: u32, counted: bool, v: u32) -> bool
     requires { ⌜ limit ≤ length (now seen) ⌝ }
     ensures { λ r. ⌜ (r ≡ takes (now (seen .entry)) turn limit counted v) × (now (seen .exit) ≡ taking (now (seen .entry)) turn limit counted v) ⌝ }
@@ -119,7 +117,7 @@ fn counted_from(volume: u32, first: u32) -> u32
 // Takes the 128 entries of table block `m`, the table of group `i`, up to the first at fault.
 fn check_table(card: &[u8], d: Descriptor, i: u32, m: Physical, seen: &mut [u8], turn: u8) -> bool
     requires { ⌜ TableReady (now card) d i (m .0) (now seen) ⌝ }
-    ensures { λ r. ⌜ Walked (descriptors (chain (now (card .entry)))) d turn (tableNamings (now (card .entry)) d i (m .0) 128 0) (m .0) (now (seen .entry)) r (now (seen .exit)) ⌝ }
+    ensures { λ r. ⌜ record { verdict = pick r Passed (Fault m); flags = now (seen .exit) } ≡ takingAll d turn (now (seen .entry)) (tableNamings (now (card .entry)) d i (m .0) 128 0) ⌝ }
 {
     let left = counted_from(d.volume, 128 * i);
     let limit = limit_of(d.alpha.0, d.beta.0, m.0);
@@ -138,7 +136,7 @@ fn check_table(card: &[u8], d: Descriptor, i: u32, m: Physical, seen: &mut [u8],
 // Takes the entries of table block `m`, the table of group `i`, unless it is nil.
 fn check_named(card: &[u8], d: Descriptor, i: u32, m: Physical, seen: &mut [u8], turn: u8) -> bool
     requires { ⌜ ((m .0 ≡ 0 → ⊥) → TableReady (now card) d i (m .0) (now seen)) ⌝ }
-    ensures { λ r. ⌜ Walked (descriptors (chain (now (card .entry)))) d turn (namedTable (now (card .entry)) d i (m .0)) (m .0) (now (seen .entry)) r (now (seen .exit)) ⌝ }
+    ensures { λ r. ⌜ record { verdict = pick r Passed (Fault m); flags = now (seen .exit) } ≡ takingAll d turn (now (seen .entry)) (namedTable (now (card .entry)) d i (m .0)) ⌝ }
 {
     if m.0 == 0 {
         return true;
@@ -149,7 +147,7 @@ fn check_named(card: &[u8], d: Descriptor, i: u32, m: Physical, seen: &mut [u8],
 // The verdict on the tables of a layout 1 descriptor.
 fn check_tables(card: &[u8], d: Descriptor, n: u32, seen: &mut [u8], turn: u8) -> Verdict
     requires { ⌜ TablesReady (now card) d n (now seen) ⌝ }
-    ensures { λ r. ⌜ Judged (descriptors (chain (now (card .entry)))) d turn (tablesNamings (now (card .entry)) d n 0) (now (seen .entry)) r (now (seen .exit)) ⌝ }
+    ensures { λ r. ⌜ record { verdict = r; flags = now (seen .exit) } ≡ takingAll d turn (now (seen .entry)) (tablesNamings (now (card .entry)) d n 0) ⌝ }
 {
     let mut i: u32 = 0;
     while i < n {
@@ -174,7 +172,7 @@ fn is_clear_past(card: &[u8], alpha: Physical, n: u32) -> bool
 // The verdict on Phi and the tables that it names, of a layout 2 descriptor with `n` tables.
 fn check_phi(card: &[u8], d: Descriptor, n: u32, seen: &mut [u8], turn: u8) -> Verdict
     requires { ⌜ PhiReady (now card) d n (now seen) ⌝ }
-    ensures { λ r. ⌜ Judged (descriptors (chain (now (card .entry)))) d turn (phiNamings (now (card .entry)) d 112 0) (now (seen .entry)) r (now (seen .exit)) ⌝ }
+    ensures { λ r. ⌜ record { verdict = r; flags = now (seen .exit) } ≡ takingAll d turn (now (seen .entry)) (phiNamings (now (card .entry)) d 112 0) ⌝ }
 {
     let alpha = d.alpha;
     let mut i: u32 = 0;
@@ -196,9 +194,8 @@ fn check_phi(card: &[u8], d: Descriptor, n: u32, seen: &mut [u8], turn: u8) -> V
 
 // The check of the descriptor `d` of the chain, in turn `turn`: the first of its entries that is at fault, in 01's order.
 pub fn check_one(card: &[u8], d: Descriptor, seen: &mut [u8], turn: u8) -> Verdict
-    requires { ⌜ CheckReady (now card) d turn (now seen) ⌝ }
-    ensures { λ r. ⌜ r ≡ checkOne (now (card .entry)) (descriptors (chain (now (card .entry)))) d ⌝ }
-    ensures { λ r. ⌜ (r ≡ Passed → turn < 255 → Marks (descriptors (chain (now (card .entry)))) (turn + 1) (now (seen .exit)) []) ⌝ }
+    requires { ⌜ CheckReady (now card) d (now seen) ⌝ }
+    ensures { λ r. ⌜ record { verdict = r; flags = now (seen .exit) } ≡ takingAll d turn (now (seen .entry)) (namings (now (card .entry)) d) ⌝ }
 {
     let n = descriptor::table_count(d.volume);
     if d.layout == 1 {

@@ -1,4 +1,4 @@
--- `check_one` meets its contract: the walk of the layout finds the first fault.
+-- `check_one` meets its contract: the walk of the layout takes all entries.
 use Rattle.entries.proofs.OpeningLaws.{one-tables-ready, one-phi-ready, one-by-tables, one-by-phi}
 use borrow.Author.Needs.{needs}
 use Rattle.entries.proofs.check.check_one.Statement.{statement}
@@ -20,8 +20,7 @@ returns : tie.Need-returns
 returns c =
     let w = c .before .before in
     let n = w .before .before .before .before in
-    let s = n .before .before .before in
-    one-by-tables _ _ _ _ (s .pre .through) _ (n .table-count .ensures .0) _ _ (s .pre .marks) _ _ (w .before .before .if1 .taken) (w .check-tables .ensures)
+    one-by-tables _ _ _ _ (n .before .before .before .pre .through) _ (n .table-count .ensures .0) _ _ _ (w .before .before .if1 .taken) (w .check-tables .ensures)
 
 check-phi-requires : tie.Need-check-phi-requires
 check-phi-requires c κs =
@@ -36,8 +35,7 @@ returns-2 : tie.Need-returns-2
 returns-2 c =
     let w = c .before .before in
     let n = w .before .before .before .before in
-    let s = n .before .before .before in
-    one-by-phi _ _ _ _ (s .pre .through) _ (n .table-count .ensures .0) _ _ (s .pre .marks) _ _ (w .before .before .if1 .left) (w .check-phi .ensures)
+    one-by-phi _ _ _ _ (n .before .before .before .pre .through) _ (n .table-count .ensures .0) _ _ _ (w .before .before .if1 .left) (w .check-phi .ensures)
 
 pub check-one-spec : {M : Type 1} → statement M
 check-one-spec =

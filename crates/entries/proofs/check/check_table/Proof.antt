@@ -7,10 +7,10 @@ use lib.Dec.{ltb}
 use borrow.Author.Needs.{needs}
 use borrow.Author.Tests.{not-true, not-false}
 use Rattle.blocks.specs.Pick.{pick}
-use Rattle.blocks.specs.Chain.{chain, descriptors}
 use Rattle.blocks.specs.declared.descriptor.Descriptor.{Descriptor}
-use Rattle.entries.specs.Marks.{TableReady}
-use Rattle.entries.proofs.CheckLaws.{limit-low, TableWalk, table-start, table-more, table-failed, table-passed}
+use Rattle.entries.specs.Naming.{tableNamings}
+use Rattle.entries.specs.Marks.{takingAll}
+use Rattle.entries.proofs.CheckLaws.{limit-low, table-more, table-stop, table-end}
 use Rattle.entries.proofs.check.check_table.Statement.{statement}
 use Rattle.entries.proofs.check.check_table.Tie as tie
 
@@ -18,7 +18,8 @@ abbrev Inv-loop : tie.InvT-loop
 Inv-loop card i m seen₀ turn left limit j₀ seen j =
     (j ≤ 128)
     × (length seen ≡ length seen₀)
-    × ((d : Descriptor) → TableReady card d i (m .0) seen₀ → left ≡ d .volume - 128 * i → limit ≡ pick (ltb (m .0) (d .alpha .0)) (d .alpha .0) (d .beta .0) → TableWalk card (descriptors (chain card)) d turn i (m .0) seen₀ seen j)
+    × ((d : Descriptor) → left ≡ d .volume - 128 * i → limit ≡ pick (ltb (m .0) (d .alpha .0)) (d .alpha .0) (d .beta .0)
+    → takingAll d turn seen₀ (tableNamings card d i (m .0) 128 0) ≡ takingAll d turn seen (tableNamings card d i (m .0) (128 - j) j))
 
 abbrev μ-loop : tie.MeasureT-loop
 μ-loop card i m seen₀ turn left limit j₀ seen j = 128 - j
@@ -33,7 +34,7 @@ limit-of-requires : tie.Need-limit-of-requires Inv-loop μ-loop
 limit-of-requires c κs = search needs
 
 loop-holds : tie.Need-loop-holds Inv-loop μ-loop
-loop-holds c = (omega arith, refl, λ d ready e f. table-start _ _ _ _ _ _ _)
+loop-holds c = (omega arith, refl, λ d e f. refl)
 
 entry-at-requires : tie.Need-entry-at-requires Inv-loop μ-loop
 entry-at-requires c κs = (c .before .before .before .before .before .before .pre .on-card, omega arith)
@@ -42,7 +43,7 @@ take-entry-requires : tie.Need-take-entry-requires Inv-loop μ-loop
 take-entry-requires c κs =
     let l = c .before .before .before in
     let s = l .before .before .before .before .before in
-    omega (arith, limit-low (s .args .d) (s .args .m .0) 0 (s .pre .rising) (s .pre .own), l .before .limit-of .ensures, s .pre .flags, l .loop .inv .1)
+    omega (arith, limit-low (s .args .d) (s .args .m .0) (s .pre .rising), l .before .limit-of .ensures, s .pre .flags, l .loop .inv .1)
 
 same-length : tie.Need-same-length Inv-loop μ-loop
 same-length c = let t = c .before .before .before in t .take-entry .kept .0 ∙ t .before .before .before .before .loop .inv .1
@@ -52,8 +53,7 @@ returns c =
     let t = c .before .before .before in
     let l = t .before .before .before .before in
     let n = l .before .before in
-    let s = n .before .before .before in
-    table-failed _ _ _ _ _ _ _ _ _ (l .loop .inv .2 _ (s .pre) (n .counted-from .ensures) (l .before .limit-of .ensures)) (l .loop .inv .1) (omega arith) (s .pre) _ (l .before .limit-of .ensures) _ (n .counted-from .ensures) _ (t .before .before .entry-at .ensures) _ _ (t .take-entry .ensures) (not-true _ (c .if1 .taken))
+    table-stop _ _ _ _ _ _ _ _ (l .loop .inv .2 _ (n .counted-from .ensures) (l .before .limit-of .ensures)) (omega arith) _ (l .before .limit-of .ensures) _ (n .counted-from .ensures) _ (t .before .before .entry-at .ensures) _ _ (t .take-entry .ensures) (not-true _ (c .if1 .taken))
 
 add-j : tie.Need-add-j Inv-loop μ-loop
 add-j c = omega arith
@@ -67,7 +67,7 @@ loop-again c =
     let l = t .before .before .before .before in (
       omega arith,
       t .take-entry .kept .0 ∙ l .loop .inv .1,
-      λ d ready e f. table-more _ _ d _ _ _ _ _ _ (l .loop .inv .2 d ready e f) (l .loop .inv .1) (omega arith) ready _ f _ e _ (t .before .before .entry-at .ensures) _ _ (t .take-entry .ensures) (not-false _ (c .if1 .left)),
+      λ d e f. table-more _ d _ _ _ _ _ _ (l .loop .inv .2 d e f) (omega arith) _ f _ e _ (t .before .before .entry-at .ensures) _ _ (t .take-entry .ensures) (not-false _ (c .if1 .left)),
     )
 
 same-length-2 : tie.Need-same-length-2 Inv-loop μ-loop
@@ -77,7 +77,7 @@ returns-2 : tie.Need-returns-2 Inv-loop μ-loop
 returns-2 c =
     let l = c .before in
     let n = l .before .before in
-    table-passed _ _ _ _ _ _ _ _ _ (l .loop .inv .2 _ (n .before .before .before .pre) (n .counted-from .ensures) (l .before .limit-of .ensures)) (omega arith) (omega arith) (l .loop .inv .1)
+    table-end _ _ _ _ _ _ _ _ (l .loop .inv .2 _ (n .counted-from .ensures) (l .before .limit-of .ensures)) (omega arith)
 
 pub check-table-spec : {M : Type 1} → statement M
 check-table-spec =
