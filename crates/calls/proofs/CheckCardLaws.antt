@@ -1,33 +1,37 @@
 -- Laws of the check of a card, as the code asks them.
-use mathlib.Core.Path.{_≡_, refl, sym, _∙_}
+use mathlib.Core.Path.{_≡_, refl, sym, ap, _∙_}
 use mathlib.Core.Bool.{Bool, true, false, not}
-use mathlib.Core.List.{List, []}
-use Prim.Native.Nat.{ℕ, _+_, _*_, _-_, _≤_, _<_}
+use mathlib.Core.List.{List, [], _∷_}
+use Prim.Native.Nat.{ℕ, zero, suc, _+_, _*_, _-_, _≤_, _<_}
 use native.Mathlib.Numerals.{add-one}
 use native.Mathlib.Omega.{arith}
 use lib.ListN.{length, drop, getD, drop-of-length-le}
 use lib.Seq.{drop-cons}
+use Rattle.blocks.specs.Pick.{pick}
 use Rattle.blocks.specs.Descriptor.{physical, noDescriptor, costOf, descriptorAt}
 use Rattle.blocks.specs.Chain.{chain, descriptors, regionsOf}
 use Rattle.blocks.specs.declared.numbers.Physical.{Physical}
 use Rattle.blocks.specs.declared.descriptor.Descriptor.{Descriptor}
 use Rattle.blocks.specs.declared.chain.Regions.{Regions}
 use Rattle.entries.specs.Through.{Through}
-use Rattle.entries.specs.Naming.{checkOne}
+use Rattle.entries.specs.Naming.{namings, checkOne}
 use Rattle.entries.specs.declared.check.Verdict.{Verdict}
 use Rattle.entries.specs.declared.check.Verdict.the-variants.{Passed, Fault}
-use Rattle.entries.specs.Marks.{openingsFlagged, nextTurn, nextFlags, Marks, CheckReady}
-use Rattle.entries.proofs.OpeningLaws.{openings-ask, openings-marked, turn-marked}
+use Rattle.entries.specs.Marks.{openingsFlagged, nextTurn, nextFlags, Marks, Taken, takingAll, CheckReady}
+use Rattle.entries.proofs.CheckLaws.{taking-length}
+use Rattle.entries.proofs.OpeningLaws.{openings-length, turn-length, openings-ask, openings-marked, turn-marked, one-verdict, one-marked}
 use Rattle.calls.specs.Call.{Check, answer, accepted}
 use Rattle.calls.specs.Parts.{areaBad}
-use Rattle.calls.specs.Check.{orElse, checkAll, checkCard, isFault, faultHolder}
+use Rattle.calls.specs.Check.{orElse, checkAll, checkCard, isFault, faultHolder, takingChain}
 use Rattle.calls.specs.Ladder.{firstRow, checkRows, rowsOf, answerOf}
 use Rattle.calls.proofs.CardLaws.{card-few, card-some, card-count, card-at, card-active, card-through}
 use Rattle.calls.proofs.RowLaws.{row-given, last-passed, area-given, area-passed, chain-given, chain-passed}
 
--- the verdict with k of the descriptors passed
-unfoldable pub checkFrom : List ℕ → ℕ → Verdict
-checkFrom c k = checkAll c (descriptors (chain c)) (drop k (descriptors (chain c)))
+-- a descriptor and those after it: the verdict of the walk is the definition's where it is so for each
+settled : (one later : Taken) (x w : Verdict) → one .verdict ≡ x → (one .verdict ≡ Passed → later .verdict ≡ w) → pick (isFault (one .verdict)) one later .verdict ≡ orElse x w
+unfolding isFault orElse
+settled one later Passed w q f = rw q (f q)
+settled one later (Fault h) w q f = rw q
 
 module _ (c starts : List ℕ) (count : ℕ) (active : Descriptor) (area : areaBad c ≡ false) (whole : regionsOf (chain c) ≡ record { sound = true; place = physical 0; active = active; count = count; starts = starts }) where
   abbrev ds : List Descriptor
@@ -46,44 +50,70 @@ module _ (c starts : List ℕ) (count : ℕ) (active : Descriptor) (area : areaB
   active-through : Through c starts count active
   active-through = chain-through (count - 1) (omega (arith, card-some c regions (sym whole) area refl)) active (card-active c regions (sym whole) area refl)
 
-  -- the flags: those of the openings at the start, and what is asked of them in each turn
+  pub chain-ready : (k : ℕ) → k < count → (d : Descriptor) → d ≡ descriptorAt c (getD starts k 0) → (seen : List ℕ) → length c ≤ 512 * length seen → CheckReady c d seen
+  chain-ready k h d e seen long = record { starts = starts; count = count; through = chain-through k h d e; flags = long }
+
+  -- the descriptors from the k-th on
+  chain-from : (k : ℕ) → k < count → (d : Descriptor) → d ≡ descriptorAt c (getD starts k 0) → drop k ds ≡ d ∷ drop (k + 1) ds
+  chain-from k h d is =
+      let n : k < length ds = omega (arith, card-count c regions (sym whole) area refl) in
+      let e : d ≡ getD ds k noDescriptor = is ∙ sym (card-at c regions (sym whole) area refl k h) in
+      rw (add-one, e) (drop-cons ds k noDescriptor n)
+
+  chain-none : (k : ℕ) → count ≤ k → drop k ds ≡ []
+  chain-none k h = drop-of-length-le ds {i = k} (omega (arith, card-count c regions (sym whole) area refl))
+
+  -- the walk of the code, with k descriptors passed
+  module _ (cost : ℕ) (w : Taken) (turn : ℕ) (seen : List ℕ) (k : ℕ) (walk : w ≡ takingChain c starts cost count turn seen (drop k ds)) where
+    pub chain-end : count ≤ k → record { verdict = Passed; flags = seen } ≡ w
+    unfolding takingChain
+    chain-end h = sym (rw (chain-none k h) at walk)
+
+    module _ (more : k < count) (turn′ : ℕ) (seen′ : List ℕ) (next : (turn′ ≡ nextTurn turn) × (seen′ ≡ nextFlags seen starts cost count turn)) (d : Descriptor) (is : d ≡ descriptorAt c (getD starts k 0))
+        (v : Verdict) (seen″ : List ℕ) (one : record { verdict = v; flags = seen″ } ≡ takingAll d turn′ seen′ (namings c d)) where
+      step : w ≡ pick (isFault v) (record { verdict = v; flags = seen″ }) (takingChain c starts cost count turn′ seen″ (drop (k + 1) ds))
+      unfolding takingChain
+      step = walk ∙ rw (chain-from k more d is, ← (next .0), ← (next .1), ← one)
+
+      pub chain-more : v ≡ Passed → w ≡ takingChain c starts cost count turn′ seen″ (drop (k + 1) ds)
+      unfolding isFault
+      chain-more e = step ∙ rw e
+
+      pub chain-stop : (h : Physical) → v ≡ Fault h → record { verdict = Fault h; flags = seen″ } ≡ w
+      unfolding isFault
+      chain-stop h e = sym (step ∙ rw e)
+
   module _ (cost : ℕ) (cost-is : cost ≡ costOf active) where
     pub chain-ask : (n : ℕ) → length c ≤ 512 * n → (count ≤ length starts) × ((k : ℕ) → k < count → getD starts k 0 + cost ≤ n)
     chain-ask = openings-ask c starts count active active-through cost cost-is
 
-    pub chain-marked : (seen : List ℕ) → length c ≤ 512 * length seen → ((v : ℕ) → getD seen v 0 ≡ 0) → (seen′ : List ℕ) → seen′ ≡ openingsFlagged seen starts cost count → Marks ds 1 seen′ []
-    chain-marked seen long clear = openings-marked c starts count active active-through seen long clear cost cost-is
+    -- its verdict is the definition's, from flags that are ready for the next turn
+    verdict-from : (n k : ℕ) → k + n ≡ count → (turn : ℕ) (seen : List ℕ) → length c ≤ 512 * length seen → (turn < 255 → Marks ds (turn + 1) seen [])
+        → takingChain c starts cost count turn seen (drop k ds) .verdict ≡ checkAll c ds (drop k ds)
+    unfolding takingChain checkAll
+    verdict-from zero k e turn seen long marks = rw (chain-none k (omega arith))
+    verdict-from (suc n) k e turn seen long marks =
+        let d = descriptorAt c (getD starts k 0) in
+        let more : k < count = omega arith in
+        let t = chain-through k more d refl in
+        let turn′ = nextTurn turn in
+        let seen′ = nextFlags seen starts cost count turn in
+        let long′ : length c ≤ 512 * length seen′ = omega (arith, turn-length seen starts cost count turn) in
+        let marks′ = turn-marked c starts count active active-through cost cost-is turn seen long marks in
+        let one = takingAll d turn′ seen′ (namings c d) in
+        rw (chain-from k more d refl)
+        (settled one (takingChain c starts cost count turn′ (one .flags) (drop (k + 1) ds)) (checkOne c ds d) (checkAll c ds (drop (k + 1) ds)) (one-verdict c starts count d t turn′ seen′ long′ marks′)
+        (λ p. verdict-from n (k + 1) (omega arith) turn′ (one .flags) (omega (arith, taking-length d turn′ (namings c d) seen′)) (one-marked c starts count d t turn′ seen′ long′ marks′ p)))
 
-    pub chain-next : (turn : ℕ) (seen : List ℕ) → length c ≤ 512 * length seen → (v : Verdict) → (v ≡ Passed → turn < 255 → Marks ds (turn + 1) seen []) → v ≡ Passed
-        → (turn′ : ℕ) (seen′ : List ℕ) → (turn′ ≡ nextTurn turn) × (seen′ ≡ nextFlags seen starts cost count turn) → Marks ds turn′ seen′ []
-    chain-next turn seen long v marks e = turn-marked c starts count active active-through cost cost-is turn seen long (marks e)
-
-  pub chain-ready : (k : ℕ) → k < count → (d : Descriptor) → d ≡ descriptorAt c (getD starts k 0) → (turn : ℕ) (seen : List ℕ) → length c ≤ 512 * length seen → Marks ds turn seen [] → CheckReady c d turn seen
-  chain-ready k h d e turn seen long marks = record { starts = starts; count = count; through = chain-through k h d e; flags = long; marks = marks }
-
-  pub check-start : checkCard c ≡ checkFrom c 0
-  unfolding checkCard checkFrom
-  check-start = refl
-
-  module _ (k : ℕ) (more : k < count) (d : Descriptor) (is : d ≡ descriptorAt c (getD starts k 0)) (v : Verdict) (one : v ≡ checkOne c ds d) where
-    check-step : checkFrom c k ≡ orElse v (checkFrom c (k + 1))
-    unfolding checkFrom checkAll
-    check-step =
-        let n : k < length ds = omega (arith, card-count c regions (sym whole) area refl) in
-        let e : getD ds k noDescriptor ≡ d = card-at c regions (sym whole) area refl k more ∙ sym is in
-        rw (add-one, drop-cons ds k noDescriptor n, e, ← one)
-
-    pub check-stop : (h : Physical) → v ≡ Fault h → checkFrom c k ≡ Fault h
-    unfolding orElse
-    check-stop h e = check-step ∙ rw e
-
-    pub check-more : v ≡ Passed → checkFrom c k ≡ checkFrom c (k + 1)
-    unfolding orElse
-    check-more e = check-step ∙ rw e
-
-  pub check-end : (k : ℕ) → count ≤ k → checkFrom c k ≡ Passed
-  unfolding checkFrom checkAll
-  check-end k h = rw (drop-of-length-le ds {i = k} (omega (arith, card-count c regions (sym whole) area refl)))
+    -- the whole walk, from flags that are clear
+    module _ (seen : List ℕ) (long : length c ≤ 512 * length seen) (clear : (v : ℕ) → getD seen v 0 ≡ 0) (seen′ : List ℕ) (opened : seen′ ≡ openingsFlagged seen starts cost count) where
+      pub chain-told : (w : Taken) → w ≡ takingChain c starts cost count 0 seen′ ds → (w .verdict ≡ checkCard c) × (w ≡ takingChain c starts (costOf active) count 0 (openingsFlagged seen starts (costOf active) count) ds)
+      unfolding checkCard
+      chain-told w walk = (
+        ap (λ (t : Taken). t .verdict) walk
+        ∙ verdict-from count 0 (omega arith) 0 seen′ (omega (arith, ap length opened, openings-length seen starts cost count)) (λ h. openings-marked c starts count active active-through seen long clear cost cost-is seen′ opened),
+        rw (← cost-is, ← opened) walk,
+      )
 
 -- the rows of a check, in the order of the code
 module _ (c : List ℕ) (bad : Bool) (area : bad ≡ areaBad c) where

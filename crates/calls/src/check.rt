@@ -10,11 +10,12 @@ ghost use mathlib.Core.Path.{_≡_};
 ghost use mathlib.Core.Bool.{true, false};
 ghost use Prim.Native.Nat.{ℕ, _*_, _≤_};
 ghost use lib.ListN.{length, getD};
-ghost use Rattle.blocks.specs.Descriptor.{physical};
-ghost use Rattle.blocks.specs.Chain.{chain as chainOf, regionsOf};
+ghost use Rattle.blocks.specs.Descriptor.{physical, costOf};
+ghost use Rattle.blocks.specs.Chain.{chain as chainOf, descriptors, regionsOf};
+ghost use Rattle.entries.specs.Marks.{openingsFlagged};
 ghost use Rattle.calls.specs.Call.{Check, None};
 ghost use Rattle.calls.specs.Parts.{areaBad};
-ghost use Rattle.calls.specs.Check.{checkCard};
+ghost use Rattle.calls.specs.Check.{checkCard, takingChain};
 ghost use Rattle.calls.specs.Step.{step};
 
 // The verdict on the descriptors of a sound chain, in chain order. `seen` is zero, with a byte for each block of the card or more.
@@ -27,18 +28,19 @@ fn check_chain(
 ) -> Verdict
     requires { ⌜ (areaBad (now card) ≡ false) × (regionsOf (chainOf (now card)) ≡ record { sound = true; place = physical 0; active = active; count = count; starts = now starts }) × ((v : ℕ) → getD (now seen) v 0 ≡ 0) × (length (now card) ≤ 512 * length (now seen)) ⌝ }
     ensures { λ r. ⌜ r ≡ checkCard (now (card .entry)) ⌝ }
+    ensures { λ r. ⌜ record { verdict = r; flags = now (seen .exit) } ≡ takingChain (now (card .entry)) (now (starts .entry)) (costOf active) count 0 (openingsFlagged (now (seen .entry)) (now (starts .entry)) (costOf active) count) (descriptors (chainOf (now (card .entry)))) ⌝ }
 {
     let cost = descriptor::opening_cost(active.layout, active.volume) as usize;
     rules::mark_openings(seen, starts, count, cost);
-    let mut turn = 1;
+    let mut turn = 0;
     let mut k = 0;
     while k < count {
+        turn = rules::next_turn(seen, starts, count, cost, turn);
         let d = chain::descriptor_of(card, active, starts, count, k);
         let v = rules::check_one(card, d, seen, turn);
         if let Verdict::Fault(h) = v {
             return Verdict::Fault(h);
         }
-        turn = rules::next_turn(seen, starts, count, cost, turn);
         k += 1;
     }
     Verdict::Passed

@@ -161,7 +161,7 @@ marks-next ds turn seen before h marks =
     by v l n true e = rw e (le-leb (turn + 1) (getD seen v 0) (omega (arith, marks .opening v l n e)))
     by v l n false e = rw e (lt-leb (turn + 1) (getD seen v 0) (omega (arith, marks .other v l n e)))
 
-openings-length : (seen : List ℕ) (starts : List ℕ) (k n : ℕ) → length (openingsFlagged seen starts k n) ≡ length seen
+pub openings-length : (seen : List ℕ) (starts : List ℕ) (k n : ℕ) → length (openingsFlagged seen starts k n) ≡ length seen
 unfolding openingsFlagged
 openings-length seen starts k zero = refl
 openings-length seen starts k (suc n) = flagged-length (openingsFlagged seen starts k n) (getD starts n 0) k ∙ openings-length seen starts k n

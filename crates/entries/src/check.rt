@@ -192,7 +192,7 @@ fn check_phi(card: &[u8], d: Descriptor, n: u32, seen: &mut [u8], turn: u8) -> V
     Verdict::Passed
 }
 
-// The check of the descriptor `d` of the chain, in turn `turn`: the first of its entries that is at fault, in 01's order.
+// Takes all entries of the descriptor `d` of the chain, in turn `turn` and in 01's order, up to the first at fault.
 pub fn check_one(card: &[u8], d: Descriptor, seen: &mut [u8], turn: u8) -> Verdict
     requires { ⌜ CheckReady (now card) d (now seen) ⌝ }
     ensures { λ r. ⌜ record { verdict = r; flags = now (seen .exit) } ≡ takingAll d turn (now (seen .entry)) (namings (now (card .entry)) d) ⌝ }
