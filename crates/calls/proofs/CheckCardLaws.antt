@@ -27,7 +27,7 @@ use Rattle.calls.specs.Ladder.{firstRow, checkRows, rowsOf, answerOf}
 use Rattle.calls.proofs.CardLaws.{card-few, card-some, card-count, card-at, card-active, card-through}
 use Rattle.calls.proofs.RowLaws.{row-given, last-passed, area-given, area-passed, chain-given, chain-passed}
 
--- a descriptor and those after it: the verdict of the walk is the definition's where it is so for each
+-- the walk over a descriptor and those after it: its verdict is the definition's where that is so of both parts
 settled : (one later : Taken) (x w : Verdict) → one .verdict ≡ x → (one .verdict ≡ Passed → later .verdict ≡ w) → pick (isFault (one .verdict)) one later .verdict ≡ orElse x w
 unfolding isFault orElse
 settled one later Passed w q f = rw q (f q)
@@ -87,7 +87,7 @@ module _ (c starts : List ℕ) (count : ℕ) (active : Descriptor) (area : areaB
     pub chain-ask : (n : ℕ) → length c ≤ 512 * n → (count ≤ length starts) × ((k : ℕ) → k < count → getD starts k 0 + cost ≤ n)
     chain-ask = openings-ask c starts count active active-through cost cost-is
 
-    -- its verdict is the definition's, from flags that are ready for the next turn
+    -- the verdict of the walk is the definition's, from flags that are ready for the next turn
     verdict-from : (n k : ℕ) → k + n ≡ count → (turn : ℕ) (seen : List ℕ) → length c ≤ 512 * length seen → (turn < 255 → Marks ds (turn + 1) seen [])
         → takingChain c starts cost count turn seen (drop k ds) .verdict ≡ checkAll c ds (drop k ds)
     unfolding takingChain checkAll
@@ -111,7 +111,7 @@ module _ (c starts : List ℕ) (count : ℕ) (active : Descriptor) (area : areaB
       unfolding checkCard
       chain-told w walk = (
         ap (λ (t : Taken). t .verdict) walk
-        ∙ verdict-from count 0 (omega arith) 0 seen′ (omega (arith, ap length opened, openings-length seen starts cost count)) (λ h. openings-marked c starts count active active-through seen long clear cost cost-is seen′ opened),
+            ∙ verdict-from count 0 (omega arith) 0 seen′ (omega (arith, ap length opened, openings-length seen starts cost count)) (λ h. openings-marked c starts count active active-through seen long clear cost cost-is seen′ opened),
         rw (← cost-is, ← opened) walk,
       )
 

@@ -48,12 +48,6 @@ nextTurn turn = pick (ltb turn openingFlag) (turn + 1) 1
 unfoldable pub nextFlags : List ℕ → List ℕ → ℕ → ℕ → ℕ → List ℕ
 nextFlags seen starts c k turn = pick (ltb turn openingFlag) seen (openingsFlagged (replicate (length seen) 0) starts c k)
 
--- the flags say which set blocks are in an opening or among the values named before in this turn: an opening has its own flag, and no other flag is above the turn
-pub record Marks (ds : List Descriptor) (turn : ℕ) (seen before : List ℕ) : Type 0 where
-  pub says : (v : ℕ) → v < length seen → (v ≡ 0 → ⊥) → isFlagged seen turn v ≡ ((isDescriptor ds v || isTable ds v) || among before v)
-  pub opening : (v : ℕ) → v < length seen → (v ≡ 0 → ⊥) → (isDescriptor ds v || isTable ds v) ≡ true → getD seen v 0 ≡ openingFlag
-  pub other : (v : ℕ) → v < length seen → (v ≡ 0 → ⊥) → (isDescriptor ds v || isTable ds v) ≡ false → getD seen v 0 ≤ turn
-
 -- where an entry must stay below: alpha for one of a table block below alpha, else beta
 unfoldable pub limitOf : Descriptor → Naming → ℕ
 limitOf d e = pick (not (e .phi) && ltb (e .holder) (d .alpha .0)) (d .alpha .0) (d .beta .0)
@@ -106,3 +100,9 @@ pub record CheckReady (c : List ℕ) (d : Descriptor) (seen : List ℕ) : Type 0
   pub count : ℕ
   pub through : Through c starts count d
   pub flags : length c ≤ 512 * length seen
+
+-- flags that are ready for a turn: they say which set blocks are in an opening or among the values named before in this turn, an opening has its own flag, and no other flag is above the turn
+pub record Marks (ds : List Descriptor) (turn : ℕ) (seen before : List ℕ) : Type 0 where
+  pub says : (v : ℕ) → v < length seen → (v ≡ 0 → ⊥) → isFlagged seen turn v ≡ ((isDescriptor ds v || isTable ds v) || among before v)
+  pub opening : (v : ℕ) → v < length seen → (v ≡ 0 → ⊥) → (isDescriptor ds v || isTable ds v) ≡ true → getD seen v 0 ≡ openingFlag
+  pub other : (v : ℕ) → v < length seen → (v ≡ 0 → ⊥) → (isDescriptor ds v || isTable ds v) ≡ false → getD seen v 0 ≤ turn
