@@ -25,7 +25,7 @@ use Rattle.calls.specs.Parts.{areaBad}
 use Rattle.calls.specs.Check.{orElse, checkAll, checkCard, isFault, faultHolder, takingChain}
 use Rattle.calls.specs.Ladder.{firstRow, checkRows, rowsOf, answerOf}
 use Rattle.calls.proofs.CardLaws.{card-few, card-some, card-count, card-at, card-active, card-through}
-use Rattle.calls.proofs.RowLaws.{row-given, last-passed, area-given, area-passed, chain-given, chain-passed}
+use Rattle.calls.proofs.RowLaws.{row-given, last-passed, area-passed, chain-given, chain-passed}
 
 -- the walk over a descriptor and those after it: its verdict is the definition's where that is so of both parts
 settled : (one later : Taken) (x w : Verdict) → one .verdict ≡ x → (one .verdict ≡ Passed → later .verdict ≡ w) → pick (isFault (one .verdict)) one later .verdict ≡ orElse x w
@@ -115,26 +115,21 @@ module _ (c starts : List ℕ) (count : ℕ) (active : Descriptor) (area : areaB
         rw (← cost-is, ← opened) walk,
       )
 
--- the rows of a check, in the order of the code
-module _ (c : List ℕ) (bad : Bool) (area : bad ≡ areaBad c) where
-  pub check-1 : bad ≡ true → answerOf Check c ≡ answer 1 0
+-- the rows of a check that follow the area's, in the order of the code
+module _ (c : List ℕ) (bad : Bool) (area : bad ≡ areaBad c) (card : bad ≡ false) (r : Regions) (walked : r ≡ regionsOf (chain c)) where
+  pub check-6 : not (r .sound) ≡ true → answerOf Check c ≡ answer 6 (r .place .0)
   unfolding answerOf rowsOf checkRows
-  check-1 e = area-given _ c bad area e
+  check-6 h = area-passed _ c bad area card ∙ chain-given _ c r walked h
 
-  module _ (card : bad ≡ false) (r : Regions) (walked : r ≡ regionsOf (chain c)) where
-    pub check-6 : not (r .sound) ≡ true → answerOf Check c ≡ answer 6 (r .place .0)
+  module _ (whole : not (r .sound) ≡ false) (v : Verdict) (verdict : v ≡ checkCard c) where
+    to-fault : answerOf Check c ≡ firstRow (drop 2 (checkRows c))
     unfolding answerOf rowsOf checkRows
-    check-6 h = area-passed _ c bad area card ∙ chain-given _ c r walked h
+    to-fault = area-passed _ c bad area card ∙ chain-passed _ c r walked whole
 
-    module _ (whole : not (r .sound) ≡ false) (v : Verdict) (verdict : v ≡ checkCard c) where
-      to-fault : answerOf Check c ≡ firstRow (drop 2 (checkRows c))
-      unfolding answerOf rowsOf checkRows
-      to-fault = area-passed _ c bad area card ∙ chain-passed _ c r walked whole
+    pub check-0 : v ≡ Passed → answerOf Check c ≡ accepted
+    unfolding checkRows isFault
+    check-0 e = to-fault ∙ last-passed _ (rw (← verdict, e))
 
-      pub check-0 : v ≡ Passed → answerOf Check c ≡ accepted
-      unfolding checkRows isFault
-      check-0 e = to-fault ∙ last-passed _ (rw (← verdict, e))
-
-      pub check-10 : (h : Physical) → v ≡ Fault h → answerOf Check c ≡ answer 10 (h .0)
-      unfolding checkRows isFault faultHolder
-      check-10 h e = to-fault ∙ rw (← verdict, e) (row-given _ _ refl)
+    pub check-10 : (h : Physical) → v ≡ Fault h → answerOf Check c ≡ answer 10 (h .0)
+    unfolding checkRows isFault faultHolder
+    check-10 h e = to-fault ∙ rw (← verdict, e) (row-given _ _ refl)

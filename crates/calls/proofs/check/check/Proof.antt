@@ -1,11 +1,13 @@
 -- `check` meets its contract, row by row.
 use mathlib.Core.Path.{refl, sym, _∙_}
 use borrow.Author.Tests.{not-false}
+use Rattle.calls.specs.Ladder.{checkRows, rowsOf, answerOf}
 use Rattle.calls.specs.Effect.{lentOf, filledOf, storesOf}
 use Rattle.blocks.specs.Bytes.{storeAll}
 use Rattle.calls.proofs.StepLaws.{step-refused, step-accepted}
 use Rattle.calls.proofs.CardLaws.{regions-whole}
-use Rattle.calls.proofs.CheckCardLaws.{check-1, check-6, check-0, check-10}
+use Rattle.calls.proofs.RowLaws.{area-given}
+use Rattle.calls.proofs.CheckCardLaws.{check-6, check-0, check-10}
 use borrow.Author.Needs.{needs}
 use Rattle.calls.proofs.check.check.Statement.{statement}
 use Rattle.calls.proofs.check.check.Tie as tie
@@ -14,8 +16,8 @@ is-bad-requires : tie.Need-is-bad-requires
 is-bad-requires c κs = search needs
 
 returns : tie.Need-returns
-unfolding lentOf
-returns c = step-refused _ _ _ _ (search check-1) refl
+unfolding lentOf answerOf rowsOf checkRows
+returns c = step-refused _ _ _ _ (search area-given) refl
 
 walk-chain-requires : tie.Need-walk-chain-requires
 walk-chain-requires c κs = search needs
