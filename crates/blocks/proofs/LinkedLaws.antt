@@ -231,7 +231,7 @@ module _ (c : List ℕ) (active : Descriptor) (n : ℕ) (starts : List ℕ) (who
   start-at : (k : ℕ) → k ≤ n → getD starts k 0 ≡ regionStart 0 ds k
   start-at k h = rw (regions-are .2) (region-start-listed ds k (omega (arith, regions-are .1)))
 
-  region-of : (k : ℕ) → k < n → RegionAt c (getD starts k 0) (getD starts (suc k) 0) (getD ds k noDescriptor)
+  pub region-of : (k : ℕ) → k < n → RegionAt c (getD starts k 0) (getD starts (suc k) 0) (getD ds k noDescriptor)
   region-of k h = rw (start-at k (omega arith), start-at (suc k) (omega arith)) (linked-at linked k (omega (arith, regions-are .1)))
 
   active-region : RegionAt c (getD starts (length ds - 1) 0) (getD starts (suc (length ds - 1)) 0) active

@@ -8,26 +8,26 @@ use blocks::numbers::Physical;
 ghost use mathlib.Core.Path.{_≡_};
 ghost use mathlib.Core.List.{List};
 ghost use Prim.Native.Nat.{ℕ, _+_, _*_, _≤_, _<_};
-ghost use lib.ListN.{length};
-ghost use Rattle.blocks.specs.Descriptor.{descriptorAt};
+ghost use lib.ListN.{length, getD};
 ghost use Rattle.calls.specs.Call.{Listing, Records};
-ghost use Rattle.calls.specs.Effect.{recordOf};
 ghost use Rattle.calls.specs.Step.{step};
-ghost use Rattle.calls.specs.Listing.{planWith, planOf, blockAlong, filled};
+ghost use Rattle.calls.specs.Listing.{planWith, planOf, recordBy, filled};
 
-// What a listing answers, and how many records it fills: none where it is refused.
+// What a listing answers, how many records it fills, and where the regions start: none, and zeros, where it is refused.
 pub struct Plan {
     pub answer: Answer,
     pub count: usize,
+    pub starts: [u32; 257],
 }
 
-// The plan that has this answer and this count.
-fn planned(number: u32, place: u32, count: usize) -> Plan
-    ensures { λ r. ⌜ r ≡ planWith number place count ⌝ }
+// The plan that has this answer, this count and these starts.
+fn planned(number: u32, place: u32, count: usize, starts: [u32; 257]) -> Plan
+    ensures { λ r. ⌜ r ≡ planWith number place count starts ⌝ }
 {
     Plan {
         answer: Answer { number, place },
         count,
+        starts,
     }
 }
 
@@ -36,45 +36,46 @@ pub fn make_plan(card: &[u8], room: usize) -> Plan
     ensures { λ r. ⌜ ((records : List Record) → length records ≡ room → r ≡ planOf (now (card .entry)) records) ⌝ }
 {
     if area::is_bad(card) {
-        return planned(1, 0, 0);
+        return planned(1, 0, 0, [0u32; 257]);
     }
     let found = chain::walk_chain(card);
     let count = found.count;
+    let starts = found.starts;
     if !found.sound {
         let place = found.place.0;
-        return planned(6, place, 0);
+        return planned(6, place, 0, [0u32; 257]);
     }
     if room < count {
-        return planned(14, 0, 0);
+        return planned(14, 0, 0, [0u32; 257]);
     }
-    planned(0, 0, count)
+    planned(0, 0, count, starts)
 }
 
-// The record of the descriptor in block `p`.
-pub fn record_at(card: &[u8], p: u32) -> Record
-    requires { ⌜ 512 * p + 512 ≤ length (now card) ⌝ }
-    ensures { λ r. ⌜ r ≡ recordOf (descriptorAt (now (card .entry)) p) ⌝ }
+// The record of region `k` of `n`, by the starts that the walk found: of its bytes the name alone is read.
+pub fn record_of(card: &[u8], starts: &[u32], n: usize, k: usize) -> Record
+    requires { ⌜ (k < n) × (n < length (now starts)) × (512 * getD (now starts) k 0 + 512 ≤ length (now card)) ⌝ }
+    ensures { λ r. ⌜ r ≡ recordBy (now (card .entry)) (now (starts .entry)) n k ⌝ }
 {
-    let d = descriptor::read_descriptor(card, Physical(p));
-    let name = d.name;
+    let start = starts[k];
+    let end = starts[k + 1];
+    let name = descriptor::name_at(card, Physical(start));
+    let next = chain::next_of(end, k, n);
     Record {
         name,
-        alpha: d.alpha.0,
-        beta: d.beta.0,
-        next: d.next.0,
+        alpha: start,
+        beta: end,
+        next: next.0,
     }
 }
 
-// The first `n` records are now those of the first `n` descriptors: each is read once, and its next leads on.
-fn fill(card: &[u8], records: &mut [Record], n: usize)
-    requires { ⌜ (n ≤ length (now records)) × ((j : ℕ) → j < n → 512 * blockAlong (now card) j + 512 ≤ length (now card)) ⌝ }
-    ensures { λ _. ⌜ now (records .exit) ≡ filled (now (card .entry)) (now (records .entry)) n ⌝ }
+// The first `n` records are now those of the `n` regions.
+fn fill(card: &[u8], starts: &[u32], records: &mut [Record], n: usize)
+    requires { ⌜ (n ≤ length (now records)) × (n < length (now starts)) × ((j : ℕ) → j < n → 512 * getD (now starts) j 0 + 512 ≤ length (now card)) ⌝ }
+    ensures { λ _. ⌜ now (records .exit) ≡ filled (now (card .entry)) (now (starts .entry)) (now (records .entry)) n ⌝ }
 {
-    let mut p: u32 = 0;
     let mut i = 0;
     while i < n {
-        let r = record_at(card, p);
-        p = r.next;
+        let r = record_of(card, starts, n, i);
         records[i] = r;
         i += 1;
     }
@@ -85,17 +86,18 @@ pub fn list(card: &[u8], records: &mut [Record]) -> Answer
     ensures { λ r. ⌜ record { outcome = record { answer = r; lent = Records (now (records .exit)) }; card = now (card .entry) } ≡ step (Listing (now (records .entry))) (now (card .entry)) ⌝ }
 {
     let p = make_plan(card, records.len());
-    fill(card, records, p.count);
+    let starts = p.starts;
+    fill(card, &starts, records, p.count);
     p.answer
 }
 
 // The same filling, in an array of 64 records by value: the one function that lends an array of records.
-fn fill_64(card: &[u8], records: [Record; 64], n: usize) -> [Record; 64]
-    requires { ⌜ (n ≤ 64) × ((j : ℕ) → j < n → 512 * blockAlong (now card) j + 512 ≤ length (now card)) ⌝ }
-    ensures { λ r. ⌜ r ≡ filled (now (card .entry)) records n ⌝ }
+fn fill_64(card: &[u8], starts: &[u32], records: [Record; 64], n: usize) -> [Record; 64]
+    requires { ⌜ (n ≤ 64) × (n < length (now starts)) × ((j : ℕ) → j < n → 512 * getD (now starts) j 0 + 512 ≤ length (now card)) ⌝ }
+    ensures { λ r. ⌜ r ≡ filled (now (card .entry)) (now (starts .entry)) records n ⌝ }
 {
     let mut r = records;
-    fill(card, &mut r, n);
+    fill(card, starts, &mut r, n);
     r
 }
 
@@ -114,7 +116,8 @@ pub fn list_64(card: &[u8], records: [Record; 64]) -> Listed
     let p = make_plan(card, 64);
     let answer = p.answer;
     let count = p.count;
-    let filled = fill_64(card, records, count);
+    let starts = p.starts;
+    let filled = fill_64(card, &starts, records, count);
     Listed {
         answer,
         count,
