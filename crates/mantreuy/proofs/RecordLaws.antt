@@ -1,18 +1,18 @@
--- Laws of records as bytes: a record put field by field, the records along the links, a listing into bytes.
+-- Laws of records as bytes: a record put field by field, the records of the regions, a listing into bytes.
 use mathlib.Core.Path.{_≡_, refl, sym, ap, _∙_}
 use mathlib.Core.Bool.{Bool, true, false}
 use mathlib.Core.List.{List, [], _∷_, _++_, append-assoc, append-nil}
 use Prim.Native.Nat.{ℕ, zero, suc, _+_, _*_, _/_, _≤_, _<_}
 use native.Mathlib.Numerals.{add-one}
 use native.Mathlib.Omega.{arith}
-use lib.ListN.{length, take, drop, getD, length-append, length-replicate}
+use lib.ListN.{length, take, drop, getD, replicate, length-append, length-replicate}
 use lib.Seq.{take-suc, take-length}
 use Rattle.blocks.specs.Pick.{pick}
 use Rattle.blocks.specs.Bytes.{le32, splice}
 use Rattle.blocks.specs.Descriptor.{noDescriptor, descriptorAt}
+use Rattle.blocks.specs.Chain.{startsOf}
 use Rattle.blocks.specs.declared.descriptor.Descriptor.{Descriptor}
 use Rattle.blocks.proofs.ByteLaws.{put-next, splice-join, splice-start, length-le32, length-part}
-use Rattle.blocks.proofs.LinkedLaws.{Linked}
 use Rattle.calls.specs.declared.answer.Record.{Record}
 use Rattle.calls.specs.declared.list.Plan.{Plan}
 use Rattle.calls.specs.Call.{Listing, answer}
@@ -20,10 +20,10 @@ use Rattle.calls.specs.Parts.{descriptorsOf}
 use Rattle.calls.specs.Ladder.{answerOf}
 use Rattle.calls.specs.Effect.{noRecord, recordOf, listed}
 use Rattle.calls.specs.Step.{isAccepted}
-use Rattle.calls.specs.Listing.{planOf, blockAlong}
+use Rattle.calls.specs.Listing.{planOf, recordBy}
 use Rattle.calls.proofs.StepLaws.{step-answer}
-use Rattle.calls.proofs.ListLaws.{along-at, list-linked, list-room, list-inside, plan-ready}
-use Rattle.mantreuy.specs.RecordBytes.{recordBytes, recordsBytes, roomIn, listingOf, filledBytes}
+use Rattle.calls.proofs.ListLaws.{list-room, list-inside, list-record, plan-ready}
+use Rattle.mantreuy.specs.RecordBytes.{recordBytes, recordsBytes, roomIn, listingOf, filledBytesTo, filledBytes}
 
 pub record-length : (r : Record) → length (r .name) ≡ 16 → length (recordBytes r) ≡ 28
 unfolding recordBytes le32
@@ -46,27 +46,19 @@ record-put c₀ c₁ c₂ c₃ c₄ at r h n e₁ e₂ e₃ e₄ =
     let f₃ = put-next c₀ at x₂ (at + 20) (le32 (r .beta)) f₂ e₃ (omega (arith, l₂)) (omega (arith, length-le32 (r .beta))) in
     put-next c₀ at x₃ (at + 24) (le32 (r .next)) f₃ e₄ (omega (arith, l₃)) (omega (arith, length-le32 (r .next)))
 
--- the links start at block 0
-pub along-none : (c : List ℕ) → 0 ≡ blockAlong c 0
-unfolding blockAlong
-along-none c = refl
-
--- the record in the block that the links lead to
-pub record-along : (c : List ℕ) (i p : ℕ) (r : Record) → p ≡ blockAlong c i → r ≡ recordOf (descriptorAt c p) → r ≡ recordOf (descriptorAt c (blockAlong c i))
-record-along c i p r q e = rw (← q) e
-
 -- filling none, one more and all
-pub bytes-none : (c b : List ℕ) → b ≡ filledBytes c b 0
-unfolding filledBytes
-bytes-none c b = refl
+module _ (c starts b : List ℕ) (n : ℕ) where
+  pub bytes-none : b ≡ filledBytesTo c starts b n 0
+  unfolding filledBytesTo
+  bytes-none = refl
 
-pub bytes-more : (c b : List ℕ) (i : ℕ) (x y : List ℕ) (r : Record) → r ≡ recordOf (descriptorAt c (blockAlong c i)) → x ≡ filledBytes c b i → y ≡ splice x (28 * i) (recordBytes r)
-    → y ≡ filledBytes c b (i + 1)
-unfolding filledBytes
-bytes-more c b i x y r is e f = rw (add-one, f, e, is)
+  pub bytes-more : (i : ℕ) (x y : List ℕ) (r : Record) → r ≡ recordBy c starts n i → x ≡ filledBytesTo c starts b n i → y ≡ splice x (28 * i) (recordBytes r) → y ≡ filledBytesTo c starts b n (i + 1)
+  unfolding filledBytesTo
+  bytes-more i x y r is e f = rw (add-one, f, e, is)
 
-pub bytes-all : (c b : List ℕ) (i n : ℕ) (x : List ℕ) → x ≡ filledBytes c b i → i ≤ n → n ≤ i → x ≡ filledBytes c b n
-bytes-all c b i n x e h k = let q : i ≡ n = omega arith in rw (← q) e
+  pub bytes-all : (i : ℕ) (x : List ℕ) → x ≡ filledBytesTo c starts b n i → i ≤ n → n ≤ i → x ≡ filledBytes c starts b n
+  unfolding filledBytes
+  bytes-all i x e h k = let q : i ≡ n = omega arith in e ∙ rw q
 
 -- one more record after those of a list of descriptors
 records-more : (ds : List Descriptor) (d : Descriptor) → recordsBytes (listed (ds ++ (d ∷ [])) []) ≡ recordsBytes (listed ds []) ++ recordBytes (recordOf d)
@@ -80,20 +72,21 @@ name-size : (c : List ℕ) (p : ℕ) → 512 * p + 512 ≤ length c → length (
 unfolding descriptorAt
 name-size c p h = length-part c (512 * p + 24) 16 (omega arith)
 
-module _ (c : List ℕ) (ds : List Descriptor) (linked : Linked c [] 0 ds) (inside : (j : ℕ) → j < length ds → 512 * blockAlong c j + 512 ≤ length c) (b : List ℕ) (room : 28 * length ds ≤ length b) where
+module _ (c starts : List ℕ) (ds : List Descriptor) (same : (k : ℕ) → k < length ds → recordBy c starts (length ds) k ≡ recordOf (getD ds k noDescriptor))
+    (inside : (k : ℕ) → k < length ds → 512 * getD starts k 0 + 512 ≤ length c) (b : List ℕ) (room : 28 * length ds ≤ length b) where
   abbrev first : ℕ → List ℕ
   first i = recordsBytes (listed (take i ds) [])
 
-  bytes-from : (i : ℕ) → i ≤ length ds → (filledBytes c b i ≡ splice b 0 (first i)) × (length (first i) ≡ 28 * i)
-  unfolding filledBytes recordsBytes listed
+  bytes-from : (i : ℕ) → i ≤ length ds → (filledBytesTo c starts b (length ds) i ≡ splice b 0 (first i)) × (length (first i) ≡ 28 * i)
+  unfolding recordBy filledBytesTo recordsBytes listed
   bytes-from zero h = (sym (splice-start b []), refl)
   bytes-from (suc i) h =
       let d : Descriptor = getD ds i noDescriptor in
-      let is = along-at linked i (omega arith) in
-      let size : length (recordBytes (recordOf d)) ≡ 28 = record-length (recordOf d) (ap (λ (x : Descriptor). length (x .name)) (sym is) ∙ name-size c (blockAlong c i) (inside i (omega arith))) in
+      let is = same i (omega arith) in
+      let size : length (recordBytes (recordOf d)) ≡ 28 = record-length (recordOf d) (ap (λ (x : Record). length (x .name)) (sym is) ∙ name-size c (getD starts i 0) (inside i (omega arith))) in
       let e : first (suc i) ≡ first i ++ recordBytes (recordOf d) = ap (λ (l : List Descriptor). recordsBytes (listed l [])) (take-suc ds i noDescriptor (omega arith)) ∙ records-more (take i ds) d in
       let before = bytes-from i (omega arith) in (
-        ap (λ (x : Descriptor). splice (filledBytes c b i) (28 * i) (recordBytes (recordOf x))) is
+        ap (λ (x : Record). splice (filledBytesTo c starts b (length ds) i) (28 * i) (recordBytes x)) is
             ∙ ap (λ (l : List ℕ). splice l (28 * i) (recordBytes (recordOf d))) (before .0)
             ∙ splice-join b 0 (first i) (28 * i) (recordBytes (recordOf d)) (omega (arith, before .1)) (omega (arith, size))
             ∙ ap (splice b 0) (sym e),
@@ -101,10 +94,11 @@ module _ (c : List ℕ) (ds : List Descriptor) (linked : Linked c [] 0 ds) (insi
       )
 
   -- all of them, and the bytes after them
-  bytes-listed : filledBytes c b (length ds) ≡ recordsBytes (listed ds []) ++ drop (28 * length ds) b
+  bytes-listed : filledBytes c starts b (length ds) ≡ recordsBytes (listed ds []) ++ drop (28 * length ds) b
   bytes-listed =
       let all = bytes-from (length ds) (omega arith) in
-      all .0
+      sym (bytes-all c starts b (length ds) (length ds) _ refl (omega arith) (omega arith))
+      ∙ all .0
       ∙ splice-start b (first (length ds))
       ∙ ap (λ (n : ℕ). first (length ds) ++ drop n b) (all .1)
       ∙ ap (λ (l : List Descriptor). recordsBytes (listed l []) ++ drop (28 * length ds) b) (take-length ds)
@@ -115,20 +109,20 @@ room-size b = length-replicate (length b / 28) noRecord
 
 -- a listing into bytes as planned and filled is that of the definition
 listing-by : (c b : List ℕ) (t : Bool) → isAccepted (answerOf (Listing (roomIn b)) c) ≡ t
-    → record { answer = answerOf (Listing (roomIn b)) c; bytes = filledBytes c b (pick t (length (descriptorsOf c)) 0) } ≡ listingOf c b
+    → record { answer = answerOf (Listing (roomIn b)) c; bytes = filledBytes c (pick t (startsOf (descriptorsOf c)) (replicate 257 0)) b (pick t (length (descriptorsOf c)) 0) } ≡ listingOf c b
 unfolding listingOf
 listing-by c b true e =
     let fits : 28 * length (descriptorsOf c) ≤ length b = omega (arith, list-room c (roomIn b) e, room-size b) in
-    rw (step-answer (Listing (roomIn b)) c, e, bytes-listed c (descriptorsOf c) (list-linked c (roomIn b) e) (list-inside c (roomIn b) e) b fits)
-listing-by c b false e = rw (step-answer (Listing (roomIn b)) c, e, ← bytes-none c b)
+    rw (step-answer (Listing (roomIn b)) c, e, bytes-listed c (startsOf (descriptorsOf c)) (descriptorsOf c) (list-record c (roomIn b) e) (list-inside c (roomIn b) e) b fits)
+listing-by c b false e = rw (step-answer (Listing (roomIn b)) c, e, ← (bytes-all c (replicate 257 0) b 0 0 b (bytes-none c (replicate 257 0) b 0) (omega arith) (omega arith)))
 
 module _ (c b : List ℕ) (r : Plan) (planned : (records : List Record) → length records ≡ length b / 28 → r ≡ planOf c records) where
   -- what is planned to be filled is there
-  pub plan-fits : (28 * r .count ≤ length b) × ((j : ℕ) → j < r .count → 512 * blockAlong c j + 512 ≤ length c)
+  pub plan-fits : (28 * r .count ≤ length b) × (r .count < length (r .starts)) × ((j : ℕ) → j < r .count → 512 * getD (r .starts) j 0 + 512 ≤ length c)
   plan-fits =
       let ready = plan-ready c (roomIn b) r (planned (roomIn b) (room-size b)) in
-      (omega (arith, ready .0, room-size b), ready .1)
+      (omega (arith, ready .0, room-size b), ready .1, ready .2)
 
-  pub listing-done : (b′ : List ℕ) → b′ ≡ filledBytes c b (r .count) → record { answer = answer (r .answer .number) (r .answer .place); bytes = b′ } ≡ listingOf c b
+  pub listing-done : (b′ : List ℕ) → b′ ≡ filledBytes c (r .starts) b (r .count) → record { answer = answer (r .answer .number) (r .answer .place); bytes = b′ } ≡ listingOf c b
   unfolding planOf
   listing-done b′ f = rw (f, planned (roomIn b) (room-size b)) (listing-by c b (isAccepted (answerOf (Listing (roomIn b)) c)) refl)

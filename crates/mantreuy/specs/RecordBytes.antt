@@ -5,14 +5,13 @@ use lib.ListN.{length, take, drop, replicate}
 use Rattle.blocks.specs.Pick.{pick}
 use Rattle.blocks.specs.Bytes.{u32At, le32, splice}
 use Rattle.blocks.specs.Name.{nameSize}
-use Rattle.blocks.specs.Descriptor.{descriptorAt}
 use Rattle.calls.specs.declared.answer.Answer.{Answer}
 use Rattle.calls.specs.declared.answer.Record.{Record}
 use Rattle.calls.specs.Call.{Listing, Lent, None, Block, Records}
 use Rattle.calls.specs.Parts.{descriptorsOf}
-use Rattle.calls.specs.Effect.{noRecord, recordOf, listed}
+use Rattle.calls.specs.Effect.{noRecord, listed}
 use Rattle.calls.specs.Step.{step, isAccepted}
-use Rattle.calls.specs.Listing.{blockAlong}
+use Rattle.calls.specs.Listing.{recordBy}
 
 -- bytes of a record
 abbrev pub recordSize : ℕ
@@ -58,7 +57,10 @@ listingOf c bytes =
     let a = step (Listing (roomIn bytes)) c .outcome .answer in
     record { answer = a; bytes = pick (isAccepted a) (recordsBytes (listed ds []) ++ drop (recordSize * length ds) bytes) bytes }
 
--- the bytes, of which the first n records are those of the descriptors in the blocks along the links
-unfoldable pub filledBytes : List ℕ → List ℕ → ℕ → List ℕ
-filledBytes c bytes zero = bytes
-filledBytes c bytes (suc i) = splice (filledBytes c bytes i) (recordSize * i) (recordBytes (recordOf (descriptorAt c (blockAlong c i))))
+-- the bytes, of which the first i records are those of the first i regions of n; and of all n
+unfoldable pub filledBytesTo : List ℕ → List ℕ → List ℕ → ℕ → ℕ → List ℕ
+filledBytesTo c starts bytes n zero = bytes
+filledBytesTo c starts bytes n (suc i) = splice (filledBytesTo c starts bytes n i) (recordSize * i) (recordBytes (recordBy c starts n i))
+
+unfoldable pub filledBytes : List ℕ → List ℕ → List ℕ → ℕ → List ℕ
+filledBytes c starts bytes n = filledBytesTo c starts bytes n n

@@ -89,7 +89,8 @@ pub extern "C" fn mantreuy_list(card: &[u8], records: &mut [u8], place: &mut u32
     ensures { λ r. ⌜ record { answer = answer r (now (place .exit)); bytes = now (records .exit) } ≡ listingOf (now (card .entry)) (now (records .entry)) ⌝ }
 {
     let p = list::make_plan(card, records.len() / 28);
-    record::fill_bytes(card, records, p.count);
+    let starts = p.starts;
+    record::fill_bytes(card, &starts, records, p.count);
     *place = p.answer.place;
     p.answer.number
 }

@@ -5,9 +5,8 @@ use calls::answer::Record;
 use calls::list;
 ghost use mathlib.Core.Path.{_≡_};
 ghost use Prim.Native.Nat.{ℕ, _+_, _*_, _≤_, _<_};
-ghost use lib.ListN.{length};
+ghost use lib.ListN.{length, getD};
 ghost use Rattle.blocks.specs.Bytes.{splice};
-ghost use Rattle.calls.specs.Listing.{blockAlong};
 ghost use Rattle.mantreuy.specs.RecordBytes.{recordBytes, filledBytes};
 
 // Stores the bytes of a record at `at`.
@@ -22,17 +21,15 @@ fn put_record(area: &mut [u8], at: usize, r: Record)
     bytes::put_u32(area, at + 24, r.next);
 }
 
-// The first `n` records are now those of the first `n` descriptors: each is read once, and its next leads on.
-pub fn fill_bytes(card: &[u8], area: &mut [u8], n: usize)
-    requires { ⌜ (28 * n ≤ length (now area)) × ((j : ℕ) → j < n → 512 * blockAlong (now card) j + 512 ≤ length (now card)) ⌝ }
-    ensures { λ _. ⌜ now (area .exit) ≡ filledBytes (now (card .entry)) (now (area .entry)) n ⌝ }
+// The first `n` records are now those of the `n` regions.
+pub fn fill_bytes(card: &[u8], starts: &[u32], area: &mut [u8], n: usize)
+    requires { ⌜ (28 * n ≤ length (now area)) × (n < length (now starts)) × ((j : ℕ) → j < n → 512 * getD (now starts) j 0 + 512 ≤ length (now card)) ⌝ }
+    ensures { λ _. ⌜ now (area .exit) ≡ filledBytes (now (card .entry)) (now (starts .entry)) (now (area .entry)) n ⌝ }
 {
-    let mut p: u32 = 0;
     let mut i = 0;
     while i < n {
-        let r = list::record_at(card, p);
+        let r = list::record_of(card, starts, n, i);
         put_record(area, 28 * i, r);
-        p = r.next;
         i += 1;
     }
 }

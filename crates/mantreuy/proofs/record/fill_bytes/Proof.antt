@@ -1,26 +1,26 @@
--- `fill_bytes` meets its contract: after i turns the first i records are there, and p is the block of the next descriptor.
+-- `fill_bytes` meets its contract: after i turns the first i records are there.
 use mathlib.Core.Path.{_≡_, refl, _∙_}
 use Prim.Native.Nat.{_≤_, _-_}
 use native.Mathlib.Omega.{arith}
 use lib.ListN.{length}
-use Rattle.calls.specs.Listing.{blockAlong}
-use Rattle.calls.proofs.ListLaws.{along-more}
-use Rattle.mantreuy.specs.RecordBytes.{filledBytes}
-use Rattle.mantreuy.proofs.RecordLaws.{along-none, record-along, bytes-none, bytes-more, bytes-all}
+use Rattle.mantreuy.specs.RecordBytes.{filledBytesTo}
+use Rattle.mantreuy.proofs.RecordLaws.{bytes-none, bytes-more, bytes-all}
 use Rattle.mantreuy.proofs.record.fill_bytes.Statement.{statement}
 use Rattle.mantreuy.proofs.record.fill_bytes.Tie as tie
 
 abbrev Inv-loop : tie.InvT-loop
-Inv-loop card area₀ n p₀ i₀ area p i = (i ≤ n) × (p ≡ blockAlong card i) × (length area ≡ length area₀) × (area ≡ filledBytes card area₀ i)
+Inv-loop card starts area₀ n i₀ area i = (i ≤ n) × (length area ≡ length area₀) × (area ≡ filledBytesTo card starts area₀ n i)
 
 abbrev μ-loop : tie.MeasureT-loop
-μ-loop card area₀ n p₀ i₀ area p i = n - i
+μ-loop card starts area₀ n i₀ area i = n - i
 
 loop-holds : tie.Need-loop-holds Inv-loop μ-loop
-loop-holds c = (omega arith, along-none _, refl, bytes-none _ _)
+loop-holds c = (omega arith, refl, bytes-none _ _ _ _)
 
-record-at-requires : tie.Need-record-at-requires Inv-loop μ-loop
-record-at-requires c κs = rw (c .before .loop .inv .1) (c .before .before .before .before .pre .1 (c .before .loop .i) (c .loop-test .taken))
+record-of-requires : tie.Need-record-of-requires Inv-loop μ-loop
+record-of-requires c κs =
+    let pre = c .before .before .before .before .before .pre in
+    (c .loop-test .taken, pre .1, pre .2 (c .before .loop .i) (c .loop-test .taken))
 
 mul-put-record : tie.Need-mul-put-record Inv-loop μ-loop
 mul-put-record c = omega arith
@@ -37,16 +37,15 @@ loop-less c = omega arith
 loop-again : tie.Need-loop-again Inv-loop μ-loop
 loop-again c =
     let put = c .before .before in
-    let at = put .before .before in
-    let inv = at .before .before .loop .inv in
-    let is = record-along _ _ _ _ (inv .1) (at .record-at .ensures) in
-    (omega arith, along-more _ _ _ is, put .put-record .kept .0 ∙ inv .2, bytes-more _ _ _ _ _ _ is (inv .3) (put .put-record .ensures))
+    let made = put .before .before in
+    let inv = made .before .before .loop .inv in
+    (omega arith, put .put-record .kept .0 ∙ inv .1, bytes-more _ _ _ _ _ _ _ _ (made .record-of .ensures) (inv .2) (put .put-record .ensures))
 
 same-length : tie.Need-same-length Inv-loop μ-loop
-same-length c = c .before .loop .inv .2
+same-length c = c .before .loop .inv .1
 
 returns : tie.Need-returns Inv-loop μ-loop
-returns c = bytes-all _ _ _ _ _ (c .before .loop .inv .3) (omega arith) (omega arith)
+returns c = bytes-all _ _ _ _ _ _ (c .before .loop .inv .2) (omega arith) (omega arith)
 
 pub fill-bytes-spec : {M : Type 1} → statement M
 fill-bytes-spec =
@@ -55,7 +54,7 @@ fill-bytes-spec =
     Inv-loop
     μ-loop
     loop-holds
-    record-at-requires
+    record-of-requires
     mul-put-record
     put-record-requires
     add-i
