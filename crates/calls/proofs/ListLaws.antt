@@ -7,7 +7,7 @@ use native.Mathlib.Numerals.{add-one}
 use native.Mathlib.Omega.{arith}
 use lib.ListN.{length, take, drop, getD, set, replicate, length-set, length-replicate}
 use lib.Seq.{drop-cons, take-suc, take-length, length-take-le}
-use borrow.Author.Tests.{lt-ltb, le-ltb, ltb-false, not-true, not-false}
+use borrow.Author.Tests.{lt-ltb, le-ltb, ltb-false, not-false}
 use Rattle.blocks.specs.Pick.{pick}
 use Rattle.blocks.specs.Bytes.{storeAll}
 use Rattle.blocks.specs.Descriptor.{physical, noDescriptor}
@@ -24,8 +24,8 @@ use Rattle.calls.specs.Ladder.{firstRow, listRows, rowsOf, answerOf}
 use Rattle.calls.specs.Effect.{recordOf, listed, storesOf, lentOf, filledOf}
 use Rattle.calls.specs.Step.{Done, step, isAccepted}
 use Rattle.calls.specs.Listing.{planWith, planOf, recordBy, filledTo, filled}
-use Rattle.calls.proofs.CardLaws.{card-fault, card-sound, card-count, card-starts-of, chain-is}
-use Rattle.calls.proofs.RowLaws.{rows-passed}
+use Rattle.calls.proofs.CardLaws.{card-count, card-starts-of, chain-is}
+use Rattle.calls.proofs.RowLaws.{rows-passed, row-given, last-passed, area-given, area-passed, chain-given, chain-passed}
 
 -- the starts of a listing that is refused
 abbrev zeros : List ℕ
@@ -34,13 +34,13 @@ zeros = replicate 257 0
 -- the plan of a listing, in the order of the code's tests
 module _ (c : List ℕ) (records : List Record) (bad : Bool) (area : bad ≡ areaBad c) where
   pub plan-1 : bad ≡ true → planWith 1 0 0 zeros ≡ planOf c records
-  unfolding planOf answerOf rowsOf listRows firstRow
-  plan-1 e = rw (← area, e)
+  unfolding planOf answerOf rowsOf listRows
+  plan-1 e = rw (area-given _ c bad area e)
 
   module _ (card : bad ≡ false) (r : Regions) (walked : r ≡ regionsOf (chain c)) where
     pub plan-6 : not (r .sound) ≡ true → planWith 6 (r .place .0) 0 zeros ≡ planOf c records
-    unfolding planOf answerOf rowsOf listRows firstRow
-    plan-6 h = let f = card-fault c r walked (not-true (r .sound) h) in rw (← area, card, f .0, f .1)
+    unfolding planOf answerOf rowsOf listRows
+    plan-6 h = rw (area-passed _ c bad area card, chain-given _ c r walked h)
 
     module _ (whole : not (r .sound) ≡ false) (room : ℕ) (long : length records ≡ room) where
       count-is : length (descriptorsOf c) ≡ r .count
@@ -49,13 +49,17 @@ module _ (c : List ℕ) (records : List Record) (bad : Bool) (area : bad ≡ are
       starts-are : startsOf (descriptorsOf c) ≡ r .starts
       starts-are = sym (card-starts-of c r walked (sym area ∙ card) (not-false (r .sound) whole))
 
+      to-room : answerOf (Listing records) c ≡ firstRow (drop 2 (listRows c records))
+      unfolding answerOf rowsOf listRows
+      to-room = area-passed _ c bad area card ∙ chain-passed _ c r walked whole
+
       pub plan-14 : room < r .count → planWith 14 0 0 zeros ≡ planOf c records
-      unfolding planOf answerOf rowsOf listRows firstRow
-      plan-14 h = rw (← area, card, card-sound c r walked (not-false (r .sound) whole), long, count-is, lt-ltb room (r .count) h)
+      unfolding planOf listRows
+      plan-14 h = rw (to-room ∙ row-given _ _ (rw (long, count-is) (lt-ltb room (r .count) h)))
 
       pub plan-0 : r .count ≤ room → planWith 0 0 (r .count) (r .starts) ≡ planOf c records
-      unfolding planOf answerOf rowsOf listRows firstRow
-      plan-0 h = rw (← area, card, card-sound c r walked (not-false (r .sound) whole), long, count-is, starts-are, le-ltb room (r .count) h)
+      unfolding planOf listRows
+      plan-0 h = rw (to-room ∙ last-passed _ (rw (long, count-is) (le-ltb room (r .count) h)), count-is, starts-are)
 
 -- filling none, one more, and the length
 module _ (c starts : List ℕ) (records : List Record) (n : ℕ) where
