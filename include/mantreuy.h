@@ -5,6 +5,9 @@
  * caller lends. It holds one active volume of L logical blocks, L from 1 to
  * 14,336, and at most 255 snapshots of it. The calls format a card, read and
  * write a block, take a snapshot, go back to one, list them, and check the card.
+ * Each call but a format walks the chain of snapshots anew. N is not kept on the
+ * card: it is what the length says that is given with the call. A longer area
+ * has more free blocks; one that ends before the last beta is refused with 6.
  * Link libmantreuy.a, which is built for Linux on x86-64; it needs at most
  * memcpy, memmove and memset.
  *
@@ -28,10 +31,16 @@
  *     descriptor has 112 entries of its own, Phi, that name the table blocks.
  *   - The opening cost c is the blocks that a region starts with, and so what a
  *     format and a snapshot take: 1 + n in layout 1, 1 in layout 2.
- *   - A descriptor is sound if its bytes are as docs/SPEC.md has them; its
- *     layout and L are those of block 0; alpha is its own block;
- *     alpha + c <= beta <= N; next is 0, or equals beta with beta < N; no
- *     earlier descriptor has its name; and it is among the first 256.
+ *   - The bytes of a descriptor: 0 to 3 `snap`, 4 to 7 the layout, 8 to 11 L,
+ *     12 to 15 alpha, 16 to 19 beta, 20 to 23 next, 24 to 39 the name, 40 to 63
+ *     zero, 64 to 511 Phi in layout 2, and zero in layout 1. Entry i of Phi
+ *     stands at byte 64 + 4 * i, entry i of a table block at byte 4 * i. So the
+ *     layout and L of a card stand in its block 0.
+ *   - A descriptor is sound if its bytes 0 to 3 and the zero bytes are such,
+ *     layout, L and name are ones that a format takes; its layout and L are
+ *     those of block 0; alpha is its own block; alpha + c <= beta <= N; next is
+ *     0, or equals beta with beta < N; no earlier descriptor has its name; and
+ *     it is among the first 256.
  *   - An entry is in place if it is nil, or below beta of the descriptor
  *     through which it is found and neither a descriptor of the chain nor a
  *     layout 1 table block.
@@ -47,7 +56,7 @@
  *     are only read.
  *   - What is only filled need not be set before the call: `out`, `records`,
  *     *place, and `name` of mantreuy_pad_name.
- *   - No call keeps a pointer after it returns, allocates memory, blocks, reads
+ *   - No call keeps a pointer after it returns, allocates memory, waits, reads
  *     or sets a global variable, or calls back.
  *   - mantreuy_read, mantreuy_list and mantreuy_check do not alter the card and
  *     may run at the same time on one card, each with its own `out`, `records`
@@ -187,7 +196,8 @@ uint32_t mantreuy_read(const uint8_t *card, size_t card_length, uint32_t snapsho
  * or 2 new blocks: none where the content that it replaces was written since
  * the newest snapshot, or since the format where there is none; in layout 2 two
  * where it is the first write to its group of 128 logical blocks since then;
- * otherwise one. Zeros are written like any other bytes.
+ * otherwise one. Writes that a revert has taken back do not count. Zeros are
+ * written like any other bytes.
  *
  * Refusals, in this order: 1; 9; 6; 8; 10; 11 (beta plus the new blocks > N).
  */
@@ -215,8 +225,9 @@ uint32_t mantreuy_revert(uint8_t *card, size_t card_length,
                          const uint8_t *name, size_t name_length, uint32_t *place);
 
 /*
- * Lists the chain into `records`, a list of records_length / 28 records: the
- * snapshots, oldest first, then the active volume. Record i has the bytes
+ * Lists the chain into `records`, a list of records_length / 28 records, rounded
+ * down: the snapshots, oldest first, then the active volume. Record i has the
+ * bytes
  *   28 * i       the name, 16 bytes
  *   28 * i + 16  alpha, the block of its descriptor, 4 bytes
  *   28 * i + 20  beta, the first block after its region, 4 bytes

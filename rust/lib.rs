@@ -8,7 +8,8 @@
 //! This is a safe interface to `libmantreuy.a`, whose functions are proved to do what their contracts say. The boundary
 //! itself is not proved: the declarations and the `unsafe` calls here are trusted. The library allocates nothing, keeps
 //! no pointer and has no state of its own: everything is on the card. Of a card that is lost or copied out in the middle
-//! of a call nothing is promised. `include/mantreuy.h` says which blocks a call alters. It needs rustc 1.82 or later.
+//! of a call nothing is promised. `include/mantreuy.h` explains the words (descriptor, chain, entry, in place, the rules
+//! of the check) and says which blocks a call alters. It needs rustc 1.82 or later.
 //!
 //! A call that is refused gives a [`Refusal`], and has altered no byte of the card or of a buffer. Of several refusals
 //! that apply the first is given, in this order: [`Kind::BadArea`]; but for `ream`, [`Kind::UnsoundChain`]; then those
@@ -284,7 +285,7 @@ impl Record {
 /// A card over `&[u8]` can be read, listed and checked, also by several threads at once. Over `&mut [u8]`, an array or a
 /// `Vec<u8>` it has all calls. Any area can be taken as a card: each call looks at the whole chain of descriptors anew
 /// and refuses what is no card.
-#[derive(Clone, Copy)]
+#[derive(Clone)]
 pub struct Card<A>(A);
 
 impl<A: AsRef<[u8]>> Card<A> {
