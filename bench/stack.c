@@ -37,6 +37,16 @@ static __attribute__((noinline)) void make(void)
 	case 8: number = mantreuy_revert(card, n, mon, 16, &place); break;
 	case 9: number = mantreuy_list(card, n, records, sizeof records, &place); break;
 	case 10: number = mantreuy_check(card, n, &place); break;
+	case 11: number = mantreuy_ream(card, n, 3, 14336, fs, 16, &place); break;
+	case 12: number = mantreuy_read(card, n, 1, tue, 16, 5, block, 512, &place); break;
+	case 13: number = mantreuy_read(card, n, 1, mon, 16, 5, block, 512, &place); break;
+	case 14: number = mantreuy_write(card, n, 14336, block, 512, &place); break;
+	case 15: number = mantreuy_snap(card, n, mon, 16, &place); break;
+	case 16: number = mantreuy_revert(card, n, tue, 16, &place); break;
+	case 17: number = mantreuy_list(card, n, records, MANTREUY_RECORD_SIZE, &place); break;
+	case 18: number = mantreuy_check(card, 1023, &place); break;
+	case 19: number = mantreuy_check(card, 1024, &place); break;
+	case 20: number = mantreuy_check(card, n, &place); break;
 	default: break;
 	}
 }
@@ -47,9 +57,16 @@ static void *work(void *unused)
 	return unused;
 }
 
-static const char *const titles[] = {
-	"ream, layout 1", "ream, layout 2", "read, active", "read, snapshot", "write, overwriting",
-	"write, 1 new block", "write, 2 new blocks", "snap", "revert", "list", "check",
+/* Each call, and the number that it must answer. Calls 13 and 20 find a bad entry. */
+static const struct {
+	const char *title;
+	uint32_t number;
+} calls[] = {
+	{"ream, layout 1", 0}, {"ream, layout 2", 0}, {"read, active", 0}, {"read, snapshot", 0}, {"write, overwriting", 0},
+	{"write, 1 new block", 0}, {"write, 2 new blocks", 0}, {"snap", 0}, {"revert", 0}, {"list", 0}, {"check", 0},
+	{"ream, refused with 2", 2}, {"read, refused with 7", 7}, {"read, refused with 10", 10}, {"write, refused with 8", 8},
+	{"snap, refused with 12", 12}, {"revert, refused with 7", 7}, {"list, refused with 14", 14},
+	{"check, refused with 1", 1}, {"check, refused with 6", 6}, {"check, refused with 10", 10},
 };
 
 static void prepare(uint32_t layout)
@@ -71,7 +88,7 @@ int main(void)
 		return 1;
 	printf("| Call | Layout | Stack, bytes |\n|---|---|---|\n");
 	for (uint32_t layout = 1; layout <= 2; layout++) {
-		for (which = 0; which <= 10; which++) {
+		for (which = 0; which < (int)(sizeof calls / sizeof calls[0]); which++) {
 			size_t low = 0;
 			pthread_attr_t attributes;
 			pthread_t thread;
@@ -80,17 +97,20 @@ int main(void)
 			if (which == 6 && layout == 1)
 				continue;
 			prepare(layout);
+			/* the snapshot's first entry that is set: in its first table block, or in Phi */
+			if (which == 13 || which == 20)
+				memset(card + (layout == 1 ? 512 + 4 * 5 : 64), 0xff, 4);
 			memset(stack, 0xa5, STACK);
 			pthread_attr_init(&attributes);
 			if (pthread_attr_setstack(&attributes, stack, STACK) != 0 || pthread_create(&thread, &attributes, work, NULL) != 0)
 				return 1;
 			pthread_join(thread, NULL);
 			pthread_attr_destroy(&attributes);
-			if (number != 0)
+			if (number != calls[which].number)
 				return 1;
 			while (stack[low] == 0xa5)
 				low++;
-			printf("| %s | %u | %ld |\n", titles[which], (unsigned)layout, (long)(top - (stack + low)));
+			printf("| %s | %u | %ld |\n", calls[which].title, (unsigned)layout, (long)(top - (stack + low)));
 		}
 	}
 	return 0;

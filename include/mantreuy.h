@@ -64,8 +64,9 @@
  *     mantreuy_revert runs, no other call may use that card. Nobody else may
  *     change a buffer while a call uses it, nor read one that the call may
  *     change.
- *   - A check uses at most 70 KB of stack, any other call at most 5 KB
- *     (measured on x86-64, in accepted calls; 1 KB is 1,000 bytes).
+ *   - A check uses at most 72 KB of stack on any card, any other call at most
+ *     6 KB (measured on x86-64, in accepted and refused calls: 69,976 and 4,568
+ *     bytes).
  *
  * SIZES
  *
