@@ -5,61 +5,87 @@ use mathlib.Core.List.{List, [], _∷_, _++_}
 use Prim.Native.Nat.{ℕ, zero, suc, _+_, _*_, _≤_, _<_}
 use native.Mathlib.Numerals.{add-one}
 use native.Mathlib.Omega.{arith}
-use lib.ListN.{length, take, drop, getD, set, replicate, length-set, length-replicate}
+use lib.ListN.{length, take, drop, getD, set, length-set, length-replicate}
 use lib.Seq.{drop-cons, take-suc, take-length, length-take-le}
-use borrow.Author.Tests.{lt-ltb, le-ltb, ltb-false, not-false}
+use lib.Dec.{ltb}
+use borrow.Author.Tests.{lt-ltb, le-ltb, ltb-false, not-true, not-false}
 use Rattle.blocks.specs.Pick.{pick}
 use Rattle.blocks.specs.Bytes.{storeAll}
 use Rattle.blocks.specs.Descriptor.{physical, noDescriptor}
-use Rattle.blocks.specs.Chain.{activeOf, chain, chainSound, startsOf, regionsOf}
+use Rattle.blocks.specs.Chain.{activeOf, Chain, Sound, Unsound, chain, chainSound, startsOf, regionsOf}
 use Rattle.blocks.specs.declared.descriptor.Descriptor.{Descriptor}
 use Rattle.blocks.specs.declared.chain.Regions.{Regions}
 use Rattle.blocks.proofs.LinkedLaws.{starts-long, region-of, found-inside, found-descriptor}
 use Rattle.calls.specs.declared.answer.Answer.{Answer}
 use Rattle.calls.specs.declared.answer.Record.{Record}
+use Rattle.calls.specs.declared.list.Filling.{Filling}
 use Rattle.calls.specs.declared.list.Plan.{Plan}
-use Rattle.calls.specs.Call.{Listing, Records}
+use Rattle.calls.specs.Call.{Listing, Records, answer}
 use Rattle.calls.specs.Parts.{areaBad, descriptorsOf}
 use Rattle.calls.specs.Ladder.{firstRow, listRows, rowsOf, answerOf}
 use Rattle.calls.specs.Effect.{recordOf, listed, storesOf, lentOf, filledOf}
 use Rattle.calls.specs.Step.{Done, step, isAccepted}
-use Rattle.calls.specs.Listing.{planWith, planOf, recordBy, filledTo, filled}
-use Rattle.calls.proofs.CardLaws.{card-count, card-starts-of, chain-is}
+use Rattle.calls.specs.Listing.{fillingWith, fillingOf, fillingBy, noStarts, planOf, recordBy, filledTo, filled}
+use Rattle.calls.proofs.CardLaws.{card-count, chain-is}
 use Rattle.calls.proofs.RowLaws.{rows-passed, row-given, last-passed, area-given, area-passed, chain-given, chain-passed}
 
--- the starts of a listing that is refused
-abbrev zeros : List ℕ
-zeros = replicate 257 0
-
--- the plan of a listing, in the order of the code's tests
+-- what a listing answers and fills, in the order of the code's tests
 module _ (c : List ℕ) (records : List Record) (bad : Bool) (area : bad ≡ areaBad c) where
-  pub plan-1 : bad ≡ true → planWith 1 0 0 zeros ≡ planOf c records
-  unfolding planOf answerOf rowsOf listRows
-  plan-1 e = rw (area-given _ c bad area e)
+  pub filling-1 : bad ≡ true → fillingWith 1 0 0 ≡ fillingOf c records
+  unfolding fillingOf answerOf rowsOf listRows
+  filling-1 e = rw (area-given _ c bad area e)
 
   module _ (card : bad ≡ false) (r : Regions) (walked : r ≡ regionsOf (chain c)) where
-    pub plan-6 : not (r .sound) ≡ true → planWith 6 (r .place .0) 0 zeros ≡ planOf c records
-    unfolding planOf answerOf rowsOf listRows
-    plan-6 h = rw (area-passed _ c bad area card, chain-given _ c r walked h)
+    filling-6 : not (r .sound) ≡ true → fillingWith 6 (r .place .0) 0 ≡ fillingOf c records
+    unfolding fillingOf answerOf rowsOf listRows
+    filling-6 h = rw (area-passed _ c bad area card, chain-given _ c r walked h)
 
-    module _ (whole : not (r .sound) ≡ false) (room : ℕ) (long : length records ≡ room) where
-      count-is : length (descriptorsOf c) ≡ r .count
-      count-is = sym (card-count c r walked (sym area ∙ card) (not-false (r .sound) whole))
+    module _ (room : ℕ) (long : length records ≡ room) where
+      module _ (whole : not (r .sound) ≡ false) where
+        count-is : length (descriptorsOf c) ≡ r .count
+        count-is = sym (card-count c r walked (sym area ∙ card) (not-false (r .sound) whole))
 
-      starts-are : startsOf (descriptorsOf c) ≡ r .starts
-      starts-are = sym (card-starts-of c r walked (sym area ∙ card) (not-false (r .sound) whole))
+        to-room : answerOf (Listing records) c ≡ firstRow (drop 2 (listRows c records))
+        unfolding answerOf rowsOf listRows
+        to-room = area-passed _ c bad area card ∙ chain-passed _ c r walked whole
 
-      to-room : answerOf (Listing records) c ≡ firstRow (drop 2 (listRows c records))
-      unfolding answerOf rowsOf listRows
-      to-room = area-passed _ c bad area card ∙ chain-passed _ c r walked whole
+        filling-room : (t : Bool) → ltb room (r .count) ≡ t → pick t (fillingWith 14 0 0) (fillingWith 0 0 (r .count)) ≡ fillingOf c records
+        unfolding fillingOf listRows
+        filling-room true h = rw (to-room ∙ row-given _ _ (rw (long, count-is) h))
+        filling-room false h = rw (to-room ∙ last-passed _ (rw (long, count-is) h), count-is)
 
-      pub plan-14 : room < r .count → planWith 14 0 0 zeros ≡ planOf c records
-      unfolding planOf listRows
-      plan-14 h = rw (to-room ∙ row-given _ _ (rw (long, count-is) (lt-ltb room (r .count) h)))
+      filling-by : (s : Bool) → r .sound ≡ s → pick s (pick (ltb room (r .count)) (fillingWith 14 0 0) (fillingWith 0 0 (r .count))) (fillingWith 6 (r .place .0) 0) ≡ fillingOf c records
+      filling-by true e = filling-room (rw e) (ltb room (r .count)) refl
+      filling-by false e = filling-6 (rw e)
 
-      pub plan-0 : r .count ≤ room → planWith 0 0 (r .count) (r .starts) ≡ planOf c records
-      unfolding planOf listRows
-      plan-0 h = rw (to-room ∙ last-passed _ (rw (long, count-is) (le-ltb room (r .count) h)), count-is, starts-are)
+      pub filling-told : (f : Filling) → f ≡ fillingBy (r .sound) (r .place .0) (r .count) room → f ≡ fillingOf c records
+      unfolding fillingBy
+      filling-told f e = e ∙ filling-by (r .sound) refl
+
+-- the same by the tests of the code
+module _ (sound : Bool) (place count room : ℕ) where
+  pub by-6 : not sound ≡ true → fillingWith 6 place 0 ≡ fillingBy sound place count room
+  unfolding fillingBy
+  by-6 h = rw (not-true sound h)
+
+  module _ (whole : not sound ≡ false) where
+    pub by-14 : room < count → fillingWith 14 0 0 ≡ fillingBy sound place count room
+    unfolding fillingBy
+    by-14 h = rw (not-false sound whole, lt-ltb room count h)
+
+    pub by-0 : count ≤ room → fillingWith 0 0 count ≡ fillingBy sound place count room
+    unfolding fillingBy
+    by-0 h = rw (not-false sound whole, le-ltb room count h)
+
+-- the plan of a listing: where the area is no card, and with what the walk found
+pub plan-1 : (c : List ℕ) (records : List Record) (bad : Bool) → bad ≡ areaBad c → bad ≡ true → record { answer = answer 1 0; count = 0; starts = noStarts } ≡ planOf c records
+unfolding planOf
+plan-1 c records bad area e = rw (← (filling-1 c records bad area e), ← area, e)
+
+pub plan-told : (c : List ℕ) (records : List Record) (bad : Bool) → bad ≡ areaBad c → bad ≡ false → (r : Regions) → r ≡ regionsOf (chain c) → (f : Filling) → f ≡ fillingOf c records
+    → record { answer = f .answer; count = f .count; starts = r .starts } ≡ planOf c records
+unfolding planOf
+plan-told c records bad area card r walked f told = rw (← area, card, ← walked, ← told)
 
 -- filling none, one more, and the length
 module _ (c starts : List ℕ) (records : List Record) (n : ℕ) where
@@ -131,26 +157,49 @@ module _ (c : List ℕ) (records : List Record) (ok : isAccepted (answerOf (List
 abbrev pub Ready : List ℕ → List ℕ → List Record → ℕ → Type 0
 Ready c starts records n = (n ≤ length records) × (n < length starts) × ((j : ℕ) → j < n → 512 * getD starts j 0 + 512 ≤ length c)
 
--- a plan has it
-ready-by : (c : List ℕ) (records : List Record) (t : Bool) → isAccepted (answerOf (Listing records) c) ≡ t
-    → Ready c (pick t (startsOf (descriptorsOf c)) zeros) records (pick t (length (descriptorsOf c)) 0)
-ready-by c records true e = (list-room c records e, starts-long (descriptorsOf c), list-inside c records e)
-ready-by c records false e = (omega arith, omega (arith, length-replicate {A = ℕ} 257 0), λ j h. absurd (omega arith))
+-- with the starts of the chain, where it is accepted, it has it
+pub ready-by : (c starts : List ℕ) (records : List Record) (t : Bool) → isAccepted (answerOf (Listing records) c) ≡ t → (t ≡ true → starts ≡ startsOf (descriptorsOf c)) → 0 < length starts
+    → Ready c starts records (pick t (length (descriptorsOf c)) 0)
+ready-by c starts records true e is some = rw (is refl) (list-room c records e, starts-long (descriptorsOf c), list-inside c records e)
+ready-by c starts records false e is some = (omega arith, some, λ j h. absurd (omega arith))
 
-pub plan-ready : (c : List ℕ) (records : List Record) (r : Plan) → r ≡ planOf c records → Ready c (r .starts) records (r .count)
-unfolding planOf
-plan-ready c records r e = rw e (ready-by c records (isAccepted (answerOf (Listing records) c)) refl)
+-- the starts that the walk found: there are some, and where a listing is accepted they are those of the chain
+pub regions-some : (k : Chain) → 0 < length (regionsOf k .starts)
+unfolding regionsOf
+regions-some (Unsound p) = omega (arith, length-replicate {A = ℕ} 257 0)
+regions-some (Sound ds) = omega (arith, starts-long ds)
+
+module _ (c : List ℕ) (records : List Record) where
+  pub walk-starts : isAccepted (answerOf (Listing records) c) ≡ true → regionsOf (chain c) .starts ≡ startsOf (descriptorsOf c)
+  walk-starts ok = ap (λ (r : Regions). r .starts) (list-whole c records ok)
+
+  -- those of a plan
+  plan-starts : isAccepted (answerOf (Listing records) c) ≡ true → planOf c records .starts ≡ startsOf (descriptorsOf c)
+  unfolding planOf rowsOf listRows
+  plan-starts ok = rw (rows-passed (Listing records) c ok 0 (omega arith)) (walk-starts ok)
+
+  some-by : (t : Bool) → 0 < length (pick t noStarts (regionsOf (chain c) .starts))
+  some-by true = omega (arith, length-replicate {A = ℕ} 257 0)
+  some-by false = regions-some (chain c)
+
+  plan-some : 0 < length (planOf c records .starts)
+  unfolding planOf
+  plan-some = some-by (areaBad c)
+
+  pub plan-ready : (r : Plan) → r ≡ planOf c records → Ready c (r .starts) records (r .count)
+  unfolding planOf fillingOf
+  plan-ready r e = rw e (ready-by c (planOf c records .starts) records (isAccepted (answerOf (Listing records) c)) refl plan-starts plan-some)
 
 -- a listing as planned and filled is that of the definition
 abbrev done : Answer → List Record → List ℕ → Done
 done a l c = record { outcome = record { answer = a; lent = Records l }; card = c }
 
-step-by : (c : List ℕ) (records : List Record) (t : Bool) → isAccepted (answerOf (Listing records) c) ≡ t
-    → done (answerOf (Listing records) c) (filled c (pick t (startsOf (descriptorsOf c)) zeros) records (pick t (length (descriptorsOf c)) 0)) c ≡ step (Listing records) c
+step-by : (c starts : List ℕ) (records : List Record) (t : Bool) → isAccepted (answerOf (Listing records) c) ≡ t → (t ≡ true → starts ≡ startsOf (descriptorsOf c))
+    → done (answerOf (Listing records) c) (filled c starts records (pick t (length (descriptorsOf c)) 0)) c ≡ step (Listing records) c
 unfolding step storesOf storeAll lentOf filledOf
-step-by c records true e = rw (e, filled-listed c (startsOf (descriptorsOf c)) (descriptorsOf c) (list-record c records e) records (list-room c records e))
-step-by c records false e = rw (e, ← (filled-all c zeros records 0 0 refl), filled-none c zeros records 0)
+step-by c starts records true e is = rw (e, is refl, filled-listed c (startsOf (descriptorsOf c)) (descriptorsOf c) (list-record c records e) records (list-room c records e))
+step-by c starts records false e is = rw (e, ← (filled-all c starts records 0 0 refl), filled-none c starts records 0)
 
 pub plan-done : (c : List ℕ) (records l : List Record) (r : Plan) → r ≡ planOf c records → l ≡ filled c (r .starts) records (r .count) → done (r .answer) l c ≡ step (Listing records) c
-unfolding planOf
-plan-done c records l r e f = rw (f, e) (step-by c records (isAccepted (answerOf (Listing records) c)) refl)
+unfolding planOf fillingOf
+plan-done c records l r e f = rw (f, e) (step-by c (planOf c records .starts) records (isAccepted (answerOf (Listing records) c)) refl (plan-starts c records))

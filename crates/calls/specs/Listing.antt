@@ -1,28 +1,42 @@
 -- What the code of a listing plans and fills.
+use mathlib.Core.Bool.{Bool}
 use mathlib.Core.List.{List}
 use Prim.Native.Nat.{ℕ, zero, suc, _+_}
 use lib.ListN.{length, getD, set, replicate}
-use lib.Dec.{eqb}
+use lib.Dec.{eqb, ltb}
 use Rattle.blocks.specs.Pick.{pick}
 use Rattle.blocks.specs.Descriptor.{descriptorAt}
-use Rattle.blocks.specs.Chain.{mostDescriptors, startsOf}
+use Rattle.blocks.specs.Chain.{mostDescriptors, chain, regionsOf}
 use Rattle.calls.specs.declared.answer.Record.{Record}
+use Rattle.calls.specs.declared.list.Filling.{Filling}
 use Rattle.calls.specs.declared.list.Plan.{Plan}
 use Rattle.calls.specs.Call.{Listing, answer}
-use Rattle.calls.specs.Parts.{descriptorsOf}
+use Rattle.calls.specs.Parts.{areaBad, descriptorsOf}
 use Rattle.calls.specs.Ladder.{answerOf}
 use Rattle.calls.specs.Step.{isAccepted}
 
--- an answer, a number of records to fill, and where the regions start
-abbrev pub planWith : ℕ → ℕ → ℕ → List ℕ → Plan
-planWith n p count starts = record { answer = answer n p; count = count; starts = starts }
+-- an answer and a number of records to fill
+abbrev pub fillingWith : ℕ → ℕ → ℕ → Filling
+fillingWith n p count = record { answer = answer n p; count = count }
 
--- a listing's answer; where it is accepted, one record for each descriptor and where the regions start, else none and zeros
+-- a listing's answer, and how many records it fills: one for each descriptor where it is accepted, else none
+unfoldable pub fillingOf : List ℕ → List Record → Filling
+fillingOf c records =
+    let a = answerOf (Listing records) c in
+    record { answer = a; count = pick (isAccepted a) (length (descriptorsOf c)) 0 }
+
+-- the same on a card, by what the walk along the chain found and the number of records
+unfoldable pub fillingBy : Bool → ℕ → ℕ → ℕ → Filling
+fillingBy sound place count room = pick sound (pick (ltb room count) (fillingWith 14 0 0) (fillingWith 0 0 count)) (fillingWith 6 place 0)
+
+-- and where the regions start, by the walk; zeros where the area is no card
+abbrev pub noStarts : List ℕ
+noStarts = replicate (mostDescriptors + 1) 0
+
 unfoldable pub planOf : List ℕ → List Record → Plan
 planOf c records =
-    let ds = descriptorsOf c in
-    let a = answerOf (Listing records) c in
-    record { answer = a; count = pick (isAccepted a) (length ds) 0; starts = pick (isAccepted a) (startsOf ds) (replicate (mostDescriptors + 1) 0) }
+    let f = fillingOf c records in
+    record { answer = f .answer; count = f .count; starts = pick (areaBad c) noStarts (regionsOf (chain c) .starts) }
 
 -- the record of region k of n, by where the regions start: the name is that of the descriptor there
 unfoldable pub recordBy : List ℕ → List ℕ → ℕ → ℕ → Record

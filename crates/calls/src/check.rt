@@ -87,13 +87,12 @@ pub fn check(card: &[u8]) -> Answer
     }
     let found = chain::walk_chain(card);
     let count = found.count;
-    let starts = found.starts;
     let active = found.active;
     if !found.sound {
         let place = found.place.0;
         return Answer { number: 6, place };
     }
-    match check_regions(card, active, &starts, count) {
+    match check_regions(card, active, &found.starts, count) {
         Verdict::Passed => Answer {
             number: 0,
             place: 0,

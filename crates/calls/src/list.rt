@@ -11,24 +11,42 @@ ghost use Prim.Native.Nat.{ℕ, _+_, _*_, _≤_, _<_};
 ghost use lib.ListN.{length, getD};
 ghost use Rattle.calls.specs.Call.{Listing, Records};
 ghost use Rattle.calls.specs.Step.{step};
-ghost use Rattle.calls.specs.Listing.{planWith, planOf, recordBy, filled};
+ghost use Rattle.calls.specs.Listing.{fillingWith, fillingBy, planOf, recordBy, filled};
 
-// What a listing answers, how many records it fills, and where the regions start: none, and zeros, where it is refused.
+// What a listing answers, and how many records it fills: none where it is refused.
+pub struct Filling {
+    pub answer: Answer,
+    pub count: usize,
+}
+
+// The same, and where the regions start: zeros where the area is no card.
 pub struct Plan {
     pub answer: Answer,
     pub count: usize,
     pub starts: [u32; 257],
 }
 
-// The plan that has this answer, this count and these starts.
-fn planned(number: u32, place: u32, count: usize, starts: [u32; 257]) -> Plan
-    ensures { λ r. ⌜ r ≡ planWith number place count starts ⌝ }
+// What has this answer and fills so many records.
+fn fills(number: u32, place: u32, count: usize) -> Filling
+    ensures { λ r. ⌜ r ≡ fillingWith number place count ⌝ }
 {
-    Plan {
+    Filling {
         answer: Answer { number, place },
         count,
-        starts,
     }
+}
+
+// The tests of a listing into `room` records that follow the walk, by what it found.
+pub fn plan_filling(sound: bool, place: Physical, count: usize, room: usize) -> Filling
+    ensures { λ r. ⌜ r ≡ fillingBy sound (place .0) count room ⌝ }
+{
+    if !sound {
+        return fills(6, place.0, 0);
+    }
+    if room < count {
+        return fills(14, 0, 0);
+    }
+    fills(0, 0, count)
 }
 
 // All tests of a listing into `room` records.
@@ -36,19 +54,24 @@ pub fn make_plan(card: &[u8], room: usize) -> Plan
     ensures { λ r. ⌜ ((records : List Record) → length records ≡ room → r ≡ planOf (now (card .entry)) records) ⌝ }
 {
     if area::is_bad(card) {
-        return planned(1, 0, 0, [0u32; 257]);
+        return Plan {
+            answer: Answer {
+                number: 1,
+                place: 0,
+            },
+            count: 0,
+            starts: [0u32; 257],
+        };
     }
     let found = chain::walk_chain(card);
-    let count = found.count;
+    let f = plan_filling(found.sound, found.place, found.count, room);
+    let answer = f.answer;
     let starts = found.starts;
-    if !found.sound {
-        let place = found.place.0;
-        return planned(6, place, 0, [0u32; 257]);
+    Plan {
+        answer,
+        count: f.count,
+        starts,
     }
-    if room < count {
-        return planned(14, 0, 0, [0u32; 257]);
-    }
-    planned(0, 0, count, starts)
 }
 
 // The record of region `k` of `n`, by the starts that the walk found: of its bytes the name alone is read.
@@ -116,8 +139,7 @@ pub fn list_64(card: &[u8], records: [Record; 64]) -> Listed
     let p = make_plan(card, 64);
     let answer = p.answer;
     let count = p.count;
-    let starts = p.starts;
-    let filled = fill_64(card, &starts, records, count);
+    let filled = fill_64(card, &p.starts, records, count);
     Listed {
         answer,
         count,

@@ -124,13 +124,12 @@ pub fn read(card: &[u8], target: Target, name: [u8; 16], l: Logical, out: &mut [
     }
     let found = chain::walk_chain(card);
     let count = found.count;
-    let starts = found.starts;
     let active = found.active;
     if !found.sound {
         let place = found.place.0;
         return Answer { number: 6, place };
     }
-    let k = target_index(card, &starts, count, target, name);
+    let k = target_index(card, &found.starts, count, target, name);
     if k == count {
         return Answer {
             number: 7,
@@ -143,6 +142,6 @@ pub fn read(card: &[u8], target: Target, name: [u8; 16], l: Logical, out: &mut [
             place: 0,
         };
     }
-    let d = chain::descriptor_of(card, active, &starts, count, k);
-    deliver(card, &starts, count, d, l, out)
+    let d = chain::descriptor_of(card, active, &found.starts, count, k);
+    deliver(card, &found.starts, count, d, l, out)
 }

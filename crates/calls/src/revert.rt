@@ -40,22 +40,21 @@ pub fn revert(card: &mut [u8], name: [u8; 16]) -> Answer
     }
     let found = chain::walk_chain(card);
     let count = found.count;
-    let starts = found.starts;
     let active = found.active;
     if !found.sound {
         let place = found.place.0;
         return Answer { number: 6, place };
     }
     let last = count - 1;
-    let k = chain::index_of(card, &starts, last, name);
+    let k = chain::index_of(card, &found.starts, last, name);
     if k == last {
         return Answer {
             number: 7,
             place: 0,
         };
     }
-    let p = starts[k];
-    let d = chain::descriptor_of(card, active, &starts, count, k);
+    let p = found.starts[k];
+    let d = chain::descriptor_of(card, active, &found.starts, count, k);
     let current = active.name;
     make_active(card, Physical(p), d, current);
     Answer {

@@ -62,12 +62,11 @@ pub fn snap(card: &mut [u8], name: [u8; 16]) -> Answer
     }
     let found = chain::walk_chain(card);
     let count = found.count;
-    let starts = found.starts;
     if !found.sound {
         let place = found.place.0;
         return Answer { number: 6, place };
     }
-    if chain::is_named(card, &starts, count, name) {
+    if chain::is_named(card, &found.starts, count, name) {
         return Answer {
             number: 12,
             place: 0,

@@ -69,7 +69,6 @@ pub fn write(card: &mut [u8], l: Logical, block: &[u8]) -> Answer
     }
     let found = chain::walk_chain(card);
     let count = found.count;
-    let starts = found.starts;
     if !found.sound {
         let place = found.place.0;
         return Answer { number: 6, place };
@@ -81,7 +80,7 @@ pub fn write(card: &mut [u8], l: Logical, block: &[u8]) -> Answer
             place: 0,
         };
     }
-    match find::find(card, &starts, count, d, l) {
+    match find::find(card, &found.starts, count, d, l) {
         Found::Misplaced(h) => Answer {
             number: 10,
             place: h.0,

@@ -5,24 +5,25 @@ use mathlib.Core.List.{List, [], _∷_, _++_, append-assoc, append-nil}
 use Prim.Native.Nat.{ℕ, zero, suc, _+_, _*_, _/_, _≤_, _<_}
 use native.Mathlib.Numerals.{add-one}
 use native.Mathlib.Omega.{arith}
-use lib.ListN.{length, take, drop, getD, replicate, length-append, length-replicate}
+use lib.ListN.{length, take, drop, getD, length-append, length-replicate}
 use lib.Seq.{take-suc, take-length}
 use Rattle.blocks.specs.Pick.{pick}
 use Rattle.blocks.specs.Bytes.{le32, splice}
 use Rattle.blocks.specs.Descriptor.{noDescriptor, descriptorAt}
-use Rattle.blocks.specs.Chain.{startsOf}
+use Rattle.blocks.specs.Chain.{chain, startsOf, regionsOf}
 use Rattle.blocks.specs.declared.descriptor.Descriptor.{Descriptor}
+use Rattle.blocks.specs.declared.chain.Regions.{Regions}
 use Rattle.blocks.proofs.ByteLaws.{put-next, splice-join, splice-start, length-le32, length-part}
 use Rattle.calls.specs.declared.answer.Record.{Record}
-use Rattle.calls.specs.declared.list.Plan.{Plan}
+use Rattle.calls.specs.declared.list.Filling.{Filling}
 use Rattle.calls.specs.Call.{Listing, answer}
-use Rattle.calls.specs.Parts.{descriptorsOf}
+use Rattle.calls.specs.Parts.{areaBad, descriptorsOf}
 use Rattle.calls.specs.Ladder.{answerOf}
 use Rattle.calls.specs.Effect.{noRecord, recordOf, listed}
 use Rattle.calls.specs.Step.{isAccepted}
-use Rattle.calls.specs.Listing.{planOf, recordBy}
+use Rattle.calls.specs.Listing.{fillingOf, fillingBy, recordBy}
 use Rattle.calls.proofs.StepLaws.{step-answer}
-use Rattle.calls.proofs.ListLaws.{list-room, list-inside, list-record, plan-ready}
+use Rattle.calls.proofs.ListLaws.{filling-1, filling-told, list-room, list-inside, list-record, ready-by, regions-some, walk-starts}
 use Rattle.mantreuy.specs.RecordBytes.{recordBytes, recordsBytes, roomIn, listingOf, filledBytesTo, filledBytes}
 
 pub record-length : (r : Record) → length (r .name) ≡ 16 → length (recordBytes r) ≡ 28
@@ -107,22 +108,34 @@ pub room-size : (b : List ℕ) → length (roomIn b) ≡ length b / 28
 unfolding roomIn
 room-size b = length-replicate (length b / 28) noRecord
 
--- a listing into bytes as planned and filled is that of the definition
-listing-by : (c b : List ℕ) (t : Bool) → isAccepted (answerOf (Listing (roomIn b)) c) ≡ t
-    → record { answer = answerOf (Listing (roomIn b)) c; bytes = filledBytes c (pick t (startsOf (descriptorsOf c)) (replicate 257 0)) b (pick t (length (descriptorsOf c)) 0) } ≡ listingOf c b
+-- a listing into bytes that is refused for its area, and one that fills what the walk found room for, are those of the definition
+pub listing-1 : (c b : List ℕ) (bad : Bool) → bad ≡ areaBad c → bad ≡ true → record { answer = answer 1 0; bytes = b } ≡ listingOf c b
+unfolding listingOf fillingOf
+listing-1 c b bad area e = rw (step-answer (Listing (roomIn b)) c, ← (ap (λ (f : Filling). f .answer) (filling-1 c (roomIn b) bad area e)))
+
+listing-by : (c starts b : List ℕ) (t : Bool) → isAccepted (answerOf (Listing (roomIn b)) c) ≡ t → (t ≡ true → starts ≡ startsOf (descriptorsOf c))
+    → record { answer = answerOf (Listing (roomIn b)) c; bytes = filledBytes c starts b (pick t (length (descriptorsOf c)) 0) } ≡ listingOf c b
 unfolding listingOf
-listing-by c b true e =
+listing-by c starts b true e is =
     let fits : 28 * length (descriptorsOf c) ≤ length b = omega (arith, list-room c (roomIn b) e, room-size b) in
-    rw (step-answer (Listing (roomIn b)) c, e, bytes-listed c (startsOf (descriptorsOf c)) (descriptorsOf c) (list-record c (roomIn b) e) (list-inside c (roomIn b) e) b fits)
-listing-by c b false e = rw (step-answer (Listing (roomIn b)) c, e, ← (bytes-all c (replicate 257 0) b 0 0 b (bytes-none c (replicate 257 0) b 0) (omega arith) (omega arith)))
+    rw (step-answer (Listing (roomIn b)) c, e, is refl, bytes-listed c (startsOf (descriptorsOf c)) (descriptorsOf c) (list-record c (roomIn b) e) (list-inside c (roomIn b) e) b fits)
+listing-by c starts b false e is = rw (step-answer (Listing (roomIn b)) c, e, ← (bytes-all c starts b 0 0 b (bytes-none c starts b 0) (omega arith) (omega arith)))
 
-module _ (c b : List ℕ) (r : Plan) (planned : (records : List Record) → length records ≡ length b / 28 → r ≡ planOf c records) where
+module _ (c b : List ℕ) (bad : Bool) (area : bad ≡ areaBad c) (card : bad ≡ false) (r : Regions) (walked : r ≡ regionsOf (chain c)) (f : Filling) (by : f ≡ fillingBy (r .sound) (r .place .0) (r .count) (length b / 28)) where
+  told : f ≡ fillingOf c (roomIn b)
+  told = filling-told c (roomIn b) bad area card r walked (length b / 28) (room-size b) f by
+
+  starts-are : isAccepted (answerOf (Listing (roomIn b)) c) ≡ true → r .starts ≡ startsOf (descriptorsOf c)
+  starts-are ok = ap (λ (x : Regions). x .starts) walked ∙ walk-starts c (roomIn b) ok
+
   -- what is planned to be filled is there
-  pub plan-fits : (28 * r .count ≤ length b) × (r .count < length (r .starts)) × ((j : ℕ) → j < r .count → 512 * getD (r .starts) j 0 + 512 ≤ length c)
-  plan-fits =
-      let ready = plan-ready c (roomIn b) r (planned (roomIn b) (room-size b)) in
-      (omega (arith, ready .0, room-size b), ready .1, ready .2)
+  pub filling-fits : (28 * f .count ≤ length b) × (f .count < length (r .starts)) × ((j : ℕ) → j < f .count → 512 * getD (r .starts) j 0 + 512 ≤ length c)
+  unfolding fillingOf
+  filling-fits =
+      let some : 0 < length (r .starts) = rw walked (regions-some (chain c)) in
+      let ready = ready-by c (r .starts) (roomIn b) (isAccepted (answerOf (Listing (roomIn b)) c)) refl starts-are some in
+      rw told (omega (arith, ready .0, room-size b), ready .1, ready .2)
 
-  pub listing-done : (b′ : List ℕ) → b′ ≡ filledBytes c (r .starts) b (r .count) → record { answer = answer (r .answer .number) (r .answer .place); bytes = b′ } ≡ listingOf c b
-  unfolding planOf
-  listing-done b′ f = rw (f, planned (roomIn b) (room-size b)) (listing-by c b (isAccepted (answerOf (Listing (roomIn b)) c)) refl)
+  pub listing-done : (b′ : List ℕ) → b′ ≡ filledBytes c (r .starts) b (f .count) → record { answer = answer (f .answer .number) (f .answer .place); bytes = b′ } ≡ listingOf c b
+  unfolding fillingOf
+  listing-done b′ e = rw (e, told) (listing-by c (r .starts) b (isAccepted (answerOf (Listing (roomIn b)) c)) refl starts-are)

@@ -1,8 +1,10 @@
 // The static library that C and Rust programs link: the seven calls and the padding of a name, on numbers and lent bytes.
 // Each call returns the number of its answer and stores the place; its contract is one equation, by the calls' `step`, the listing's by `listingOf`.
+use blocks::chain;
 use blocks::descriptor;
 use blocks::name;
 use blocks::numbers::Logical;
+use calls::area;
 use calls::check;
 use calls::list;
 use calls::read;
@@ -88,11 +90,15 @@ pub extern "C" fn mantreuy_revert(card: &mut [u8], name: &[u8], place: &mut u32)
 pub extern "C" fn mantreuy_list(card: &[u8], records: &mut [u8], place: &mut u32) -> u32
     ensures { λ r. ⌜ record { answer = answer r (now (place .exit)); bytes = now (records .exit) } ≡ listingOf (now (card .entry)) (now (records .entry)) ⌝ }
 {
-    let p = list::make_plan(card, records.len() / 28);
-    let starts = p.starts;
-    record::fill_bytes(card, &starts, records, p.count);
-    *place = p.answer.place;
-    p.answer.number
+    if area::is_bad(card) {
+        *place = 0;
+        return 1;
+    }
+    let found = chain::walk_chain(card);
+    let f = list::plan_filling(found.sound, found.place, found.count, records.len() / 28);
+    record::fill_bytes(card, &found.starts, records, f.count);
+    *place = f.answer.place;
+    f.answer.number
 }
 
 // Checks the card.

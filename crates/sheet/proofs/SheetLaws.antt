@@ -17,7 +17,7 @@ use Rattle.calls.specs.Call.{Ream, Read, Write, Snap, Revert, Listing, Check, L
 use Rattle.calls.specs.Parts.{descriptorsOf}
 use Rattle.calls.specs.Ladder.{answerOf}
 use Rattle.calls.specs.Step.{Done, step, isAccepted}
-use Rattle.calls.specs.Listing.{planOf}
+use Rattle.calls.specs.Listing.{fillingOf, planOf}
 use Rattle.calls.proofs.StepLaws.{step-answer}
 use Rattle.calls.proofs.ListLaws.{list-room}
 use Rattle.cutter.specs.declared.line.SheetCall.{SheetCall}
@@ -130,7 +130,7 @@ module _ (area : List ℕ) (blocks : ℕ) (records : List Record) (a : Answer) w
     answer-is = ap (λ (d : Done). d .outcome .answer) made ∙ step-answer (Listing records) card
 
     count-is : a .number ≡ 0 → count ≡ planOf card records .count → count ≡ length (descriptorsOf card)
-    unfolding planOf
+    unfolding planOf fillingOf
     count-is e f = f ∙ ap (λ (b : Bool). pick b (length (descriptorsOf card)) 0) (eq-eqb (answerOf (Listing records) card .number) 0 (sym (ap (λ (x : Answer). x .number) answer-is) ∙ e))
 
     pub list-accepted : a .number ≡ 0 → count ≡ planOf card records .count → after a blocks (Listed count) filled area ≡ afterCall (state area blocks records) line.List noName

@@ -26,11 +26,8 @@ returns-2 : tie.Need-returns-2
 unfolding lentOf
 returns-2 c = step-refused _ _ _ _ (search check-6) refl
 
-slice-aggregate-check-regions : tie.Need-slice-aggregate-check-regions
-slice-aggregate-check-regions c = search needs
-
 check-regions-requires : tie.Need-check-regions-requires
-check-regions-requires c κs = (sym (c .before .before .before .before .before .before .before .is-bad .ensures) ∙ c .before .before .before .before .before .before .if1 .left, regions-whole _ _ (c .before .before .before .before .before .walk-chain .ensures) (not-false (c .before .before .before .before .before .walk-chain .result .sound) (c .before .if2 .left)) .1)
+check-regions-requires c κs = (sym (c .before .before .before .before .before .before .before .is-bad .ensures) ∙ c .before .before .before .before .before .before .if1 .left, regions-whole _ _ (c .before .before .before .before .before .walk-chain .ensures) (not-false (c .before .before .before .before .before .walk-chain .result .sound) (c .before .before .before .if2 .left)) .1)
 
 enum-told : tie.Need-enum-told
 enum-told c = search needs
@@ -40,11 +37,11 @@ enum-known-h c = search needs
 
 returns-3 : tie.Need-returns-3
 unfolding filledOf storesOf storeAll
-returns-3 c = step-accepted _ _ (check-0 _ _ (c .before .before .before .before .before .before .before .before .before .before .is-bad .ensures) (c .before .before .before .before .before .before .before .before .before .if1 .left) _ (c .before .before .before .before .before .before .before .before .walk-chain .ensures) (c .before .before .before .before .if2 .left) _ (c .before .before .check-regions .ensures) (cc)) _ refl _ refl
+returns-3 c = step-accepted _ _ (check-0 _ _ (c .before .before .before .before .before .before .before .before .before .before .is-bad .ensures) (c .before .before .before .before .before .before .before .before .before .if1 .left) _ (c .before .before .before .before .before .before .before .before .walk-chain .ensures) (c .before .before .before .before .before .before .if2 .left) _ (c .before .before .check-regions .ensures) (cc)) _ refl _ refl
 
 returns-4 : tie.Need-returns-4
 unfolding lentOf
-returns-4 c = step-refused _ _ _ _ (check-10 _ _ (c .before .before .before .before .before .before .before .before .before .before .before .is-bad .ensures) (c .before .before .before .before .before .before .before .before .before .before .if1 .left) _ (c .before .before .before .before .before .before .before .before .before .walk-chain .ensures) (c .before .before .before .before .before .if2 .left) _ (c .before .before .before .check-regions .ensures) _ (cc)) refl
+returns-4 c = step-refused _ _ _ _ (check-10 _ _ (c .before .before .before .before .before .before .before .before .before .before .before .is-bad .ensures) (c .before .before .before .before .before .before .before .before .before .before .if1 .left) _ (c .before .before .before .before .before .before .before .before .before .walk-chain .ensures) (c .before .before .before .before .before .before .before .if2 .left) _ (c .before .before .before .check-regions .ensures) _ (cc)) refl
 
 pub check-spec : {M : Type 1} → statement M
 check-spec =
@@ -54,7 +51,6 @@ check-spec =
     returns
     walk-chain-requires
     returns-2
-    slice-aggregate-check-regions
     check-regions-requires
     enum-told
     enum-known-h

@@ -36,57 +36,40 @@ returns-4 : tie.Need-returns-4
 unfolding lentOf
 returns-4 c = step-refused _ _ _ _ (search read-6) refl
 
-slice-aggregate-target-index : tie.Need-slice-aggregate-target-index
-slice-aggregate-target-index c = search needs
-
 target-index-requires : tie.Need-target-index-requires
 target-index-requires c κs =
     let w = c .before .before .before .before .before .walk-chain in
     let good = sym (c .before .before .before .before .before .before .before .before .before .before .is-bad .ensures) ∙ c .before .before .before .before .before .before .before .before .before .if1 .left in
-    let ok = not-false (w .result .sound) (c .before .if4 .left) in
+    let ok = not-false (w .result .sound) (c .before .before .before .if4 .left) in
     (card-some _ _ (w .ensures) good ok, card-long _ _ (w .ensures) good ok, λ j h. card-inside _ _ (w .ensures) good ok j h)
 
 returns-5 : tie.Need-returns-5
 unfolding lentOf
 returns-5 c =
-    step-refused _ _ _ _ (read-7 _ _ _ _ _ _ (c .before .before .before .before .before .before .before .before .before .before .before .before .is-bad .ensures) (c .before .before .before .before .before .before .before .before .before .before .before .if1 .left) _ (c .before .before .before .before .before .before .before .before .before .before .is-unnamed .ensures) (c .before .before .before .before .before .before .before .before .before .if2 .left) (c .before .before .before .before .before .before .before .before .if3 .left) _ (c .before .before .before .before .before .before .before .walk-chain .ensures) (c .before .before .before .if4 .left) _ (c .before .target-index .ensures) (c .if5 .taken)) refl
+    step-refused _ _ _ _ (read-7 _ _ _ _ _ _ (c .before .before .before .before .before .before .before .before .before .before .before .before .is-bad .ensures) (c .before .before .before .before .before .before .before .before .before .before .before .if1 .left) _ (c .before .before .before .before .before .before .before .before .before .before .is-unnamed .ensures) (c .before .before .before .before .before .before .before .before .before .if2 .left) (c .before .before .before .before .before .before .before .before .if3 .left) _ (c .before .before .before .before .before .before .before .walk-chain .ensures) (c .before .before .before .before .before .if4 .left) _ (c .before .target-index .ensures) (c .if5 .taken)) refl
 
 returns-6 : tie.Need-returns-6
 unfolding lentOf
 returns-6 c =
-    step-refused _ _ _ _ (read-8 _ _ _ _ _ _ (c .before .before .before .before .before .before .before .before .before .before .before .before .before .before .before .is-bad .ensures) (c .before .before .before .before .before .before .before .before .before .before .before .before .before .before .if1 .left) _ (c .before .before .before .before .before .before .before .before .before .before .before .before .before .is-unnamed .ensures) (c .before .before .before .before .before .before .before .before .before .before .before .before .if2 .left) (c .before .before .before .before .before .before .before .before .before .before .before .if3 .left) _ (c .before .before .before .before .before .before .before .before .before .before .walk-chain .ensures) (c .before .before .before .before .before .before .if4 .left) _ (c .before .before .before .before .target-index .ensures) (c .before .before .before .if5 .left) (c .if6 .taken)) refl
-
-slice-aggregate-descriptor-of : tie.Need-slice-aggregate-descriptor-of
-slice-aggregate-descriptor-of c =
-    let w = c .before .before .before .before .before .before .before .before .before .before .before .walk-chain in
-    let good = sym (c .before .before .before .before .before .before .before .before .before .before .before .before .before .before .before .before .is-bad .ensures) ∙ c .before .before .before .before .before .before .before .before .before .before .before .before .before .before .before .if1 .left in
-    let ok = not-false (w .result .sound) (c .before .before .before .before .before .before .before .if4 .left) in
-    sym (card-starts _ _ (w .ensures) good ok)
+    step-refused _ _ _ _ (read-8 _ _ _ _ _ _ (c .before .before .before .before .before .before .before .before .before .before .before .before .before .before .before .is-bad .ensures) (c .before .before .before .before .before .before .before .before .before .before .before .before .before .before .if1 .left) _ (c .before .before .before .before .before .before .before .before .before .before .before .before .before .is-unnamed .ensures) (c .before .before .before .before .before .before .before .before .before .before .before .before .if2 .left) (c .before .before .before .before .before .before .before .before .before .before .before .if3 .left) _ (c .before .before .before .before .before .before .before .before .before .before .walk-chain .ensures) (c .before .before .before .before .before .before .before .before .if4 .left) _ (c .before .before .before .before .target-index .ensures) (c .before .before .before .if5 .left) (c .if6 .taken)) refl
 
 descriptor-of-requires : tie.Need-descriptor-of-requires
 descriptor-of-requires c κs =
-    let w = c .before .before .before .before .before .before .before .before .before .before .before .walk-chain in
-    let good = sym (c .before .before .before .before .before .before .before .before .before .before .before .before .before .before .before .before .is-bad .ensures) ∙ c .before .before .before .before .before .before .before .before .before .before .before .before .before .before .before .if1 .left in
-    let ok = not-false (w .result .sound) (c .before .before .before .before .before .before .before .if4 .left) in
-    (card-whole _ _ (w .ensures) good ok, index-inside _ _ _ 0 (c .before .before .before .before .before .before .before .before .before .before .before .before .before .before .before .before .before .before .before .args .out .now) _ (c .before .before .before .before .before .before .before .before .before .before .before .before .before .before .before .before .is-bad .ensures) (c .before .before .before .before .before .before .before .before .before .before .before .before .before .before .before .if1 .left) _ (c .before .before .before .before .before .before .before .before .before .before .before .before .before .before .is-unnamed .ensures) (c .before .before .before .before .before .before .before .before .before .before .before .before .before .if2 .left) (c .before .before .before .before .before .before .before .before .before .before .before .before .if3 .left) _ (w .ensures) (c .before .before .before .before .before .before .before .if4 .left) _ (c .before .before .before .before .before .target-index .ensures) (c .before .before .before .before .if5 .left))
-
-slice-aggregate-deliver : tie.Need-slice-aggregate-deliver
-slice-aggregate-deliver c =
     let w = c .before .before .before .before .before .before .before .before .before .before .before .before .before .walk-chain in
     let good = sym (c .before .before .before .before .before .before .before .before .before .before .before .before .before .before .before .before .before .before .is-bad .ensures) ∙ c .before .before .before .before .before .before .before .before .before .before .before .before .before .before .before .before .before .if1 .left in
-    let ok = not-false (w .result .sound) (c .before .before .before .before .before .before .before .before .before .if4 .left) in
-    sym (card-starts _ _ (w .ensures) good ok)
+    let ok = not-false (w .result .sound) (c .before .before .before .before .before .before .before .before .before .before .before .if4 .left) in
+    (card-whole _ _ (w .ensures) good ok, index-inside _ _ _ 0 (c .before .before .before .before .before .before .before .before .before .before .before .before .before .before .before .before .before .before .before .before .before .args .out .now) _ (c .before .before .before .before .before .before .before .before .before .before .before .before .before .before .before .before .before .before .is-bad .ensures) (c .before .before .before .before .before .before .before .before .before .before .before .before .before .before .before .before .before .if1 .left) _ (c .before .before .before .before .before .before .before .before .before .before .before .before .before .before .before .before .is-unnamed .ensures) (c .before .before .before .before .before .before .before .before .before .before .before .before .before .before .before .if2 .left) (c .before .before .before .before .before .before .before .before .before .before .before .before .before .before .if3 .left) _ (w .ensures) (c .before .before .before .before .before .before .before .before .before .before .before .if4 .left) _ (c .before .before .before .before .before .before .before .target-index .ensures) (c .before .before .before .before .before .before .if5 .left))
 
 deliver-requires : tie.Need-deliver-requires
 deliver-requires c κs =
-    let w = c .before .before .before .before .before .before .before .before .before .before .before .before .before .before .walk-chain in
-    let good = sym (c .before .before .before .before .before .before .before .before .before .before .before .before .before .before .before .before .before .before .before .is-bad .ensures) ∙ c .before .before .before .before .before .before .before .before .before .before .before .before .before .before .before .before .before .before .if1 .left in
-    let ok = not-false (w .result .sound) (c .before .before .before .before .before .before .before .before .before .before .if4 .left) in
-    let d = c .before .before .descriptor-of .ensures in
-    let k = index-inside _ _ _ 0 (c .before .before .before .before .before .before .before .before .before .before .before .before .before .before .before .before .before .before .before .before .before .before .args .out .now) _ (c .before .before .before .before .before .before .before .before .before .before .before .before .before .before .before .before .before .before .before .is-bad .ensures) (c .before .before .before .before .before .before .before .before .before .before .before .before .before .before .before .before .before .before .if1 .left) _ (c .before .before .before .before .before .before .before .before .before .before .before .before .before .before .before .before .before .is-unnamed .ensures) (c .before .before .before .before .before .before .before .before .before .before .before .before .before .before .before .before .if2 .left) (c .before .before .before .before .before .before .before .before .before .before .before .before .before .before .before .if3 .left) _ (w .ensures) (c .before .before .before .before .before .before .before .before .before .before .if4 .left) _ (c .before .before .before .before .before .before .before .before .target-index .ensures) (c .before .before .before .before .before .before .before .if5 .left) in (
+    let w = c .before .before .before .before .before .before .before .before .before .before .before .before .before .before .before .before .before .before .walk-chain in
+    let good = sym (c .before .before .before .before .before .before .before .before .before .before .before .before .before .before .before .before .before .before .before .before .before .before .before .is-bad .ensures) ∙ c .before .before .before .before .before .before .before .before .before .before .before .before .before .before .before .before .before .before .before .before .before .before .if1 .left in
+    let ok = not-false (w .result .sound) (c .before .before .before .before .before .before .before .before .before .before .before .before .before .before .before .before .if4 .left) in
+    let d = c .before .before .before .before .descriptor-of .ensures in
+    let k = index-inside _ _ _ 0 (c .before .before .before .before .before .before .before .before .before .before .before .before .before .before .before .before .before .before .before .before .before .before .before .before .before .before .args .out .now) _ (c .before .before .before .before .before .before .before .before .before .before .before .before .before .before .before .before .before .before .before .before .before .before .before .is-bad .ensures) (c .before .before .before .before .before .before .before .before .before .before .before .before .before .before .before .before .before .before .before .before .before .before .if1 .left) _ (c .before .before .before .before .before .before .before .before .before .before .before .before .before .before .before .before .before .before .before .before .before .is-unnamed .ensures) (c .before .before .before .before .before .before .before .before .before .before .before .before .before .before .before .before .before .before .before .before .if2 .left) (c .before .before .before .before .before .before .before .before .before .before .before .before .before .before .before .before .before .before .before .if3 .left) _ (w .ensures) (c .before .before .before .before .before .before .before .before .before .before .before .before .before .before .before .before .if4 .left) _ (c .before .before .before .before .before .before .before .before .before .before .before .before .target-index .ensures) (c .before .before .before .before .before .before .before .before .before .before .before .if5 .left) in (
       card-through _ _ (w .ensures) good ok _ k _ d,
-      read-below _ _ _ _ (c .before .before .before .before .before .before .before .before .before .before .before .before .before .before .before .before .before .before .before .before .before .before .args .out .now) _ (c .before .before .before .before .before .before .before .before .before .before .before .before .before .before .before .before .before .before .before .is-bad .ensures) (c .before .before .before .before .before .before .before .before .before .before .before .before .before .before .before .before .before .before .if1 .left) _ (c .before .before .before .before .before .before .before .before .before .before .before .before .before .before .before .before .before .is-unnamed .ensures) (c .before .before .before .before .before .before .before .before .before .before .before .before .before .before .before .before .if2 .left) (c .before .before .before .before .before .before .before .before .before .before .before .before .before .before .before .if3 .left) _ (w .ensures) (c .before .before .before .before .before .before .before .before .before .before .if4 .left) _ (c .before .before .before .before .before .before .before .before .target-index .ensures) (c .before .before .before .before .before .before .before .if5 .left) (c .before .before .before .before .if6 .left) _ d,
-      c .before .before .before .before .before .before .before .before .before .before .before .before .before .before .before .if3 .left,
+      read-below _ _ _ _ (c .before .before .before .before .before .before .before .before .before .before .before .before .before .before .before .before .before .before .before .before .before .before .before .before .before .before .args .out .now) _ (c .before .before .before .before .before .before .before .before .before .before .before .before .before .before .before .before .before .before .before .before .before .before .before .is-bad .ensures) (c .before .before .before .before .before .before .before .before .before .before .before .before .before .before .before .before .before .before .before .before .before .before .if1 .left) _ (c .before .before .before .before .before .before .before .before .before .before .before .before .before .before .before .before .before .before .before .before .before .is-unnamed .ensures) (c .before .before .before .before .before .before .before .before .before .before .before .before .before .before .before .before .before .before .before .before .if2 .left) (c .before .before .before .before .before .before .before .before .before .before .before .before .before .before .before .before .before .before .before .if3 .left) _ (w .ensures) (c .before .before .before .before .before .before .before .before .before .before .before .before .before .before .before .before .if4 .left) _ (c .before .before .before .before .before .before .before .before .before .before .before .before .target-index .ensures) (c .before .before .before .before .before .before .before .before .before .before .before .if5 .left) (c .before .before .before .before .before .before .before .before .if6 .left) _ d,
+      c .before .before .before .before .before .before .before .before .before .before .before .before .before .before .before .before .before .before .before .if3 .left,
     )
 
 same-length : tie.Need-same-length
@@ -94,7 +77,7 @@ same-length c = search needs
 
 returns-7 : tie.Need-returns-7
 returns-7 c =
-    read-done _ _ _ _ _ _ (c .before .before .before .before .before .before .before .before .before .before .before .before .before .before .before .before .before .before .before .before .before .before .is-bad .ensures) (c .before .before .before .before .before .before .before .before .before .before .before .before .before .before .before .before .before .before .before .before .before .if1 .left) _ (c .before .before .before .before .before .before .before .before .before .before .before .before .before .before .before .before .before .before .before .before .is-unnamed .ensures) (c .before .before .before .before .before .before .before .before .before .before .before .before .before .before .before .before .before .before .before .if2 .left) (c .before .before .before .before .before .before .before .before .before .before .before .before .before .before .before .before .before .before .if3 .left) _ (c .before .before .before .before .before .before .before .before .before .before .before .before .before .before .before .before .before .walk-chain .ensures) (c .before .before .before .before .before .before .before .before .before .before .before .before .before .if4 .left) _ (c .before .before .before .before .before .before .before .before .before .before .before .target-index .ensures) (c .before .before .before .before .before .before .before .before .before .before .if5 .left) (c .before .before .before .before .before .before .before .if6 .left) _ (c .before .before .before .before .before .descriptor-of .ensures) _ _ (c .before .before .deliver .ensures)
+    read-done _ _ _ _ _ _ (c .before .before .before .before .before .before .before .before .before .before .before .before .before .before .before .before .before .before .before .before .before .before .before .before .before .before .is-bad .ensures) (c .before .before .before .before .before .before .before .before .before .before .before .before .before .before .before .before .before .before .before .before .before .before .before .before .before .if1 .left) _ (c .before .before .before .before .before .before .before .before .before .before .before .before .before .before .before .before .before .before .before .before .before .before .before .before .is-unnamed .ensures) (c .before .before .before .before .before .before .before .before .before .before .before .before .before .before .before .before .before .before .before .before .before .before .before .if2 .left) (c .before .before .before .before .before .before .before .before .before .before .before .before .before .before .before .before .before .before .before .before .before .before .if3 .left) _ (c .before .before .before .before .before .before .before .before .before .before .before .before .before .before .before .before .before .before .before .before .before .walk-chain .ensures) (c .before .before .before .before .before .before .before .before .before .before .before .before .before .before .before .before .before .before .before .if4 .left) _ (c .before .before .before .before .before .before .before .before .before .before .before .before .before .before .before .target-index .ensures) (c .before .before .before .before .before .before .before .before .before .before .before .before .before .before .if5 .left) (c .before .before .before .before .before .before .before .before .before .before .before .if6 .left) _ (c .before .before .before .before .before .before .before .descriptor-of .ensures) _ _ (c .before .before .deliver .ensures)
 
 pub read-spec : {M : Type 1} → statement M
 read-spec =
@@ -107,13 +90,10 @@ read-spec =
     returns-3
     walk-chain-requires
     returns-4
-    slice-aggregate-target-index
     target-index-requires
     returns-5
     returns-6
-    slice-aggregate-descriptor-of
     descriptor-of-requires
-    slice-aggregate-deliver
     deliver-requires
     same-length
     returns-7)

@@ -45,19 +45,16 @@ returns-3 c = step-refused _ _ _ _ (search named-6) refl
 
 sub-last : tie.Need-sub-last
 sub-last c =
-    let w = c .before .before .before .before .walk-chain in
-    let good = sym (c .before .before .before .before .before .before .before .before .before .is-bad .ensures) ∙ c .before .before .before .before .before .before .before .before .if1 .left in
+    let w = c .before .before .walk-chain in
+    let good = sym (c .before .before .before .before .before .before .before .is-bad .ensures) ∙ c .before .before .before .before .before .before .if1 .left in
     let ok = not-false (w .result .sound) (c .if3 .left) in
     omega (arith, card-some _ _ (w .ensures) good ok)
-
-slice-aggregate-index-of : tie.Need-slice-aggregate-index-of
-slice-aggregate-index-of c = search needs
 
 index-of-requires : tie.Need-index-of-requires
 index-of-requires c κs =
     let w = c .before .before .before .before .before .before .walk-chain in
     let good = sym (c .before .before .before .before .before .before .before .before .before .before .before .is-bad .ensures) ∙ c .before .before .before .before .before .before .before .before .before .before .if1 .left in
-    let ok = not-false (w .result .sound) (c .before .before .if3 .left) in
+    let ok = not-false (w .result .sound) (c .before .before .before .before .if3 .left) in
     (omega (arith, card-long _ _ (w .ensures) good ok), λ j h. card-inside _ _ (w .ensures) good ok j (omega arith))
 
 same-length-4 : tie.Need-same-length-4
@@ -65,43 +62,36 @@ same-length-4 c = search needs
 
 returns-4 : tie.Need-returns-4
 unfolding lentOf
-returns-4 c = step-refused _ _ _ _ (revert-7 _ _ _ (c .before .before .before .before .before .before .before .before .before .before .before .before .before .is-bad .ensures) (c .before .before .before .before .before .before .before .before .before .before .before .before .if1 .left) _ (c .before .before .before .before .before .before .before .before .before .before .before .is-name .ensures) (c .before .before .before .before .before .before .before .before .before .before .if2 .left) _ (c .before .before .before .before .before .before .before .before .walk-chain .ensures) (c .before .before .before .before .if3 .left) _ (c .before .index-of .ensures .0) (c .if4 .taken)) refl
+returns-4 c = step-refused _ _ _ _ (revert-7 _ _ _ (c .before .before .before .before .before .before .before .before .before .before .before .before .before .is-bad .ensures) (c .before .before .before .before .before .before .before .before .before .before .before .before .if1 .left) _ (c .before .before .before .before .before .before .before .before .before .before .before .is-name .ensures) (c .before .before .before .before .before .before .before .before .before .before .if2 .left) _ (c .before .before .before .before .before .before .before .before .walk-chain .ensures) (c .before .before .before .before .before .before .if3 .left) _ (c .before .index-of .ensures .0) (c .if4 .taken)) refl
 
 mul-p : tie.Need-mul-p
 mul-p c =
     let w = c .before .before .before .before .before .before .before .before .walk-chain in
     let good = sym (c .before .before .before .before .before .before .before .before .before .before .before .before .before .is-bad .ensures) ∙ c .before .before .before .before .before .before .before .before .before .before .before .before .if1 .left in
-    let ok = not-false (w .result .sound) (c .before .before .before .before .if3 .left) in
+    let ok = not-false (w .result .sound) (c .before .before .before .before .before .before .if3 .left) in
     omega (arith, card-few _ _ (w .ensures) good ok, card-some _ _ (w .ensures) good ok, c .before .index-of .ensures .1)
 
-array-read-p : tie.Need-array-read-p
-array-read-p c =
+element-copy-out-p : tie.Need-element-copy-out-p
+element-copy-out-p c =
     let w = c .before .before .before .before .before .before .before .before .walk-chain in
     let good = sym (c .before .before .before .before .before .before .before .before .before .before .before .before .before .is-bad .ensures) ∙ c .before .before .before .before .before .before .before .before .before .before .before .before .if1 .left in
-    let ok = not-false (w .result .sound) (c .before .before .before .before .if3 .left) in
-    omega (arith, card-few _ _ (w .ensures) good ok, card-some _ _ (w .ensures) good ok, c .before .index-of .ensures .1)
-
-slice-aggregate-descriptor-of : tie.Need-slice-aggregate-descriptor-of
-slice-aggregate-descriptor-of c =
-    let w = c .before .before .before .before .before .before .before .before .before .before .walk-chain in
-    let good = sym (c .before .before .before .before .before .before .before .before .before .before .before .before .before .before .before .is-bad .ensures) ∙ c .before .before .before .before .before .before .before .before .before .before .before .before .before .before .if1 .left in
     let ok = not-false (w .result .sound) (c .before .before .before .before .before .before .if3 .left) in
-    sym (card-starts _ _ (w .ensures) good ok)
+    omega (arith, card-few _ _ (w .ensures) good ok, card-some _ _ (w .ensures) good ok, c .before .index-of .ensures .1)
 
 descriptor-of-requires : tie.Need-descriptor-of-requires
 descriptor-of-requires c κs =
-    let w = c .before .before .before .before .before .before .before .before .before .before .walk-chain in
-    let good = sym (c .before .before .before .before .before .before .before .before .before .before .before .before .before .before .before .is-bad .ensures) ∙ c .before .before .before .before .before .before .before .before .before .before .before .before .before .before .if1 .left in
-    let ok = not-false (w .result .sound) (c .before .before .before .before .before .before .if3 .left) in
-    (card-whole _ _ (w .ensures) good ok, omega (arith, card-some _ _ (w .ensures) good ok, c .before .before .before .index-of .ensures .1))
+    let w = c .before .before .before .before .before .before .before .before .before .before .before .before .before .walk-chain in
+    let good = sym (c .before .before .before .before .before .before .before .before .before .before .before .before .before .before .before .before .before .before .is-bad .ensures) ∙ c .before .before .before .before .before .before .before .before .before .before .before .before .before .before .before .before .before .if1 .left in
+    let ok = not-false (w .result .sound) (c .before .before .before .before .before .before .before .before .before .before .before .if3 .left) in
+    (card-whole _ _ (w .ensures) good ok, omega (arith, card-some _ _ (w .ensures) good ok, c .before .before .before .before .before .before .index-of .ensures .1))
 
 make-active-requires : tie.Need-make-active-requires
 make-active-requires c κs =
-    let w = c .before .before .before .before .before .before .before .before .before .before .before .before .before .walk-chain in
-    let good = sym (c .before .before .before .before .before .before .before .before .before .before .before .before .before .before .before .before .before .before .is-bad .ensures) ∙ c .before .before .before .before .before .before .before .before .before .before .before .before .before .before .before .before .before .if1 .left in
-    let ok = not-false (w .result .sound) (c .before .before .before .before .before .before .before .before .before .if3 .left) in
+    let w = c .before .before .before .before .before .before .before .before .before .before .before .before .before .before .before .before .walk-chain in
+    let good = sym (c .before .before .before .before .before .before .before .before .before .before .before .before .before .before .before .before .before .before .before .before .before .is-bad .ensures) ∙ c .before .before .before .before .before .before .before .before .before .before .before .before .before .before .before .before .before .before .before .before .if1 .left in
+    let ok = not-false (w .result .sound) (c .before .before .before .before .before .before .before .before .before .before .before .before .before .before .if3 .left) in
     let some = card-some _ _ (w .ensures) good ok in
-    card-inside _ _ (w .ensures) good ok _ (omega (arith, c .before .before .before .before .before .before .index-of .ensures .1))
+    card-inside _ _ (w .ensures) good ok _ (omega (arith, c .before .before .before .before .before .before .before .before .before .index-of .ensures .1))
 
 same-length-5 : tie.Need-same-length-5
 same-length-5 c = search needs
@@ -109,13 +99,13 @@ same-length-5 c = search needs
 returns-5 : tie.Need-returns-5
 unfolding filledOf
 returns-5 c =
-    let i = c .before .before .before .before .before .before .before .before .before .index-of in
-    let w = c .before .before .before .before .before .before .before .before .before .before .before .before .before .before .before .before .walk-chain in
+    let i = c .before .before .before .before .before .before .before .before .before .before .before .before .index-of in
+    let w = c .before .before .before .before .before .before .before .before .before .before .before .before .before .before .before .before .before .before .before .walk-chain in
     let inside : i .result < w .result .count - 1 = omega (arith, i .ensures .1) in
     step-accepted _ _
-    (revert-0 _ _ _ (c .before .before .before .before .before .before .before .before .before .before .before .before .before .before .before .before .before .before .before .before .before .is-bad .ensures) (c .before .before .before .before .before .before .before .before .before .before .before .before .before .before .before .before .before .before .before .before .if1 .left) _ (c .before .before .before .before .before .before .before .before .before .before .before .before .before .before .before .before .before .before .before .is-name .ensures) (c .before .before .before .before .before .before .before .before .before .before .before .before .before .before .before .before .before .before .if2 .left) _ (w .ensures) (c .before .before .before .before .before .before .before .before .before .before .before .before .if3 .left) _ (i .ensures .0) inside)
+    (revert-0 _ _ _ (c .before .before .before .before .before .before .before .before .before .before .before .before .before .before .before .before .before .before .before .before .before .before .before .before .is-bad .ensures) (c .before .before .before .before .before .before .before .before .before .before .before .before .before .before .before .before .before .before .before .before .before .before .before .if1 .left) _ (c .before .before .before .before .before .before .before .before .before .before .before .before .before .before .before .before .before .before .before .before .before .before .is-name .ensures) (c .before .before .before .before .before .before .before .before .before .before .before .before .before .before .before .before .before .before .before .before .before .if2 .left) _ (w .ensures) (c .before .before .before .before .before .before .before .before .before .before .before .before .before .before .before .before .before .if3 .left) _ (i .ensures .0) inside)
     _ refl _
-    (reverted _ _ _ (c .before .before .before .before .before .before .before .before .before .before .before .before .before .before .before .before .before .before .before .before .before .is-bad .ensures) (c .before .before .before .before .before .before .before .before .before .before .before .before .before .before .before .before .before .before .before .before .if1 .left) _ (c .before .before .before .before .before .before .before .before .before .before .before .before .before .before .before .before .before .before .before .is-name .ensures) (c .before .before .before .before .before .before .before .before .before .before .before .before .before .before .before .before .before .before .if2 .left) _ (w .ensures) (c .before .before .before .before .before .before .before .before .before .before .before .before .if3 .left) _ (i .ensures .0) inside _ (c .before .before .before .before .before .descriptor-of .ensures) _ (c .before .before .make-active .ensures))
+    (reverted _ _ _ (c .before .before .before .before .before .before .before .before .before .before .before .before .before .before .before .before .before .before .before .before .before .before .before .before .is-bad .ensures) (c .before .before .before .before .before .before .before .before .before .before .before .before .before .before .before .before .before .before .before .before .before .before .before .if1 .left) _ (c .before .before .before .before .before .before .before .before .before .before .before .before .before .before .before .before .before .before .before .before .before .before .is-name .ensures) (c .before .before .before .before .before .before .before .before .before .before .before .before .before .before .before .before .before .before .before .before .before .if2 .left) _ (w .ensures) (c .before .before .before .before .before .before .before .before .before .before .before .before .before .before .before .before .before .if3 .left) _ (i .ensures .0) inside _ (c .before .before .before .before .before .descriptor-of .ensures) _ (c .before .before .make-active .ensures))
 
 pub revert-spec : {M : Type 1} → statement M
 revert-spec =
@@ -131,13 +121,11 @@ revert-spec =
     same-length-3
     returns-3
     sub-last
-    slice-aggregate-index-of
     index-of-requires
     same-length-4
     returns-4
     mul-p
-    array-read-p
-    slice-aggregate-descriptor-of
+    element-copy-out-p
     descriptor-of-requires
     make-active-requires
     same-length-5

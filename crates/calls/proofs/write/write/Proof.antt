@@ -43,17 +43,10 @@ same-length-4 c = search needs
 
 returns-4 : tie.Need-returns-4
 unfolding lentOf
-returns-4 c = step-refused _ _ _ _ (write-8 _ _ _ _ (c .before .before .before .before .before .before .before .before .before .before .before .is-bad .ensures) (c .before .before .before .before .before .before .before .before .before .before .if1 .left) (c .before .before .before .before .before .before .before .before .before .if2 .left) _ (c .before .before .before .before .before .before .before .walk-chain .ensures) (c .before .before .before .before .if3 .left) (c .if4 .taken)) refl
-
-slice-aggregate-find : tie.Need-slice-aggregate-find
-slice-aggregate-find c =
-    let w = c .before .before .before .before .before .before .before .before .before .walk-chain in
-    let good = sym (c .before .before .before .before .before .before .before .before .before .before .before .before .before .is-bad .ensures) ∙ c .before .before .before .before .before .before .before .before .before .before .before .before .if1 .left in
-    let ok = not-false (w .result .sound) (c .before .before .before .before .before .before .if3 .left) in
-    sym (card-starts _ _ (w .ensures) good ok)
+returns-4 c = step-refused _ _ _ _ (write-8 _ _ _ _ (c .before .before .before .before .before .before .before .before .before .is-bad .ensures) (c .before .before .before .before .before .before .before .before .if1 .left) (c .before .before .before .before .before .before .before .if2 .left) _ (c .before .before .before .before .before .walk-chain .ensures) (c .before .before .before .before .if3 .left) (c .if4 .taken)) refl
 
 find-requires : tie.Need-find-requires
-find-requires c κs = (write-through _ 0 (c .before .before .before .before .before .before .before .before .before .before .before .before .before .before .before .before .before .args .block .now) _ (c .before .before .before .before .before .before .before .before .before .before .before .before .before .is-bad .ensures) (c .before .before .before .before .before .before .before .before .before .before .before .before .if1 .left) (c .before .before .before .before .before .before .before .before .before .before .before .if2 .left) _ (c .before .before .before .before .before .before .before .before .before .walk-chain .ensures) (c .before .before .before .before .before .before .if3 .left), c .before .before .if4 .left)
+find-requires c κs = (write-through _ 0 (c .before .before .before .before .before .before .before .before .before .before .before .before .before .before .before .before .before .args .block .now) _ (c .before .before .before .before .before .before .before .before .before .before .before .before .before .is-bad .ensures) (c .before .before .before .before .before .before .before .before .before .before .before .before .if1 .left) (c .before .before .before .before .before .before .before .before .before .before .before .if2 .left) _ (c .before .before .before .before .before .before .before .before .before .walk-chain .ensures) (c .before .before .before .before .before .before .before .before .if3 .left), c .before .before .before .before .if4 .left)
 
 enum-known-h : tie.Need-enum-known-h
 enum-known-h c = search needs
@@ -64,14 +57,14 @@ enum-known-m c = search needs
 put-requires : tie.Need-put-requires
 put-requires c κs =
     let f = c .before .before .m .given .0 in
-    write-ready _ _ _ _ (c .before .before .before .before .before .before .before .before .before .before .before .before .before .before .before .before .before .before .is-bad .ensures) (c .before .before .before .before .before .before .before .before .before .before .before .before .before .before .before .before .before .if1 .left) (c .before .before .before .before .before .before .before .before .before .before .before .before .before .before .before .before .if2 .left) _ (c .before .before .before .before .before .before .before .before .before .before .before .before .before .before .walk-chain .ensures) (c .before .before .before .before .before .before .before .before .before .before .before .if3 .left) (c .before .before .before .before .before .before .before .if4 .left) _ (c .before .before .before .before .find .ensures) (f .0) (f .1 .0) (cc)
+    write-ready _ _ _ _ (c .before .before .before .before .before .before .before .before .before .before .before .before .before .before .before .before .before .before .is-bad .ensures) (c .before .before .before .before .before .before .before .before .before .before .before .before .before .before .before .before .before .if1 .left) (c .before .before .before .before .before .before .before .before .before .before .before .before .before .before .before .before .if2 .left) _ (c .before .before .before .before .before .before .before .before .before .before .before .before .before .before .walk-chain .ensures) (c .before .before .before .before .before .before .before .before .before .before .before .before .before .if3 .left) (c .before .before .before .before .before .before .before .before .before .if4 .left) _ (c .before .before .before .before .find .ensures) (f .0) (f .1 .0) (cc)
 
 same-length-5 : tie.Need-same-length-5
 same-length-5 c = search needs
 
 returns-5 : tie.Need-returns-5
 unfolding lentOf
-returns-5 c = step-refused _ _ _ _ (write-10 _ _ _ _ (c .before .before .before .before .before .before .before .before .before .before .before .before .before .before .before .before .before .is-bad .ensures) (c .before .before .before .before .before .before .before .before .before .before .before .before .before .before .before .before .if1 .left) (c .before .before .before .before .before .before .before .before .before .before .before .before .before .before .before .if2 .left) _ (c .before .before .before .before .before .before .before .before .before .before .before .before .before .walk-chain .ensures) (c .before .before .before .before .before .before .before .before .before .before .if3 .left) (c .before .before .before .before .before .before .if4 .left) _ (c .before .before .before .find .ensures) (c .before .h .given .0 .0) (cc)) refl
+returns-5 c = step-refused _ _ _ _ (write-10 _ _ _ _ (c .before .before .before .before .before .before .before .before .before .before .before .before .before .before .before .before .before .is-bad .ensures) (c .before .before .before .before .before .before .before .before .before .before .before .before .before .before .before .before .if1 .left) (c .before .before .before .before .before .before .before .before .before .before .before .before .before .before .before .if2 .left) _ (c .before .before .before .before .before .before .before .before .before .before .before .before .before .walk-chain .ensures) (c .before .before .before .before .before .before .before .before .before .before .before .before .if3 .left) (c .before .before .before .before .before .before .before .before .if4 .left) _ (c .before .before .before .find .ensures) (c .before .h .given .0 .0) (cc)) refl
 
 same-length-6 : tie.Need-same-length-6
 same-length-6 c = search needs
@@ -79,7 +72,7 @@ same-length-6 c = search needs
 returns-6 : tie.Need-returns-6
 returns-6 c =
     let f = c .before .before .before .before .before .m .given .0 in
-    write-done _ _ _ _ (c .before .before .before .before .before .before .before .before .before .before .before .before .before .before .before .before .before .before .before .before .before .is-bad .ensures) (c .before .before .before .before .before .before .before .before .before .before .before .before .before .before .before .before .before .before .before .before .if1 .left) (c .before .before .before .before .before .before .before .before .before .before .before .before .before .before .before .before .before .before .before .if2 .left) _ (c .before .before .before .before .before .before .before .before .before .before .before .before .before .before .before .before .before .walk-chain .ensures) (c .before .before .before .before .before .before .before .before .before .before .before .before .before .before .if3 .left) (c .before .before .before .before .before .before .before .before .before .before .if4 .left) _ (c .before .before .before .before .before .before .before .find .ensures) (f .0) (f .1 .0) (cc) _ _ (c .before .before .put .ensures)
+    write-done _ _ _ _ (c .before .before .before .before .before .before .before .before .before .before .before .before .before .before .before .before .before .before .before .before .before .is-bad .ensures) (c .before .before .before .before .before .before .before .before .before .before .before .before .before .before .before .before .before .before .before .before .if1 .left) (c .before .before .before .before .before .before .before .before .before .before .before .before .before .before .before .before .before .before .before .if2 .left) _ (c .before .before .before .before .before .before .before .before .before .before .before .before .before .before .before .before .before .walk-chain .ensures) (c .before .before .before .before .before .before .before .before .before .before .before .before .before .before .before .before .if3 .left) (c .before .before .before .before .before .before .before .before .before .before .before .before .if4 .left) _ (c .before .before .before .before .before .before .before .find .ensures) (f .0) (f .1 .0) (cc) _ _ (c .before .before .put .ensures)
 
 pub write-spec : {M : Type 1} → statement M
 write-spec =
@@ -95,7 +88,6 @@ write-spec =
     returns-3
     same-length-4
     returns-4
-    slice-aggregate-find
     find-requires
     enum-known-h
     enum-known-m
