@@ -47,6 +47,7 @@ static __attribute__((noinline)) void make(void)
 	case 18: number = mantreuy_check(card, 1023, &place); break;
 	case 19: number = mantreuy_check(card, 1024, &place); break;
 	case 20: number = mantreuy_check(card, n, &place); break;
+	case 21: number = mantreuy_check(card, 512 * 2048, &place); break;
 	default: break;
 	}
 }
@@ -67,6 +68,7 @@ static const struct {
 	{"ream, refused with 2", 2}, {"read, refused with 7", 7}, {"read, refused with 10", 10}, {"write, refused with 8", 8},
 	{"snap, refused with 12", 12}, {"revert, refused with 7", 7}, {"list, refused with 14", 14},
 	{"check, refused with 1", 1}, {"check, refused with 6", 6}, {"check, refused with 10", 10},
+	{"check, 2,048 blocks", 0},
 };
 
 static void prepare(uint32_t layout)

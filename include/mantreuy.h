@@ -7,7 +7,8 @@
  * write a block, take a snapshot, go back to one, list them, and check the card.
  * Each call but a format walks the chain of snapshots anew. N is not kept on the
  * card: it is what the length says that is given with the call. A longer area
- * has more free blocks; one that ends before the last beta is refused with 6.
+ * has more free blocks; on one that ends before the last beta every call but a
+ * format is refused, with 6 at the latest.
  * Link libmantreuy.a, which is built for Linux on x86-64; it needs at most
  * memcpy, memmove and memset.
  *
@@ -36,11 +37,11 @@
  *     zero, 64 to 511 Phi in layout 2, and zero in layout 1. Entry i of Phi
  *     stands at byte 64 + 4 * i, entry i of a table block at byte 4 * i. So the
  *     layout and L of a card stand in its block 0.
- *   - A descriptor is sound if its bytes 0 to 3 and the zero bytes are such,
- *     layout, L and name are ones that a format takes; its layout and L are
- *     those of block 0; alpha is its own block; alpha + c <= beta <= N; next is
- *     0, or equals beta with beta < N; no earlier descriptor has its name; and
- *     it is among the first 256.
+ *   - A descriptor is sound if bytes 0 to 3 are `snap` and the zero bytes are
+ *     zero; layout, L and name are ones that a format takes; its layout and L
+ *     are those of block 0; alpha is its own block; alpha + c <= beta <= N; next
+ *     is 0, or equals beta with beta < N; no earlier descriptor has its name;
+ *     and it is among the first 256.
  *   - An entry is in place if it is nil, or below beta of the descriptor
  *     through which it is found and neither a descriptor of the chain nor a
  *     layout 1 table block.
@@ -64,9 +65,9 @@
  *     mantreuy_revert runs, no other call may use that card. Nobody else may
  *     change a buffer while a call uses it, nor read one that the call may
  *     change.
- *   - A check uses at most 72 KB of stack on any card, any other call at most
- *     5 KB (measured on x86-64, in accepted and refused calls: 68,936 and 3,528
- *     bytes).
+ *   - A check uses at most 72 KB of stack, any other call at most 5 KB (measured
+ *     on x86-64, on small and large cards, in accepted and refused calls: 68,936
+ *     and 3,528 bytes).
  *
  * SIZES
  *
@@ -193,8 +194,8 @@ uint32_t mantreuy_read(const uint8_t *card, size_t card_length, uint32_t snapsho
 
 /*
  * Writes `bytes`, which must be 512 bytes long, as logical block `block` of the
- * active volume. No snapshot changes. On a card that passes check it takes 0, 1
- * or 2 new blocks: none where the content that it replaces was written since
+ * active volume. No snapshot changes. On a card that these calls have made it
+ * takes 0, 1 or 2 new blocks: none where the content that it replaces was written since
  * the newest snapshot, or since the format where there is none; in layout 2 two
  * where it is the first write to its group of 128 logical blocks since then;
  * otherwise one. Writes that a revert has taken back do not count. Zeros are

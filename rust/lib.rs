@@ -15,8 +15,8 @@
 //! that apply the first is given, in this order: [`Kind::BadArea`]; but for `ream`, [`Kind::UnsoundChain`]; then those
 //! that stand under "Errors" of the call, as they stand there.
 //!
-//! A check uses at most 72 KB of stack, any other call at most 6 KB (measured on x86-64, also without optimisation of the
-//! caller). Only [`Card::list`] allocates, for its records.
+//! A check uses at most 72 KB of stack, any other call at most 5 KB, and a caller that is not optimised its own frames
+//! besides. Only [`Card::list`] allocates, for its records.
 //!
 //! ```
 //! use mantreuy::{Card, Kind, Name, Target, BLOCK_SIZE};

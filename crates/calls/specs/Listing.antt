@@ -29,10 +29,11 @@ fillingOf c records =
 unfoldable pub fillingBy : Bool → ℕ → ℕ → ℕ → Filling
 fillingBy sound place count room = pick sound (pick (ltb room count) (fillingWith 14 0 0) (fillingWith 0 0 count)) (fillingWith 6 place 0)
 
--- and where the regions start, by the walk; zeros where the area is no card
+-- the starts of no region
 abbrev pub noStarts : List ℕ
 noStarts = replicate (mostDescriptors + 1) 0
 
+-- these, and where the regions start, by the walk, which gives zeros where the chain is unsound; zeros where the area is no card
 unfoldable pub planOf : List ℕ → List Record → Plan
 planOf c records =
     let f = fillingOf c records in

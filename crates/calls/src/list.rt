@@ -19,7 +19,7 @@ pub struct Filling {
     pub count: usize,
 }
 
-// The same, and where the regions start: zeros where the area is no card.
+// The same, and where the regions start: zeros where the area is no card or the chain is unsound.
 pub struct Plan {
     pub answer: Answer,
     pub count: usize,
@@ -50,7 +50,7 @@ pub fn plan_filling(sound: bool, place: Physical, count: usize, room: usize) -> 
 }
 
 // All tests of a listing into `room` records.
-pub fn make_plan(card: &[u8], room: usize) -> Plan
+fn make_plan(card: &[u8], room: usize) -> Plan
     ensures { λ r. ⌜ ((records : List Record) → length records ≡ room → r ≡ planOf (now (card .entry)) records) ⌝ }
 {
     if area::is_bad(card) {

@@ -64,7 +64,7 @@ takingAll d turn seen (e ∷ es) =
     let rest = takingAll d turn (taking seen turn (limitOf d e) (e .counted) (e .value)) es in
     pick (takes seen turn (limitOf d e) (e .counted) (e .value)) rest (record { verdict = Fault (physical (e .holder)); flags = seen })
 
--- what the walk over a table needs: the block is on the card, and there is a flag for each block below beta
+-- what the walk over a table needs: the block is on the card, there is a flag for each block below beta, alpha is not above beta, and the group is one of 112
 pub record TableReady (c : List ℕ) (d : Descriptor) (i m : ℕ) (seen : List ℕ) : Type 0 where
   pub on-card : 512 * m + 512 ≤ length c
   pub flags : d .beta .0 ≤ length seen
