@@ -11,7 +11,7 @@ use Rattle.blocks.specs.Pick.{same, allZero}
 use Rattle.blocks.specs.Bytes.{part}
 use Rattle.blocks.specs.Name.{isName}
 use Rattle.blocks.specs.Descriptor.{mark, descriptorAt, reservedOk, phiOk}
-use Rattle.blocks.specs.Chain.{formOk, sound}
+use Rattle.blocks.specs.Chain.{formOk}
 use Rattle.blocks.specs.declared.descriptor.Descriptor.{Descriptor}
 use Rattle.blocks.proofs.Tests.{and-left, and-right}
 use Rattle.blocks.proofs.ListLaws.{same-equal}

@@ -1,7 +1,7 @@
 -- Names: sixteen bytes, 1 to 16 of `a-z`, `0-9`, `.`, `-`, then zero bytes; and how a text becomes such sixteen bytes.
 use mathlib.Core.Bool.{Bool, _&&_, _||_}
 use mathlib.Core.List.{List, [], _∷_, _++_}
-use Prim.Native.Nat.{ℕ, zero, suc, _+_, _-_, _%_}
+use Prim.Native.Nat.{ℕ, suc, _+_, _-_, _%_}
 use lib.ListN.{length, drop, replicate}
 use lib.Dec.{eqb, ltb, leb}
 use Rattle.blocks.specs.Pick.{pick, allZero}

@@ -95,11 +95,8 @@ module _ (c : List ℕ) (r : Regions) (is : r ≡ regionsOf (chain c)) where
     pub card-few : r .count ≤ 256
     card-few = omega (arith, chain-few c ds (regions-are .0), card-count)
 
-    pub card-starts-of : r .starts ≡ startsOf ds
-    card-starts-of = regions-are .2
-
     pub card-starts : length (r .starts) ≡ 257
-    card-starts = ap length card-starts-of ∙ starts-full ds (omega (arith, card-few, card-count))
+    card-starts = ap length (regions-are .2) ∙ starts-full ds (omega (arith, card-few, card-count))
 
     pub card-some : 0 < r .count
     card-some = omega (arith, linked-some linked, card-count)

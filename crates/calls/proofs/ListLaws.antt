@@ -64,18 +64,18 @@ module _ (c : List ℕ) (records : List Record) (bad : Bool) (area : bad ≡ are
 
 -- the same by the tests of the code
 module _ (sound : Bool) (place count room : ℕ) where
-  pub by-6 : not sound ≡ true → fillingWith 6 place 0 ≡ fillingBy sound place count room
+  pub found-6 : not sound ≡ true → fillingWith 6 place 0 ≡ fillingBy sound place count room
   unfolding fillingBy
-  by-6 h = rw (not-true sound h)
+  found-6 h = rw (not-true sound h)
 
   module _ (whole : not sound ≡ false) where
-    pub by-14 : room < count → fillingWith 14 0 0 ≡ fillingBy sound place count room
+    pub found-14 : room < count → fillingWith 14 0 0 ≡ fillingBy sound place count room
     unfolding fillingBy
-    by-14 h = rw (not-false sound whole, lt-ltb room count h)
+    found-14 h = rw (not-false sound whole, lt-ltb room count h)
 
-    pub by-0 : count ≤ room → fillingWith 0 0 count ≡ fillingBy sound place count room
+    pub found-0 : count ≤ room → fillingWith 0 0 count ≡ fillingBy sound place count room
     unfolding fillingBy
-    by-0 h = rw (not-false sound whole, le-ltb room count h)
+    found-0 h = rw (not-false sound whole, le-ltb room count h)
 
 -- the plan of a listing: where the area is no card, and with what the walk found
 pub plan-1 : (c : List ℕ) (records : List Record) (bad : Bool) → bad ≡ areaBad c → bad ≡ true → record { answer = answer 1 0; count = 0; starts = noStarts } ≡ planOf c records

@@ -7,7 +7,6 @@ use blocks::descriptor;
 use blocks::descriptor::Descriptor;
 use blocks::numbers::Physical;
 ghost use mathlib.Core.Path.{_≡_};
-ghost use mathlib.Core.Bool.{true, false};
 ghost use Prim.Native.Nat.{ℕ, _+_, _*_, _-_, _≤_, _<_};
 ghost use lib.ListN.{length, getD, replicate};
 ghost use lib.Dec.{ltb};

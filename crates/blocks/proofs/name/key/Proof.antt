@@ -1,5 +1,4 @@
 -- `key` meets its contract by computation: what is left of a division by 1024 is below it.
-use mathlib.Core.Path.{_≡_}
 use native.Mathlib.Omega.{arith}
 use borrow.Author.Needs.{needs}
 use Rattle.blocks.specs.Name.{keyOf}

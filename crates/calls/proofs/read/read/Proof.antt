@@ -5,7 +5,7 @@ use borrow.Author.Tests.{not-false}
 use Rattle.calls.specs.Ladder.{readRows, rowsOf, answerOf}
 use Rattle.calls.specs.Effect.{lentOf}
 use Rattle.calls.proofs.StepLaws.{step-refused}
-use Rattle.calls.proofs.CardLaws.{card-some, card-starts, card-inside, card-long, card-through, card-whole}
+use Rattle.calls.proofs.CardLaws.{card-some, card-inside, card-long, card-through, card-whole}
 use Rattle.calls.proofs.RowLaws.{area-given}
 use Rattle.calls.proofs.ReadLaws.{read-4, read-9, read-6, read-7, read-8, read-below, read-done, index-inside}
 use Rattle.calls.proofs.read.read.Statement.{statement}

@@ -7,7 +7,7 @@ use borrow.Author.Tests.{not-false}
 use Rattle.calls.specs.Ladder.{revertRows, rowsOf, answerOf}
 use Rattle.calls.specs.Effect.{lentOf, filledOf}
 use Rattle.calls.proofs.StepLaws.{step-refused, step-accepted}
-use Rattle.calls.proofs.CardLaws.{card-some, card-few, card-starts, card-inside, card-long, card-whole}
+use Rattle.calls.proofs.CardLaws.{card-some, card-few, card-inside, card-long, card-whole}
 use Rattle.calls.proofs.RowLaws.{area-given, named-4, named-6}
 use Rattle.calls.proofs.RevertLaws.{revert-7, revert-0, reverted}
 use Rattle.calls.proofs.revert.revert.Statement.{statement}
@@ -64,19 +64,19 @@ returns-4 : tie.Need-returns-4
 unfolding lentOf
 returns-4 c = step-refused _ _ _ _ (revert-7 _ _ _ (c .before .before .before .before .before .before .before .before .before .before .before .before .before .is-bad .ensures) (c .before .before .before .before .before .before .before .before .before .before .before .before .if1 .left) _ (c .before .before .before .before .before .before .before .before .before .before .before .is-name .ensures) (c .before .before .before .before .before .before .before .before .before .before .if2 .left) _ (c .before .before .before .before .before .before .before .before .walk-chain .ensures) (c .before .before .before .before .before .before .if3 .left) _ (c .before .index-of .ensures .0) (c .if4 .taken)) refl
 
-mul-p : tie.Need-mul-p
-mul-p c =
+-- the index of the snapshot is one of the chain
+few : (c : tie.Else4) → c .before .index-of .result < 256
+few c =
     let w = c .before .before .before .before .before .before .before .before .walk-chain in
     let good = sym (c .before .before .before .before .before .before .before .before .before .before .before .before .before .is-bad .ensures) ∙ c .before .before .before .before .before .before .before .before .before .before .before .before .if1 .left in
     let ok = not-false (w .result .sound) (c .before .before .before .before .before .before .if3 .left) in
     omega (arith, card-few _ _ (w .ensures) good ok, card-some _ _ (w .ensures) good ok, c .before .index-of .ensures .1)
 
+mul-p : tie.Need-mul-p
+mul-p c = omega (arith, few c)
+
 element-copy-out-p : tie.Need-element-copy-out-p
-element-copy-out-p c =
-    let w = c .before .before .before .before .before .before .before .before .walk-chain in
-    let good = sym (c .before .before .before .before .before .before .before .before .before .before .before .before .before .is-bad .ensures) ∙ c .before .before .before .before .before .before .before .before .before .before .before .before .if1 .left in
-    let ok = not-false (w .result .sound) (c .before .before .before .before .before .before .if3 .left) in
-    omega (arith, card-few _ _ (w .ensures) good ok, card-some _ _ (w .ensures) good ok, c .before .index-of .ensures .1)
+element-copy-out-p c = omega (arith, few c)
 
 descriptor-of-requires : tie.Need-descriptor-of-requires
 descriptor-of-requires c κs =

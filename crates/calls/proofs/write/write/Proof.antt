@@ -1,11 +1,9 @@
 -- `write` meets its contract, row by row.
-use mathlib.Core.Path.{refl, sym, _∙_}
+use mathlib.Core.Path.{refl}
 use borrow.Author.Needs.{needs}
-use borrow.Author.Tests.{not-false}
 use Rattle.calls.specs.Ladder.{writeRows, rowsOf, answerOf}
 use Rattle.calls.specs.Effect.{lentOf}
 use Rattle.calls.proofs.StepLaws.{step-refused}
-use Rattle.calls.proofs.CardLaws.{card-starts}
 use Rattle.calls.proofs.RowLaws.{area-given}
 use Rattle.calls.proofs.WriteLaws.{write-9, write-6, write-8, write-10, write-through, write-ready, write-done}
 use Rattle.calls.proofs.write.write.Statement.{statement}
