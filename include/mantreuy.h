@@ -65,9 +65,9 @@
  *     mantreuy_revert runs, no other call may use that card. Nobody else may
  *     change a buffer while a call uses it, nor read one that the call may
  *     change.
- *   - A check uses at most 72 KB of stack, any other call at most 5 KB (measured
- *     on x86-64, on small and large cards, in accepted and refused calls: 68,936
- *     and 3,528 bytes).
+ *   - A check uses at most 72 KB of stack, any other call at most 5 KB. Measured
+ *     on x86-64, on cards of 4,096 blocks, a check on 2,048 too, in accepted and
+ *     some refused calls: 68,936 and 3,528 bytes.
  *
  * SIZES
  *
