@@ -1,10 +1,4 @@
-// The calls of the card store. Each contract is one equation: answer, card and lent memory at exit are those of the definition's `step`.
+// What the calls of the card store share: their definitions and laws, what a call takes and answers, and the test of the area.
 pub mod answer; // what a call takes and answers besides bytes
-pub mod area; // the tests that calls share
-pub mod ream; // the format
-pub mod revert; // back to a snapshot
-pub mod snap; // a snapshot
-pub mod check; // the check of a card
-pub mod read; // a read of one block
-pub mod write; // a write of one block
-pub mod list; // a listing of the chain
+pub mod area; // the test of the area
+pub mod list; // what a listing plans

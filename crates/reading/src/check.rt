@@ -1,0 +1,105 @@
+// The check of a card.
+use blocks::chain;
+use blocks::descriptor;
+use blocks::descriptor::Descriptor;
+use calls::answer::Answer;
+use calls::area;
+use entries::check as rules;
+use entries::check::Verdict;
+ghost use mathlib.Core.Path.{_≡_};
+ghost use mathlib.Core.Bool.{true, false};
+ghost use Prim.Native.Nat.{ℕ, _*_, _≤_};
+ghost use lib.ListN.{length, getD};
+ghost use Rattle.blocks.specs.Descriptor.{physical, costOf};
+ghost use Rattle.blocks.specs.Chain.{chain as chainOf, descriptors, regionsOf};
+ghost use Rattle.entries.specs.Marks.{openingsFlagged};
+ghost use Rattle.calls.specs.Call.{Check, None};
+ghost use Rattle.calls.specs.Parts.{areaBad};
+ghost use Rattle.calls.specs.Check.{checkCard, takingChain};
+ghost use Rattle.calls.specs.Step.{step};
+
+// The verdict on the descriptors of a sound chain, in chain order. `seen` is zero, with a byte for each block of the card or more.
+fn check_chain(
+    card: &[u8],
+    active: Descriptor,
+    starts: &[u32],
+    count: usize,
+    seen: &mut [u8],
+) -> Verdict
+    requires { ⌜ (areaBad (now card) ≡ false) × (regionsOf (chainOf (now card)) ≡ record { sound = true; place = physical 0; active = active; count = count; starts = now starts }) × ((v : ℕ) → getD (now seen) v 0 ≡ 0) × (length (now card) ≤ 512 * length (now seen)) ⌝ }
+    ensures { λ r. ⌜ r ≡ checkCard (now (card .entry)) ⌝ }
+    ensures { λ r. ⌜ record { verdict = r; flags = now (seen .exit) } ≡ takingChain (now (card .entry)) (now (starts .entry)) (costOf active) count 0 (openingsFlagged (now (seen .entry)) (now (starts .entry)) (costOf active) count) (descriptors (chainOf (now (card .entry)))) ⌝ }
+{
+    let cost = descriptor::opening_cost(active.layout, active.volume) as usize;
+    rules::mark_openings(seen, starts, count, cost);
+    let mut turn = 0;
+    let mut k = 0;
+    while k < count {
+        turn = rules::next_turn(seen, starts, count, cost, turn);
+        let d = chain::descriptor_of(card, active, starts, count, k);
+        let v = rules::check_one(card, d, seen, turn);
+        if let Verdict::Fault(h) = v {
+            return Verdict::Fault(h);
+        }
+        k += 1;
+    }
+    Verdict::Passed
+}
+
+// The same, of a card of at most 2,048 blocks.
+fn check_small(card: &[u8], active: Descriptor, starts: &[u32], count: usize) -> Verdict
+    requires { ⌜ (areaBad (now card) ≡ false) × (regionsOf (chainOf (now card)) ≡ record { sound = true; place = physical 0; active = active; count = count; starts = now starts }) × (length (now card) ≤ 1048576) ⌝ }
+    ensures { λ r. ⌜ r ≡ checkCard (now (card .entry)) ⌝ }
+{
+    let mut seen = [0u8; 2048];
+    check_chain(card, active, starts, count, &mut seen)
+}
+
+// The same, of any card.
+fn check_large(card: &[u8], active: Descriptor, starts: &[u32], count: usize) -> Verdict
+    requires { ⌜ (areaBad (now card) ≡ false) × (regionsOf (chainOf (now card)) ≡ record { sound = true; place = physical 0; active = active; count = count; starts = now starts }) ⌝ }
+    ensures { λ r. ⌜ r ≡ checkCard (now (card .entry)) ⌝ }
+{
+    let mut seen = [0u8; 65536];
+    check_chain(card, active, starts, count, &mut seen)
+}
+
+// The same, with as few flags as the card needs: on a small card to clear more would be most of the work.
+fn check_regions(card: &[u8], active: Descriptor, starts: &[u32], count: usize) -> Verdict
+    requires { ⌜ (areaBad (now card) ≡ false) × (regionsOf (chainOf (now card)) ≡ record { sound = true; place = physical 0; active = active; count = count; starts = now starts }) ⌝ }
+    ensures { λ r. ⌜ r ≡ checkCard (now (card .entry)) ⌝ }
+{
+    if card.len() <= 1048576 {
+        return check_small(card, active, starts, count);
+    }
+    check_large(card, active, starts, count)
+}
+
+// Checks the card.
+pub fn check(card: &[u8]) -> Answer
+    ensures { λ r. ⌜ record { outcome = record { answer = r; lent = None }; card = now (card .entry) } ≡ step Check (now (card .entry)) ⌝ }
+{
+    if area::is_bad(card) {
+        return Answer {
+            number: 1,
+            place: 0,
+        };
+    }
+    let found = chain::walk_chain(card);
+    let count = found.count;
+    let active = found.active;
+    if !found.sound {
+        let place = found.place.0;
+        return Answer { number: 6, place };
+    }
+    match check_regions(card, active, &found.starts, count) {
+        Verdict::Passed => Answer {
+            number: 0,
+            place: 0,
+        },
+        Verdict::Fault(h) => Answer {
+            number: 10,
+            place: h.0,
+        },
+    }
+}

@@ -1,0 +1,137 @@
+// A listing of the chain.
+use blocks::chain;
+use blocks::descriptor;
+use blocks::numbers::Physical;
+use calls::answer::Answer;
+use calls::answer::Record;
+use calls::area;
+use calls::list::Filling;
+use calls::list::Plan;
+ghost use mathlib.Core.Path.{_≡_};
+ghost use mathlib.Core.List.{List};
+ghost use Prim.Native.Nat.{ℕ, _+_, _*_, _≤_, _<_};
+ghost use lib.ListN.{length, getD};
+ghost use Rattle.calls.specs.Call.{Listing, Records};
+ghost use Rattle.calls.specs.Step.{step};
+ghost use Rattle.calls.specs.Listing.{fillingWith, fillingBy, planOf, recordBy, filled};
+
+// What has this answer and fills so many records.
+fn fills(number: u32, place: u32, count: usize) -> Filling
+    ensures { λ r. ⌜ r ≡ fillingWith number place count ⌝ }
+{
+    Filling {
+        answer: Answer { number, place },
+        count,
+    }
+}
+
+// The tests of a listing into `room` records that follow the walk, by what it found.
+pub fn plan_filling(sound: bool, place: Physical, count: usize, room: usize) -> Filling
+    ensures { λ r. ⌜ r ≡ fillingBy sound (place .0) count room ⌝ }
+{
+    if !sound {
+        return fills(6, place.0, 0);
+    }
+    if room < count {
+        return fills(14, 0, 0);
+    }
+    fills(0, 0, count)
+}
+
+// All tests of a listing into `room` records.
+fn make_plan(card: &[u8], room: usize) -> Plan
+    ensures { λ r. ⌜ ((records : List Record) → length records ≡ room → r ≡ planOf (now (card .entry)) records) ⌝ }
+{
+    if area::is_bad(card) {
+        return Plan {
+            answer: Answer {
+                number: 1,
+                place: 0,
+            },
+            count: 0,
+            starts: [0u32; 257],
+        };
+    }
+    let found = chain::walk_chain(card);
+    let f = plan_filling(found.sound, found.place, found.count, room);
+    let answer = f.answer;
+    let starts = found.starts;
+    Plan {
+        answer,
+        count: f.count,
+        starts,
+    }
+}
+
+// The record of region `k` of `n`, by the starts that the walk found: of its bytes the name alone is read.
+pub fn record_of(card: &[u8], starts: &[u32], n: usize, k: usize) -> Record
+    requires { ⌜ (k < n) × (n < length (now starts)) × (512 * getD (now starts) k 0 + 512 ≤ length (now card)) ⌝ }
+    ensures { λ r. ⌜ r ≡ recordBy (now (card .entry)) (now (starts .entry)) n k ⌝ }
+{
+    let start = starts[k];
+    let end = starts[k + 1];
+    let name = descriptor::name_at(card, Physical(start));
+    let next = chain::next_of(end, k, n);
+    Record {
+        name,
+        alpha: start,
+        beta: end,
+        next: next.0,
+    }
+}
+
+// The first `n` records are now those of the `n` regions.
+fn fill(card: &[u8], starts: &[u32], records: &mut [Record], n: usize)
+    requires { ⌜ (n ≤ length (now records)) × (n < length (now starts)) × ((j : ℕ) → j < n → 512 * getD (now starts) j 0 + 512 ≤ length (now card)) ⌝ }
+    ensures { λ _. ⌜ now (records .exit) ≡ filled (now (card .entry)) (now (starts .entry)) (now (records .entry)) n ⌝ }
+{
+    let mut i = 0;
+    while i < n {
+        let r = record_of(card, starts, n, i);
+        records[i] = r;
+        i += 1;
+    }
+}
+
+// Lists the chain: the first records are those of its descriptors, in chain order, and the others are unchanged.
+pub fn list(card: &[u8], records: &mut [Record]) -> Answer
+    ensures { λ r. ⌜ record { outcome = record { answer = r; lent = Records (now (records .exit)) }; card = now (card .entry) } ≡ step (Listing (now (records .entry))) (now (card .entry)) ⌝ }
+{
+    let p = make_plan(card, records.len());
+    let starts = p.starts;
+    fill(card, &starts, records, p.count);
+    p.answer
+}
+
+// The same filling, in an array of 64 records by value: the one function that lends an array of records.
+fn fill_64(card: &[u8], starts: &[u32], records: [Record; 64], n: usize) -> [Record; 64]
+    requires { ⌜ (n ≤ 64) × (n < length (now starts)) × ((j : ℕ) → j < n → 512 * getD (now starts) j 0 + 512 ≤ length (now card)) ⌝ }
+    ensures { λ r. ⌜ r ≡ filled (now (card .entry)) (now (starts .entry)) records n ⌝ }
+{
+    let mut r = records;
+    fill(card, starts, &mut r, n);
+    r
+}
+
+// What a listing into 64 records of one's own gives: `count` of them are filled.
+pub struct Listed {
+    pub answer: Answer,
+    pub count: usize,
+    pub records: [Record; 64],
+}
+
+// The same listing, into an array of 64 records by value.
+pub fn list_64(card: &[u8], records: [Record; 64]) -> Listed
+    ensures { λ r. ⌜ record { outcome = record { answer = r .answer; lent = Records (r .records) }; card = now (card .entry) } ≡ step (Listing records) (now (card .entry)) ⌝ }
+    ensures { λ r. ⌜ (r .count ≡ planOf (now (card .entry)) records .count) × (r .count ≤ 64) ⌝ }
+{
+    let p = make_plan(card, 64);
+    let answer = p.answer;
+    let count = p.count;
+    let filled = fill_64(card, &p.starts, records, count);
+    Listed {
+        answer,
+        count,
+        records: filled,
+    }
+}

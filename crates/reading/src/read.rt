@@ -1,0 +1,147 @@
+// A read of one block.
+use blocks::bytes;
+use blocks::chain;
+use blocks::descriptor::Descriptor;
+use blocks::name;
+use blocks::numbers::Logical;
+use blocks::numbers::Physical;
+use calls::answer::Answer;
+use calls::answer::Target;
+use calls::area;
+use entries::find;
+use entries::find::Found;
+ghost use mathlib.Core.Path.{_≡_};
+ghost use mathlib.Core.Bool.{_&&_, not};
+ghost use Prim.Native.Nat.{ℕ, _+_, _*_, _-_, _≤_, _<_};
+ghost use lib.ListN.{length, take, getD};
+ghost use lib.Dec.{eqb};
+ghost use Rattle.blocks.specs.Pick.{pick};
+ghost use Rattle.blocks.specs.Bytes.{zeroBlock, blockAt};
+ghost use Rattle.blocks.specs.Name.{isName};
+ghost use Rattle.blocks.specs.Chain.{chain as chainOf, descriptors, descriptorsAt};
+ghost use Rattle.entries.specs.Through.{Through};
+ghost use Rattle.entries.specs.Entry.{find as finding};
+ghost use Rattle.calls.specs.Call.{Read, Block};
+ghost use Rattle.calls.specs.Parts.{isSnapshot, targetIndex};
+ghost use Rattle.calls.specs.Effect.{delivered};
+ghost use Rattle.calls.specs.Step.{step};
+
+// Whether a name is given that is none: the bytes beside the active store are not looked at.
+fn is_unnamed(target: Target, name: [u8; 16]) -> bool
+    ensures { λ r. ⌜ r ≡ (isSnapshot target && not (isName name)) ⌝ }
+{
+    match target {
+        Target::Active => false,
+        Target::Snapshot => !name::is_name(name),
+    }
+}
+
+// The index in the chain of what is read, `count` where no snapshot has the name.
+fn target_index(card: &[u8], starts: &[u32], count: usize, target: Target, name: [u8; 16]) -> usize
+    requires { ⌜ (0 < count) × (count ≤ length (now starts)) × ((j : ℕ) → j < count → 512 * getD (now starts) j 0 + 512 ≤ length (now card)) ⌝ }
+    ensures { λ r. ⌜ r ≡ targetIndex (descriptorsAt (now (card .entry)) (take (count - 1) (now (starts .entry)))) target name ⌝ }
+{
+    let last = count - 1;
+    match target {
+        Target::Active => last,
+        Target::Snapshot => snapshot_index(card, starts, last, name),
+    }
+}
+
+// The index of the snapshot that has the name, `last + 1` where none has it.
+fn snapshot_index(card: &[u8], starts: &[u32], last: usize, name: [u8; 16]) -> usize
+    requires { ⌜ (last < length (now starts)) × ((j : ℕ) → j < last → 512 * getD (now starts) j 0 + 512 ≤ length (now card)) ⌝ }
+    ensures { λ r. ⌜ r ≡ targetIndex (descriptorsAt (now (card .entry)) (take last (now (starts .entry)))) Target.Snapshot name ⌝ }
+{
+    let k = chain::index_of(card, starts, last, name);
+    if k == last {
+        return last + 1;
+    }
+    k
+}
+
+// The caller's block is now block `p`, or zeros where that is nil.
+fn fill_block(card: &[u8], p: Physical, out: &mut [u8])
+    requires { ⌜ (length (now out) ≡ 512) × ((p .0 ≡ 0 → ⊥) → 512 * p .0 + 512 ≤ length (now card)) ⌝ }
+    ensures { λ _. ⌜ now (out .exit) ≡ pick (eqb (p .0) 0) zeroBlock (blockAt (now (card .entry)) (p .0)) ⌝ }
+{
+    if p.0 == 0 {
+        let zeros = [0u8; 512];
+        bytes::put_bytes(out, 0, &zeros);
+        return;
+    }
+    bytes::get_bytes(card, 512 * (p.0 as usize), out);
+}
+
+// The block of logical number `l` through the descriptor `d`, or the refusal of an entry that is not in place.
+fn deliver(
+    card: &[u8],
+    starts: &[u32],
+    count: usize,
+    d: Descriptor,
+    l: Logical,
+    out: &mut [u8],
+) -> Answer
+    requires { ⌜ Through (now card) (now starts) count d × (l .0 < d .volume) × (length (now out) ≡ 512) ⌝ }
+    ensures { λ r. ⌜ record { answer = r; block = now (out .exit) } ≡ delivered (now (card .entry)) (finding (now (card .entry)) (descriptors (chainOf (now (card .entry)))) d (l .0)) (now (out .entry)) ⌝ }
+{
+    match find::find(card, starts, count, d, l) {
+        Found::Misplaced(h) => Answer {
+            number: 10,
+            place: h.0,
+        },
+        Found::Entry(_, p) => {
+            fill_block(card, p, out);
+            Answer {
+                number: 0,
+                place: 0,
+            }
+        }
+    }
+}
+
+// Reads a block of the active store, or of the snapshot that has the name.
+pub fn read(card: &[u8], target: Target, name: [u8; 16], l: Logical, out: &mut [u8]) -> Answer
+    ensures { λ r. ⌜ record { outcome = record { answer = r; lent = Block (now (out .exit)) }; card = now (card .entry) } ≡ step (Read target name (l .0) (now (out .entry))) (now (card .entry)) ⌝ }
+{
+    if area::is_bad(card) {
+        return Answer {
+            number: 1,
+            place: 0,
+        };
+    }
+    if is_unnamed(target, name) {
+        return Answer {
+            number: 4,
+            place: 0,
+        };
+    }
+    if out.len() != 512 {
+        return Answer {
+            number: 9,
+            place: 0,
+        };
+    }
+    let found = chain::walk_chain(card);
+    let count = found.count;
+    let active = found.active;
+    if !found.sound {
+        let place = found.place.0;
+        return Answer { number: 6, place };
+    }
+    let k = target_index(card, &found.starts, count, target, name);
+    if k == count {
+        return Answer {
+            number: 7,
+            place: 0,
+        };
+    }
+    if active.volume <= l.0 {
+        return Answer {
+            number: 8,
+            place: 0,
+        };
+    }
+    let d = chain::descriptor_of(card, active, &found.starts, count, k);
+    deliver(card, &found.starts, count, d, l, out)
+}

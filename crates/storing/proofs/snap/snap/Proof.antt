@@ -1,0 +1,134 @@
+-- `snap` meets its contract, row by row.
+use mathlib.Core.Path.{refl, sym, _∙_}
+use native.Mathlib.Omega.{arith}
+use borrow.Author.Needs.{needs}
+use borrow.Author.Tests.{not-false}
+use Rattle.calls.specs.Ladder.{snapRows, rowsOf, answerOf}
+use Rattle.calls.specs.Effect.{lentOf, filledOf}
+use Rattle.blocks.proofs.ChainLaws.{cost-least}
+use Rattle.entries.proofs.EntryLaws.{through-beta}
+use Rattle.calls.proofs.StepLaws.{step-refused, step-accepted}
+use Rattle.calls.proofs.CardLaws.{card-some, card-inside, card-long, card-active, card-through, card-small}
+use Rattle.calls.proofs.RowLaws.{area-given, named-4, named-6}
+use Rattle.calls.proofs.SnapLaws.{snap-12, snap-13, snap-11, snap-0, snap-stores}
+use Rattle.storing.proofs.snap.snap.Statement.{statement}
+use Rattle.storing.proofs.snap.snap.Tie as tie
+
+is-bad-requires : tie.Need-is-bad-requires
+is-bad-requires c κs = search needs
+
+same-length : tie.Need-same-length
+same-length c = search needs
+
+returns : tie.Need-returns
+unfolding lentOf answerOf rowsOf snapRows
+returns c = step-refused _ _ _ _ (search area-given) refl
+
+is-name-requires : tie.Need-is-name-requires
+is-name-requires c κs = search needs
+
+same-length-2 : tie.Need-same-length-2
+same-length-2 c = search needs
+
+returns-2 : tie.Need-returns-2
+unfolding lentOf answerOf rowsOf snapRows
+returns-2 c = step-refused _ _ _ _ (search named-4) refl
+
+walk-chain-requires : tie.Need-walk-chain-requires
+walk-chain-requires c κs = search needs
+
+same-length-3 : tie.Need-same-length-3
+same-length-3 c = search needs
+
+returns-3 : tie.Need-returns-3
+unfolding lentOf answerOf rowsOf snapRows
+returns-3 c = step-refused _ _ _ _ (search named-6) refl
+
+is-named-requires : tie.Need-is-named-requires
+is-named-requires c κs =
+    let w = c .before .before .before .before .before .walk-chain in
+    let good = sym (c .before .before .before .before .before .before .before .before .before .before .is-bad .ensures) ∙ c .before .before .before .before .before .before .before .before .before .if1 .left in
+    let ok = not-false (w .result .sound) (c .before .before .before .before .if3 .left) in
+    (card-long _ _ (w .ensures) good ok, λ j h. card-inside _ _ (w .ensures) good ok j h)
+
+same-length-4 : tie.Need-same-length-4
+same-length-4 c = search needs
+
+returns-4 : tie.Need-returns-4
+unfolding lentOf
+returns-4 c = step-refused _ _ _ _ (snap-12 _ _ _ (c .before .before .before .before .before .before .before .before .before .before .before .before .is-bad .ensures) (c .before .before .before .before .before .before .before .before .before .before .before .if1 .left) _ (c .before .before .before .before .before .before .before .before .before .before .is-name .ensures) (c .before .before .before .before .before .before .before .before .before .if2 .left) _ (c .before .before .before .before .before .before .before .walk-chain .ensures) (c .before .before .before .before .before .before .if3 .left) _ (c .before .is-named .ensures) (c .if4 .taken)) refl
+
+same-length-5 : tie.Need-same-length-5
+same-length-5 c = search needs
+
+returns-5 : tie.Need-returns-5
+unfolding lentOf
+returns-5 c = step-refused _ _ _ _ (snap-13 _ _ _ (c .before .before .before .before .before .before .before .before .before .before .before .before .before .is-bad .ensures) (c .before .before .before .before .before .before .before .before .before .before .before .before .if1 .left) _ (c .before .before .before .before .before .before .before .before .before .before .before .is-name .ensures) (c .before .before .before .before .before .before .before .before .before .before .if2 .left) _ (c .before .before .before .before .before .before .before .before .walk-chain .ensures) (c .before .before .before .before .before .before .before .if3 .left) _ (c .before .before .is-named .ensures) (c .before .if4 .left) (c .if5 .taken)) refl
+
+opening-cost-requires : tie.Need-opening-cost-requires
+opening-cost-requires c κs = search needs
+
+cast-end : tie.Need-cast-end
+cast-end c = search needs
+
+cast-end-2 : tie.Need-cast-end-2
+cast-end-2 c = search needs
+
+add-end : tie.Need-add-end
+add-end c = search needs
+
+same-length-6 : tie.Need-same-length-6
+same-length-6 c = search needs
+
+returns-6 : tie.Need-returns-6
+unfolding lentOf
+returns-6 c =
+    step-refused _ _ _ _ (snap-11 _ _ _ (c .before .before .before .before .before .before .before .before .before .before .before .before .before .before .before .before .before .is-bad .ensures) (c .before .before .before .before .before .before .before .before .before .before .before .before .before .before .before .before .if1 .left) _ (c .before .before .before .before .before .before .before .before .before .before .before .before .before .before .before .is-name .ensures) (c .before .before .before .before .before .before .before .before .before .before .before .before .before .before .if2 .left) _ (c .before .before .before .before .before .before .before .before .before .before .before .before .walk-chain .ensures) (c .before .before .before .before .before .before .before .before .before .before .before .if3 .left) _ (c .before .before .before .before .before .before .is-named .ensures) (c .before .before .before .before .before .if4 .left) (c .before .before .before .before .if5 .left) _ (c .before .before .opening-cost .ensures) (c .if6 .taken)) refl
+
+take-snapshot-requires : tie.Need-take-snapshot-requires
+take-snapshot-requires c κs =
+    let w = c .before .before .before .before .before .before .before .before .before .before .before .before .before .walk-chain in
+    let good = sym (c .before .before .before .before .before .before .before .before .before .before .before .before .before .before .before .before .before .before .is-bad .ensures) ∙ c .before .before .before .before .before .before .before .before .before .before .before .before .before .before .before .before .before .if1 .left in
+    let ok = not-false (w .result .sound) (c .before .before .before .before .before .before .before .before .before .before .before .before .if3 .left) in
+    let t = card-through _ _ (w .ensures) good ok _ (omega (arith, card-some _ _ (w .ensures) good ok)) _ (card-active _ _ (w .ensures) good ok) in
+    let k = c .before .before .before .opening-cost .ensures in
+    (k, omega (arith, through-beta _ _ _ _ t, k), omega (arith, k), omega (arith, card-small _ good), omega (arith, k, cost-least (w .result .active .layout) (w .result .active .volume)))
+
+same-length-7 : tie.Need-same-length-7
+same-length-7 c = search needs
+
+returns-7 : tie.Need-returns-7
+unfolding filledOf
+returns-7 c =
+    step-accepted _ _
+    (snap-0 _ _ _ (c .before .before .before .before .before .before .before .before .before .before .before .before .before .before .before .before .before .before .before .before .before .is-bad .ensures) (c .before .before .before .before .before .before .before .before .before .before .before .before .before .before .before .before .before .before .before .before .if1 .left) _ (c .before .before .before .before .before .before .before .before .before .before .before .before .before .before .before .before .before .before .before .is-name .ensures) (c .before .before .before .before .before .before .before .before .before .before .before .before .before .before .before .before .before .before .if2 .left) _ (c .before .before .before .before .before .before .before .before .before .before .before .before .before .before .before .before .walk-chain .ensures) (c .before .before .before .before .before .before .before .before .before .before .before .before .before .before .before .if3 .left) _ (c .before .before .before .before .before .before .before .before .before .before .is-named .ensures) (c .before .before .before .before .before .before .before .before .before .if4 .left) (c .before .before .before .before .before .before .before .before .if5 .left) _ (c .before .before .before .before .before .before .opening-cost .ensures) (c .before .before .before .before .if6 .left))
+    _ refl _
+    (snap-stores _ _ _ (c .before .before .before .before .before .before .before .before .before .before .before .before .before .before .before .before .before .before .before .before .before .is-bad .ensures) (c .before .before .before .before .before .before .before .before .before .before .before .before .before .before .before .before .before .before .before .before .if1 .left) _ (c .before .before .before .before .before .before .before .before .before .before .before .before .before .before .before .before .before .before .before .is-name .ensures) (c .before .before .before .before .before .before .before .before .before .before .before .before .before .before .before .before .before .before .if2 .left) _ (c .before .before .before .before .before .before .before .before .before .before .before .before .before .before .before .before .walk-chain .ensures) (c .before .before .before .before .before .before .before .before .before .before .before .before .before .before .before .if3 .left) _ (c .before .before .before .before .before .before .before .before .before .before .is-named .ensures) (c .before .before .before .before .before .before .before .before .before .if4 .left) (c .before .before .before .before .before .before .before .before .if5 .left) _ (c .before .before .before .before .before .before .opening-cost .ensures) _ (c .before .before .take-snapshot .ensures))
+
+pub snap-spec : {M : Type 1} → statement M
+snap-spec =
+    tie.close
+    (tie.spec
+    is-bad-requires
+    same-length
+    returns
+    is-name-requires
+    same-length-2
+    returns-2
+    walk-chain-requires
+    same-length-3
+    returns-3
+    is-named-requires
+    same-length-4
+    returns-4
+    same-length-5
+    returns-5
+    opening-cost-requires
+    cast-end
+    cast-end-2
+    add-end
+    same-length-6
+    returns-6
+    take-snapshot-requires
+    same-length-7
+    returns-7)

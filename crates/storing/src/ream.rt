@@ -1,0 +1,110 @@
+// The format of a card.
+use blocks::bytes;
+use blocks::descriptor;
+use blocks::descriptor::Descriptor;
+use blocks::name;
+use blocks::numbers::Physical;
+use calls::answer::Answer;
+use calls::area;
+ghost use mathlib.Core.Path.{_≡_};
+ghost use Prim.Native.Nat.{_+_, _*_, _≤_, _<_};
+ghost use lib.ListN.{length, replicate};
+ghost use Rattle.blocks.specs.Bytes.{storeAll};
+ghost use Rattle.blocks.specs.Descriptor.{cost as openingCost, clearing, descriptorBlock, opening};
+ghost use Rattle.calls.specs.Call.{Ream, None};
+ghost use Rattle.calls.specs.Step.{step};
+
+// The `n` blocks from block `first` are zeros.
+fn clear_blocks(card: &mut [u8], first: u32, n: u32)
+    requires { ⌜ (512 * (first + n) ≤ length (now card)) × (first + n < 4294967296) ⌝ }
+    ensures { λ _. ⌜ now (card .exit) ≡ storeAll (now (card .entry)) (clearing first n) ⌝ }
+{
+    let zeros = [0u8; 512];
+    let mut i: u32 = 0;
+    while i < n {
+        let p = Physical(first + i);
+        bytes::store_block(card, p, &zeros);
+        i += 1;
+    }
+}
+
+// The block of a descriptor with zeros after its first 40 bytes.
+fn fresh_block(d: Descriptor) -> [u8; 512]
+    ensures { λ r. ⌜ r ≡ descriptorBlock d (replicate 472 0) ⌝ }
+{
+    let mut b = [0u8; 512];
+    descriptor::put_head(&mut b, d);
+    b
+}
+
+// Formats the card.
+pub fn ream(card: &mut [u8], layout: u32, volume: u32, name: [u8; 16]) -> Answer
+    ensures { λ r. ⌜ record { outcome = record { answer = r; lent = None }; card = now (card .exit) } ≡ step (Ream layout volume name) (now (card .entry)) ⌝ }
+{
+    if area::is_bad(card) {
+        return Answer {
+            number: 1,
+            place: 0,
+        };
+    }
+    if layout == 0 {
+        return Answer {
+            number: 2,
+            place: 0,
+        };
+    }
+    if 2 < layout {
+        return Answer {
+            number: 2,
+            place: 0,
+        };
+    }
+    if volume == 0 {
+        return Answer {
+            number: 3,
+            place: 0,
+        };
+    }
+    if 14336 < volume {
+        return Answer {
+            number: 3,
+            place: 0,
+        };
+    }
+    if !name::is_name(name) {
+        return Answer {
+            number: 4,
+            place: 0,
+        };
+    }
+    let cost = descriptor::opening_cost(layout, volume);
+    if card.len() / 512 < cost as usize {
+        return Answer {
+            number: 5,
+            place: 0,
+        };
+    }
+    open_card(card, layout, volume, cost, name);
+    Answer {
+        number: 0,
+        place: 0,
+    }
+}
+
+// Clears the tables, then stores the first descriptor.
+fn open_card(card: &mut [u8], layout: u32, volume: u32, cost: u32, name: [u8; 16])
+    requires { ⌜ (cost ≡ openingCost layout volume) × (512 * cost ≤ length (now card)) ⌝ }
+    ensures { λ _. ⌜ now (card .exit) ≡ storeAll (now (card .entry)) (opening layout volume name) ⌝ }
+{
+    let first = Descriptor {
+        layout,
+        volume,
+        alpha: Physical(0),
+        beta: Physical(cost),
+        next: Physical(0),
+        name,
+    };
+    let b = fresh_block(first);
+    clear_blocks(card, 1, cost - 1);
+    bytes::store_block(card, Physical(0), &b);
+}

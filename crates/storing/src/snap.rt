@@ -1,0 +1,95 @@
+// A snapshot of the active volume.
+use blocks::bytes;
+use blocks::chain;
+use blocks::descriptor;
+use blocks::descriptor::Descriptor;
+use blocks::name;
+use blocks::numbers::Physical;
+use calls::answer::Answer;
+use calls::area;
+ghost use mathlib.Core.Path.{_≡_};
+ghost use Prim.Native.Nat.{_+_, _*_, _≤_, _<_};
+ghost use lib.ListN.{length};
+ghost use Rattle.blocks.specs.Bytes.{storeAll};
+ghost use Rattle.blocks.specs.Descriptor.{costOf, copying};
+ghost use Rattle.calls.specs.Call.{Snap, None};
+ghost use Rattle.calls.specs.Effect.{snapping};
+ghost use Rattle.calls.specs.Step.{step};
+
+// The `n` blocks from block `to` are copies of those from block `from`, which stand before them.
+fn copy_blocks(card: &mut [u8], from: u32, to: u32, n: u32)
+    requires { ⌜ (from + n ≤ «to») × (512 * («to» + n) ≤ length (now card)) × («to» + n < 4294967296) ⌝ }
+    ensures { λ _. ⌜ now (card .exit) ≡ storeAll (now (card .entry)) (copying (now (card .entry)) from «to» n) ⌝ }
+{
+    let mut i: u32 = 0;
+    while i < n {
+        let a = Physical(from + i);
+        let b = Physical(to + i);
+        bytes::copy_block(card, a, b);
+        i += 1;
+    }
+}
+
+// Opens a region at the active descriptor's beta, and leaves that descriptor behind under the name.
+fn take_snapshot(card: &mut [u8], d: Descriptor, cost: u32, name: [u8; 16])
+    requires { ⌜ (cost ≡ costOf d) × (d .alpha .0 + cost ≤ d .beta .0) × (512 * (d .beta .0 + cost) ≤ length (now card)) × (d .beta .0 + cost < 4294967296) × (1 ≤ cost) ⌝ }
+    ensures { λ _. ⌜ now (card .exit) ≡ storeAll (now (card .entry)) (snapping (now (card .entry)) d name) ⌝ }
+{
+    let alpha = d.alpha;
+    let beta = d.beta;
+    let opened = d.reopened();
+    let closed = d.renamed(name).linked(beta);
+    copy_blocks(card, alpha.0 + 1, beta.0 + 1, cost - 1);
+    descriptor::store_descriptor(card, alpha, beta, opened);
+    descriptor::put_descriptor(card, alpha, closed);
+}
+
+// Freezes the active volume under the name.
+pub fn snap(card: &mut [u8], name: [u8; 16]) -> Answer
+    ensures { λ r. ⌜ record { outcome = record { answer = r; lent = None }; card = now (card .exit) } ≡ step (Snap name) (now (card .entry)) ⌝ }
+{
+    if area::is_bad(card) {
+        return Answer {
+            number: 1,
+            place: 0,
+        };
+    }
+    if !name::is_name(name) {
+        return Answer {
+            number: 4,
+            place: 0,
+        };
+    }
+    let found = chain::walk_chain(card);
+    let count = found.count;
+    if !found.sound {
+        let place = found.place.0;
+        return Answer { number: 6, place };
+    }
+    if chain::is_named(card, &found.starts, count, name) {
+        return Answer {
+            number: 12,
+            place: 0,
+        };
+    }
+    if 255 < count {
+        return Answer {
+            number: 13,
+            place: 0,
+        };
+    }
+    let d = found.active;
+    let cost = descriptor::opening_cost(d.layout, d.volume);
+    let end = (d.beta.0 as usize) + (cost as usize);
+    if card.len() / 512 < end {
+        return Answer {
+            number: 11,
+            place: 0,
+        };
+    }
+    take_snapshot(card, d, cost, name);
+    Answer {
+        number: 0,
+        place: 0,
+    }
+}

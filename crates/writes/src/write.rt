@@ -1,0 +1,90 @@
+// A write of one block to the active store.
+use blocks::bytes;
+use blocks::chain;
+use blocks::descriptor::Descriptor;
+use blocks::numbers::Logical;
+use blocks::numbers::Physical;
+use calls::answer::Answer;
+use calls::area;
+use entries::find;
+use entries::find::Found;
+use entries::set;
+ghost use mathlib.Core.Path.{_≡_};
+ghost use Rattle.calls.specs.Call.{Write, Block};
+ghost use Rattle.calls.specs.Effect.{written, WriteReady};
+ghost use Rattle.calls.specs.Step.{step};
+
+// Writes the block through the entry `p` of table block `m`, if there is room.
+fn put(card: &mut [u8], d: Descriptor, m: Physical, p: Physical, l: Logical, block: &[u8]) -> Answer
+    requires { ⌜ WriteReady (now card) d (m .0) (p .0) (l .0) (now block) ⌝ }
+    ensures { λ r. ⌜ record { answer = r; card = now (card .exit) } ≡ written (now (card .entry)) d (Found.Entry m p) (l .0) (now (block .entry)) ⌝ }
+{
+    let need = find::need(d.alpha, Found::Entry(m, p));
+    let beta = d.beta.0;
+    if card.len() / 512 < (beta as usize) + (need as usize) {
+        return Answer {
+            number: 11,
+            place: 0,
+        };
+    }
+    if need == 0 {
+        bytes::store_block(card, p, block);
+        return Answer {
+            number: 0,
+            place: 0,
+        };
+    }
+    if need == 2 {
+        let after = Physical(beta + 1);
+        bytes::store_block(card, after, block);
+        set::set_in_new_table(card, d, m, l);
+        return Answer {
+            number: 0,
+            place: 0,
+        };
+    }
+    bytes::store_block(card, Physical(beta), block);
+    set::set_in_table(card, d, m, l);
+    Answer {
+        number: 0,
+        place: 0,
+    }
+}
+
+// Writes a block of the active store.
+pub fn write(card: &mut [u8], l: Logical, block: &[u8]) -> Answer
+    ensures { λ r. ⌜ record { outcome = record { answer = r; lent = Block (now (block .entry)) }; card = now (card .exit) } ≡ step (Write (l .0) (now (block .entry))) (now (card .entry)) ⌝ }
+{
+    if area::is_bad(card) {
+        return Answer {
+            number: 1,
+            place: 0,
+        };
+    }
+    if block.len() != 512 {
+        return Answer {
+            number: 9,
+            place: 0,
+        };
+    }
+    let found = chain::walk_chain(card);
+    let count = found.count;
+    if !found.sound {
+        let place = found.place.0;
+        return Answer { number: 6, place };
+    }
+    let d = found.active;
+    if d.volume <= l.0 {
+        return Answer {
+            number: 8,
+            place: 0,
+        };
+    }
+    match find::find(card, &found.starts, count, d, l) {
+        Found::Misplaced(h) => Answer {
+            number: 10,
+            place: h.0,
+        },
+        Found::Entry(m, p) => put(card, d, m, p, l, block),
+    }
+}
