@@ -1,5 +1,3 @@
-// Entry finding: the only layer that knows where table entries stand.
-pub mod place; // which blocks an entry may name
-pub mod find; // the entry of a logical block
-pub mod set; // setting an entry
-pub mod check; // the check of one descriptor
+// The entry layer, the only one that knows where table entries stand: its definitions and laws, and the types that these name. It has no function of its own.
+pub mod find; // the result of finding an entry
+pub mod check; // the verdict of a check

@@ -1,0 +1,24 @@
+-- `need` meets its contract, case by case.
+use Rattle.entries.specs.Entry.{need}
+use borrow.Author.Needs.{needs}
+use Rattle.finding.proofs.find.need.Statement.{statement}
+use Rattle.finding.proofs.find.need.Tie as tie
+
+enum-told : tie.Need-enum-told
+enum-told c = search needs
+
+enum-known-found : tie.Need-enum-known-found
+enum-known-found c = search needs
+
+taken-requires : tie.Need-taken-requires
+taken-requires c κs = search needs
+
+returns : tie.Need-returns
+unfolding need
+returns c = cc
+
+returns-2 : tie.Need-returns-2
+returns-2 c = cc
+
+pub need-spec : {M : Type 1} → statement M
+need-spec = tie.close (tie.spec enum-told enum-known-found taken-requires returns returns-2)

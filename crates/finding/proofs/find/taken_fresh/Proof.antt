@@ -1,0 +1,20 @@
+-- `taken_fresh` meets its contract, by its tests.
+use Rattle.blocks.proofs.Tests.{tests}
+use Rattle.entries.specs.Entry.{tableIsNew}
+use Rattle.finding.proofs.find.taken_fresh.Statement.{statement}
+use Rattle.finding.proofs.find.taken_fresh.Tie as tie
+
+returns : tie.Need-returns
+unfolding tableIsNew
+returns c = search tests
+
+returns-2 : tie.Need-returns-2
+unfolding tableIsNew
+returns-2 c = search tests
+
+returns-3 : tie.Need-returns-3
+unfolding tableIsNew
+returns-3 c = search tests
+
+pub taken-fresh-spec : {M : Type 1} → statement M
+taken-fresh-spec = tie.close (tie.spec returns returns-2 returns-3)

@@ -1,0 +1,112 @@
+// Finding the entry of a logical block through a descriptor.
+use crate::place;
+use blocks::bytes;
+use blocks::descriptor::Descriptor;
+use blocks::numbers::Logical;
+use blocks::numbers::Physical;
+use entries::find::Found;
+ghost use mathlib.Core.Path.{_≡_};
+ghost use Prim.Native.Nat.{_+_, _*_, _≤_, _<_, _^_};
+ghost use lib.ListN.{length};
+ghost use Rattle.blocks.specs.Pick.{pick};
+ghost use Rattle.blocks.specs.Descriptor.{physical};
+ghost use Rattle.blocks.specs.Chain.{chain, descriptors};
+ghost use Rattle.entries.specs.Through.{Through};
+ghost use Rattle.entries.specs.Entry.{tableOf, entryAt, entryFound, find as finding, tableIsNew, need as needing};
+
+// The table block of group `i` of 128 logical blocks: the i-th after the descriptor in layout 1, as Phi names it in layout 2.
+pub fn table_of(card: &[u8], d: Descriptor, i: u32) -> Physical
+    requires { ⌜ (512 * d .alpha .0 + 512 ≤ length (now card)) × (i < 112) × (d .alpha .0 + 113 < 2 ^ 32) ⌝ }
+    ensures { λ r. ⌜ r ≡ physical (tableOf (now (card .entry)) d i) ⌝ }
+{
+    let alpha = d.alpha.0;
+    if d.layout == 1 {
+        return Physical(alpha + 1 + i);
+    }
+    let at = 512 * (alpha as usize) + 64 + 4 * (i as usize);
+    Physical(bytes::get_u32(card, at))
+}
+
+// Entry `j` of table block `m`.
+pub fn entry_at(card: &[u8], m: Physical, j: u32) -> Physical
+    requires { ⌜ (512 * m .0 + 512 ≤ length (now card)) × (j < 128) ⌝ }
+    ensures { λ r. ⌜ r ≡ physical (entryAt (now (card .entry)) (m .0) j) ⌝ }
+{
+    let at = 512 * (m.0 as usize) + 4 * (j as usize);
+    Physical(bytes::get_u32(card, at))
+}
+
+// Entry `j` of table block `m`, if it is in place.
+pub fn found_in(
+    card: &[u8],
+    starts: &[u32],
+    count: usize,
+    d: Descriptor,
+    m: Physical,
+    j: u32,
+) -> Found
+    requires { ⌜ Through (now card) (now starts) count d × (512 * m .0 + 512 ≤ length (now card)) × (j < 128) ⌝ }
+    ensures { λ r. ⌜ r ≡ entryFound (descriptors (chain (now (card .entry)))) d (m .0) (entryAt (now (card .entry)) (m .0) j) ⌝ }
+{
+    let p = entry_at(card, m, j);
+    if place::in_place(starts, count, d, p) {
+        return Found::Entry(m, p);
+    }
+    Found::Misplaced(m)
+}
+
+// The entry of logical block `l` through the descriptor `d`.
+pub fn find(card: &[u8], starts: &[u32], count: usize, d: Descriptor, l: Logical) -> Found
+    requires { ⌜ Through (now card) (now starts) count d × (l .0 < d .volume) ⌝ }
+    ensures { λ r. ⌜ r ≡ finding (now (card .entry)) (descriptors (chain (now (card .entry)))) d (l .0) ⌝ }
+{
+    let j = l.0 % 128;
+    let m = table_of(card, d, l.0 / 128);
+    if d.layout == 1 {
+        return found_in(card, starts, count, d, m, j);
+    }
+    if !place::in_place(starts, count, d, m) {
+        let alpha = d.alpha;
+        return Found::Misplaced(alpha);
+    }
+    if m.0 == 0 {
+        return Found::Entry(Physical(0), Physical(0));
+    }
+    found_in(card, starts, count, d, m, j)
+}
+
+// The blocks that a write through what was found takes, in the region that starts at `alpha`.
+pub fn need(alpha: Physical, found: Found) -> u32
+    ensures { λ r. ⌜ r ≡ needing (alpha .0) found ⌝ }
+{
+    match found {
+        Found::Misplaced(_) => 0,
+        Found::Entry(m, p) => taken(alpha.0, m.0, p.0),
+    }
+}
+
+// The same for the table block `m` and the entry `p`.
+fn taken(alpha: u32, m: u32, p: u32) -> u32
+    ensures { λ r. ⌜ r ≡ needing alpha (Found.Entry (physical m) (physical p)) ⌝ }
+{
+    if p == 0 {
+        return taken_fresh(alpha, m);
+    }
+    if alpha <= p {
+        return 0;
+    }
+    taken_fresh(alpha, m)
+}
+
+// The data block, and the table block where that is new.
+fn taken_fresh(alpha: u32, m: u32) -> u32
+    ensures { λ r. ⌜ r ≡ pick (tableIsNew alpha m) 2 1 ⌝ }
+{
+    if m == 0 {
+        return 2;
+    }
+    if m < alpha {
+        return 2;
+    }
+    1
+}

@@ -1,0 +1,47 @@
+// Which blocks an entry may name: the region that contains a block, and 'in place'.
+use blocks::descriptor;
+use blocks::descriptor::Descriptor;
+use blocks::numbers::Physical;
+ghost use mathlib.Core.Path.{_≡_};
+ghost use Prim.Native.Nat.{_<_};
+ghost use lib.ListN.{getD};
+ghost use Rattle.blocks.specs.Descriptor.{costOf};
+ghost use Rattle.entries.specs.InPlace.{regionOf, inPlaceAt};
+ghost use Rattle.entries.specs.Through.{RisingRegions};
+
+// The index of the region that contains block `p`. The regions rise, so that each step halves those that are left.
+pub fn region_of(starts: &[u32], count: usize, p: u32) -> usize
+    requires { ⌜ RisingRegions (now starts) count 0 × (p < getD (now starts) count 0) ⌝ }
+    ensures { λ r. ⌜ r ≡ regionOf (now (starts .entry)) p ⌝ }
+    ensures { λ r. ⌜ r < count ⌝ }
+{
+    let mut low = 0;
+    let mut high = count;
+    while 1 < high - low {
+        let middle = low + (high - low) / 2;
+        if starts[middle] <= p {
+            low = middle;
+        } else {
+            high = middle;
+        }
+    }
+    low
+}
+
+// Whether an entry of the descriptor `d` may name block `p`.
+pub fn in_place(starts: &[u32], count: usize, d: Descriptor, p: Physical) -> bool
+    requires { ⌜ RisingRegions (now starts) count (d .beta .0) ⌝ }
+    ensures { λ r. ⌜ r ≡ inPlaceAt (now (starts .entry)) (costOf d) (d .beta .0) (p .0) ⌝ }
+{
+    let q = p.0;
+    if q == 0 {
+        return true;
+    }
+    if d.beta.0 <= q {
+        return false;
+    }
+    let k = region_of(starts, count, q);
+    let start = starts[k] as usize;
+    let cost = descriptor::opening_cost(d.layout, d.volume) as usize;
+    start + cost <= q as usize
+}

@@ -1,0 +1,199 @@
+// The check of one descriptor: its entries in 01's order, each taken once, with a flag for each block that may not be named any more. The flags are
+// bytes: 255 for a block of an opening, and else the turn of the last descriptor that named the block. The turns rise, so that the flags
+// are cleared only once the last turn is used up.
+use blocks::bytes;
+use blocks::descriptor;
+use blocks::descriptor::Descriptor;
+use blocks::numbers::Physical;
+use entries::check::Verdict;
+use finding::find;
+ghost use mathlib.Core.Path.{_≡_};
+ghost use Prim.Native.Nat.{ℕ, _+_, _*_, _-_, _≤_, _<_};
+ghost use lib.ListN.{length, getD, replicate};
+ghost use lib.Dec.{ltb};
+ghost use Rattle.blocks.specs.Pick.{pick, allZero};
+ghost use Rattle.blocks.specs.Bytes.{part};
+ghost use Rattle.entries.specs.Naming.{tableNamings, tablesNamings, phiNamings, namings};
+ghost use Rattle.entries.specs.Marks.{takes, taking, flagged, openingsFlagged, nextTurn, nextFlags, takingAll, namedTable, TableReady, TablesReady, PhiReady, CheckReady};
+ghost use Rattle.entries.specs.declared.check.Verdict.the-variants.{Passed, Fault};
+
+// Takes an entry of value `v`: says whether it is nil, or counted, below `limit` and not flagged in this turn. A set entry that is taken is flagged.
+fn take_entry(seen: &mut [u8], turn: u8, limit: u32, counted: bool, v: u32) -> bool
+    requires { ⌜ limit ≤ length (now seen) ⌝ }
+    ensures { λ r. ⌜ (r ≡ takes (now (seen .entry)) turn limit counted v) × (now (seen .exit) ≡ taking (now (seen .entry)) turn limit counted v) ⌝ }
+{
+    if v == 0 {
+        return true;
+    }
+    if !counted {
+        return false;
+    }
+    if limit <= v {
+        return false;
+    }
+    let at = v as usize;
+    if turn <= seen[at] {
+        return false;
+    }
+    seen[at] = turn;
+    true
+}
+
+// Clears all flags.
+fn clear_flags(seen: &mut [u8])
+    ensures { λ _. ⌜ now (seen .exit) ≡ replicate (length (now (seen .entry))) 0 ⌝ }
+{
+    let mut i = 0;
+    while i < seen.len() {
+        seen[i] = 0;
+        i += 1;
+    }
+}
+
+// Flags the `n` blocks from block `from` as those of an opening.
+fn mark_blocks(seen: &mut [u8], from: usize, n: usize)
+    requires { ⌜ from + n ≤ length (now seen) ⌝ }
+    ensures { λ _. ⌜ now (seen .exit) ≡ flagged (now (seen .entry)) from n ⌝ }
+{
+    let mut i = 0;
+    while i < n {
+        seen[from + i] = 255;
+        i += 1;
+    }
+}
+
+// Flags the first `cost` blocks of each of the `count` regions.
+pub fn mark_openings(seen: &mut [u8], starts: &[u32], count: usize, cost: usize)
+    requires { ⌜ (count ≤ length (now starts)) × ((k : ℕ) → k < count → getD (now starts) k 0 + cost ≤ length (now seen)) ⌝ }
+    ensures { λ _. ⌜ now (seen .exit) ≡ openingsFlagged (now (seen .entry)) (now (starts .entry)) cost count ⌝ }
+{
+    let mut k = 0;
+    while k < count {
+        let from = starts[k] as usize;
+        mark_blocks(seen, from, cost);
+        k += 1;
+    }
+}
+
+// The turn after `turn`; once the last one is used up the flags are cleared, the openings flagged again, and the turns start again.
+pub fn next_turn(seen: &mut [u8], starts: &[u32], count: usize, cost: usize, turn: u8) -> u8
+    requires { ⌜ (count ≤ length (now starts)) × ((k : ℕ) → k < count → getD (now starts) k 0 + cost ≤ length (now seen)) ⌝ }
+    ensures { λ r. ⌜ (r ≡ nextTurn turn) × (now (seen .exit) ≡ nextFlags (now (seen .entry)) (now (starts .entry)) cost count turn) ⌝ }
+{
+    if turn < 255 {
+        return turn + 1;
+    }
+    clear_flags(seen);
+    mark_openings(seen, starts, count, cost);
+    1
+}
+
+// Where the set entries of table block `m` must stay below: alpha if the table is an old one, else beta.
+fn limit_of(alpha: u32, beta: u32, m: u32) -> u32
+    ensures { λ r. ⌜ r ≡ pick (ltb m alpha) alpha beta ⌝ }
+{
+    if m < alpha {
+        return alpha;
+    }
+    beta
+}
+
+// How many entries stand before L from entry `first` on.
+fn counted_from(volume: u32, first: u32) -> u32
+    ensures { λ r. ⌜ r ≡ volume - first ⌝ }
+{
+    if volume < first {
+        return 0;
+    }
+    volume - first
+}
+
+// Takes the 128 entries of table block `m`, the table of group `i`, up to the first at fault.
+fn check_table(card: &[u8], d: Descriptor, i: u32, m: Physical, seen: &mut [u8], turn: u8) -> bool
+    requires { ⌜ TableReady (now card) d i (m .0) (now seen) ⌝ }
+    ensures { λ r. ⌜ record { verdict = pick r Passed (Fault m); flags = now (seen .exit) } ≡ takingAll d turn (now (seen .entry)) (tableNamings (now (card .entry)) d i (m .0) 128 0) ⌝ }
+{
+    let left = counted_from(d.volume, 128 * i);
+    let limit = limit_of(d.alpha.0, d.beta.0, m.0);
+    let mut j: u32 = 0;
+    while j < 128 {
+        let v = find::entry_at(card, m, j);
+        let counted = j < left;
+        if !take_entry(seen, turn, limit, counted, v.0) {
+            return false;
+        }
+        j += 1;
+    }
+    true
+}
+
+// Takes the entries of table block `m`, the table of group `i`, unless it is nil.
+fn check_named(card: &[u8], d: Descriptor, i: u32, m: Physical, seen: &mut [u8], turn: u8) -> bool
+    requires { ⌜ ((m .0 ≡ 0 → ⊥) → TableReady (now card) d i (m .0) (now seen)) ⌝ }
+    ensures { λ r. ⌜ record { verdict = pick r Passed (Fault m); flags = now (seen .exit) } ≡ takingAll d turn (now (seen .entry)) (namedTable (now (card .entry)) d i (m .0)) ⌝ }
+{
+    if m.0 == 0 {
+        return true;
+    }
+    check_table(card, d, i, m, seen, turn)
+}
+
+// The verdict on the tables of a layout 1 descriptor.
+fn check_tables(card: &[u8], d: Descriptor, n: u32, seen: &mut [u8], turn: u8) -> Verdict
+    requires { ⌜ TablesReady (now card) d n (now seen) ⌝ }
+    ensures { λ r. ⌜ record { verdict = r; flags = now (seen .exit) } ≡ takingAll d turn (now (seen .entry)) (tablesNamings (now (card .entry)) d n 0) ⌝ }
+{
+    let mut i: u32 = 0;
+    while i < n {
+        let m = find::table_of(card, d, i);
+        if !check_table(card, d, i, m, seen, turn) {
+            return Verdict::Fault(m);
+        }
+        i += 1;
+    }
+    Verdict::Passed
+}
+
+// Whether the entries of Phi from entry `n` on are nil, in the descriptor at block `alpha`.
+fn is_clear_past(card: &[u8], alpha: Physical, n: u32) -> bool
+    requires { ⌜ (512 * alpha .0 + 512 ≤ length (now card)) × (n ≤ 112) ⌝ }
+    ensures { λ r. ⌜ r ≡ allZero (part (now (card .entry)) (512 * alpha .0 + 64 + 4 * n) (448 - 4 * n)) ⌝ }
+{
+    let at = 512 * (alpha.0 as usize);
+    bytes::all_zero(&card[at + 64 + 4 * (n as usize)..at + 512])
+}
+
+// The verdict on Phi and the tables that it names, of a layout 2 descriptor with `n` tables.
+fn check_phi(card: &[u8], d: Descriptor, n: u32, seen: &mut [u8], turn: u8) -> Verdict
+    requires { ⌜ PhiReady (now card) d n (now seen) ⌝ }
+    ensures { λ r. ⌜ record { verdict = r; flags = now (seen .exit) } ≡ takingAll d turn (now (seen .entry)) (phiNamings (now (card .entry)) d 112 0) ⌝ }
+{
+    let alpha = d.alpha;
+    let mut i: u32 = 0;
+    while i < n {
+        let table = find::table_of(card, d, i);
+        if !take_entry(seen, turn, d.beta.0, true, table.0) {
+            return Verdict::Fault(alpha);
+        }
+        if !check_named(card, d, i, table, seen, turn) {
+            return Verdict::Fault(table);
+        }
+        i += 1;
+    }
+    if !is_clear_past(card, alpha, n) {
+        return Verdict::Fault(alpha);
+    }
+    Verdict::Passed
+}
+
+// Takes all entries of the descriptor `d` of the chain, in turn `turn` and in 01's order, up to the first at fault.
+pub fn check_one(card: &[u8], d: Descriptor, seen: &mut [u8], turn: u8) -> Verdict
+    requires { ⌜ CheckReady (now card) d (now seen) ⌝ }
+    ensures { λ r. ⌜ record { verdict = r; flags = now (seen .exit) } ≡ takingAll d turn (now (seen .entry)) (namings (now (card .entry)) d) ⌝ }
+{
+    let n = descriptor::table_count(d.volume);
+    if d.layout == 1 {
+        return check_tables(card, d, n, seen, turn);
+    }
+    check_phi(card, d, n, seen, turn)
+}

@@ -1,0 +1,2 @@
+// The check of one descriptor, by its entries.
+pub mod check; // the check of one descriptor
