@@ -8,9 +8,9 @@ use Rattle.blocks.specs.Bytes.{blockCount}
 use Rattle.calls.specs.Call.{Call, Ream, Read, Write, Snap, Revert, Listing, Check, answer}
 use Rattle.calls.specs.Parts.{areaBad}
 use Rattle.calls.specs.Ladder.{firstRow, reamRows, readRows, writeRows, snapRows, revertRows, listRows, checkRows, rowsOf, answerOf}
-use Rattle.claims.specs.Bench.{Value, Result, expected, computed, showing, blockOf}
+use Rattle.claims.specs.Bench.{Value, Result, expected, computed}
 use Rattle.edges.specs.Edges.{only, named4, region6, shared4, snapped, pair, old, tables2, areaEdges, refusedEdges, nameEdges, formEdges, chainEdges, entryEdges, openingEdges, tableEdges, faultEdges, walkEdges, threeEdges, passingEdges, roomEdges, orderEdges, edges, allowed, NameBytes, SizeEdges}
-use Rattle.claims.proofs.Running.{running}
+use Rattle.edges.proofs.FastCheck.{quick, quick-all, runningOnce}
 
 -- the values of a list are as the table says; so are those of two lists
 record AsSaid (vs : List Value) : Type 0 where
@@ -27,101 +27,105 @@ _and_ {xs = xs} {ys = ys} e f =
           ∙ sym (map-append expected xs ys);
     }
 
+-- values that are as the table says where check is computed in one pass
+quickly : (vs : List Value) → map quick vs ≡ map expected vs → AsSaid vs
+quickly vs e = record { as-said = quick-all vs ∙ e }
+
 area-edges : AsSaid areaEdges
-unfolding running areaEdges expected computed showing blockOf
-area-edges = record { as-said = refl }
+unfolding runningOnce areaEdges
+area-edges = quickly _ refl
 
 refused-edges : AsSaid refusedEdges
-unfolding running refusedEdges expected computed showing blockOf
-refused-edges = record { as-said = refl }
+unfolding runningOnce refusedEdges
+refused-edges = quickly _ refl
 
 name-edges : AsSaid nameEdges
-unfolding running nameEdges expected computed showing blockOf
-name-edges = record { as-said = refl }
+unfolding runningOnce nameEdges
+name-edges = quickly _ refl
 
 form-edges : AsSaid formEdges
-unfolding running formEdges expected computed showing blockOf
-form-edges = record { as-said = refl }
+unfolding runningOnce formEdges
+form-edges = quickly _ refl
 
 chain-edges : AsSaid chainEdges
-unfolding running chainEdges expected computed showing blockOf
-chain-edges = record { as-said = refl }
+unfolding runningOnce chainEdges
+chain-edges = quickly _ refl
 
 entry-edges : AsSaid entryEdges
-unfolding running entryEdges expected computed showing blockOf
-entry-edges = record { as-said = refl }
+unfolding runningOnce entryEdges
+entry-edges = quickly _ refl
 
 opening-edges : AsSaid openingEdges
-unfolding running openingEdges expected computed showing blockOf
-opening-edges = record { as-said = refl }
+unfolding runningOnce openingEdges
+opening-edges = quickly _ refl
 
 table-edges : AsSaid tableEdges
-unfolding running tableEdges expected computed showing blockOf
-table-edges = record { as-said = refl }
+unfolding runningOnce tableEdges
+table-edges = quickly _ refl
 
 fault-edges : AsSaid faultEdges
-unfolding running faultEdges expected computed showing blockOf
-fault-edges = record { as-said = refl }
+unfolding runningOnce faultEdges
+fault-edges = quickly _ refl
 
 walk-edges : AsSaid walkEdges
-unfolding running walkEdges expected computed showing blockOf
-walk-edges = record { as-said = refl }
+unfolding runningOnce walkEdges
+walk-edges = quickly _ refl
 
 three-edges : AsSaid threeEdges
-unfolding running threeEdges expected computed showing blockOf
-three-edges = record { as-said = refl }
+unfolding runningOnce threeEdges
+three-edges = quickly _ refl
 
 -- check answers 0: one theorem for each card, since it takes every entry
 abbrev Passing : List ℕ → Type 0
 Passing c = AsSaid (only c Check 0 0 ∷ [])
 
 named-passes : Passing named4
-unfolding running expected computed showing blockOf
-named-passes = record { as-said = refl }
+unfolding runningOnce
+named-passes = quickly _ refl
 
 region-passes : Passing region6
-unfolding running expected computed showing blockOf
-region-passes = record { as-said = refl }
+unfolding runningOnce
+region-passes = quickly _ refl
 
 shared-passes : Passing shared4
-unfolding running expected computed showing blockOf
-shared-passes = record { as-said = refl }
+unfolding runningOnce
+shared-passes = quickly _ refl
 
 both-passes : Passing (pair 2 2)
-unfolding running expected computed showing blockOf
-both-passes = record { as-said = refl }
+unfolding runningOnce
+both-passes = quickly _ refl
 
 freed-passes : Passing (pair 2 0)
-unfolding running expected computed showing blockOf
-freed-passes = record { as-said = refl }
+unfolding runningOnce
+freed-passes = quickly _ refl
 
 old-passes : Passing (old 0)
-unfolding running expected computed showing blockOf
-old-passes = record { as-said = refl }
+unfolding runningOnce
+old-passes = quickly _ refl
 
 turned-passes : Passing (tables2 129 2 1 0 0 3)
-unfolding running expected computed showing blockOf
-turned-passes = record { as-said = refl }
+unfolding runningOnce
+turned-passes = quickly _ refl
 
 own-passes : Passing (snapped 2 3)
-unfolding running expected computed showing blockOf
-own-passes = record { as-said = refl }
+unfolding runningOnce
+own-passes = quickly _ refl
 
 pair-passes : Passing (pair 2 5)
-unfolding running expected computed showing blockOf
-pair-passes = record { as-said = refl }
+unfolding runningOnce
+pair-passes = quickly _ refl
 
 passing-edges : AsSaid passingEdges
 unfolding passingEdges
 passing-edges = named-passes and region-passes and shared-passes and both-passes and freed-passes and old-passes and turned-passes and own-passes and pair-passes
 
 room-edges : AsSaid roomEdges
-unfolding running roomEdges expected computed showing blockOf
-room-edges = record { as-said = refl }
+unfolding runningOnce roomEdges
+room-edges = quickly _ refl
 
 order-edges : AsSaid orderEdges
-unfolding running orderEdges expected computed showing blockOf
-order-edges = record { as-said = refl }
+unfolding runningOnce orderEdges
+order-edges = quickly _ refl
 
 whole : AsSaid edges
 unfolding edges
@@ -145,7 +149,7 @@ pub edge-values : map computed edges ≡ map expected edges
 edge-values = whole .as-said
 
 pub name-bytes : NameBytes
-unfolding running allowed NameBytes
+unfolding runningOnce allowed NameBytes
 name-bytes = (refl, refl)
 
 -- the first row of every call
