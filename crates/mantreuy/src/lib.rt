@@ -1,6 +1,5 @@
 // The static library that C and Rust programs link: the seven calls and the padding of a name, on numbers and lent bytes.
 // Each call returns the number of its answer and stores the place; its contract is one equation, by the calls' `step`, the listing's by `listingOf`.
-use blocks::chain;
 use blocks::descriptor;
 use blocks::name;
 use blocks::numbers::Logical;
@@ -11,6 +10,7 @@ use reading::read;
 use storing::ream;
 use storing::revert;
 use storing::snap;
+use walking::chain;
 use writes::write;
 ghost use mathlib.Core.Path.{_≡_};
 ghost use Rattle.calls.specs.Call.{Ream, Read, Write, Snap, Revert, Check, None, Block, answer};

@@ -1,11 +1,11 @@
 // The check of a card.
-use blocks::chain;
 use blocks::descriptor;
 use blocks::descriptor::Descriptor;
 use calls::answer::Answer;
 use calls::area;
 use entries::check::Verdict;
 use judging::check as rules;
+use walking::chain;
 ghost use mathlib.Core.Path.{_≡_};
 ghost use mathlib.Core.Bool.{true, false};
 ghost use Prim.Native.Nat.{ℕ, _*_, _≤_};

@@ -1,5 +1,4 @@
 // A listing of the chain.
-use blocks::chain;
 use blocks::descriptor;
 use blocks::numbers::Physical;
 use calls::answer::Answer;
@@ -7,6 +6,7 @@ use calls::answer::Record;
 use calls::area;
 use calls::list::Filling;
 use calls::list::Plan;
+use walking::chain;
 ghost use mathlib.Core.Path.{_≡_};
 ghost use mathlib.Core.List.{List};
 ghost use Prim.Native.Nat.{ℕ, _+_, _*_, _≤_, _<_};

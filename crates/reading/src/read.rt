@@ -1,6 +1,5 @@
 // A read of one block.
 use blocks::bytes;
-use blocks::chain;
 use blocks::descriptor::Descriptor;
 use blocks::name;
 use blocks::numbers::Logical;
@@ -10,6 +9,7 @@ use calls::answer::Target;
 use calls::area;
 use entries::find::Found;
 use finding::find;
+use walking::chain;
 ghost use mathlib.Core.Path.{_≡_};
 ghost use mathlib.Core.Bool.{_&&_, not};
 ghost use Prim.Native.Nat.{ℕ, _+_, _*_, _-_, _≤_, _<_};

@@ -1,11 +1,11 @@
 // Back to a snapshot.
-use blocks::chain;
 use blocks::descriptor;
 use blocks::descriptor::Descriptor;
 use blocks::name;
 use blocks::numbers::Physical;
 use calls::answer::Answer;
 use calls::area;
+use walking::chain;
 ghost use mathlib.Core.Path.{_≡_};
 ghost use Prim.Native.Nat.{_+_, _*_, _≤_};
 ghost use lib.ListN.{length};

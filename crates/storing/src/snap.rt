@@ -1,12 +1,12 @@
 // A snapshot of the active volume.
 use blocks::bytes;
-use blocks::chain;
 use blocks::descriptor;
 use blocks::descriptor::Descriptor;
 use blocks::name;
 use blocks::numbers::Physical;
 use calls::answer::Answer;
 use calls::area;
+use walking::chain;
 ghost use mathlib.Core.Path.{_≡_};
 ghost use Prim.Native.Nat.{_+_, _*_, _≤_, _<_};
 ghost use lib.ListN.{length};

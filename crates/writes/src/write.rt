@@ -1,6 +1,5 @@
 // A write of one block to the active store.
 use blocks::bytes;
-use blocks::chain;
 use blocks::descriptor::Descriptor;
 use blocks::numbers::Logical;
 use blocks::numbers::Physical;
@@ -9,6 +8,7 @@ use calls::area;
 use entries::find::Found;
 use finding::find;
 use finding::set;
+use walking::chain;
 ghost use mathlib.Core.Path.{_≡_};
 ghost use Rattle.calls.specs.Call.{Write, Block};
 ghost use Rattle.calls.specs.Effect.{written, WriteReady};

@@ -1,0 +1,271 @@
+// The walk along the chain of descriptors, for any bytes whatever.
+use blocks::bytes;
+use blocks::chain::Regions;
+use blocks::descriptor;
+use blocks::descriptor::Descriptor;
+use blocks::name;
+use blocks::numbers::Physical;
+ghost use mathlib.Core.Path.{_≡_};
+ghost use mathlib.Core.Bool.{true, _&&_};
+ghost use Prim.Native.Nat.{ℕ, _+_, _*_, _≤_, _<_};
+ghost use lib.ListN.{length, take, getD};
+ghost use lib.Dec.{eqb};
+ghost use Rattle.blocks.specs.Pick.{pick, same};
+ghost use Rattle.blocks.specs.Bytes.{part};
+ghost use Rattle.blocks.specs.Name.{isName};
+ghost use Rattle.blocks.specs.Descriptor.{physical, mark, descriptorAt, reservedOk};
+ghost use Rattle.blocks.specs.Chain.{formOk, regionOk, indexOf, named, descriptorsAt, chain, regionsOf, Unsound};
+ghost use Rattle.blocks.specs.Walk.{Keyed};
+
+// Whether block `p` begins with the mark.
+pub fn has_mark(card: &[u8], p: Physical) -> bool
+    requires { ⌜ 512 * p .0 + 512 ≤ length (now card) ⌝ }
+    ensures { λ r. ⌜ r ≡ same (part (now (card .entry)) (512 * p .0) 4) mark ⌝ }
+{
+    let at = 512 * (p.0 as usize);
+    bytes::same_bytes(&card[at..at + 4], b"snap")
+}
+
+// Whether bytes 40 to 63 of a descriptor block are as they must be.
+pub fn is_reserved(reserved: &[u8]) -> bool
+    ensures { λ r. ⌜ r ≡ reservedOk (now (reserved .entry)) ⌝ }
+{
+    bytes::all_zero(reserved)
+}
+
+// Whether the name in block `p` is one. It is judged where it stands: a copy would have to be stored first.
+fn is_called(card: &[u8], p: Physical) -> bool
+    requires { ⌜ 512 * p .0 + 512 ≤ length (now card) ⌝ }
+    ensures { λ r. ⌜ r ≡ isName (descriptorAt (now (card .entry)) (p .0) .name) ⌝ }
+{
+    let at = 512 * (p.0 as usize);
+    name::are_name(&card[at + 24..at + 40])
+}
+
+// Whether mark, layout, L, name and zero bytes of block `p` are those of a descriptor; `d` is what its bytes say.
+pub fn is_formed(card: &[u8], p: Physical, d: Descriptor) -> bool
+    requires { ⌜ (512 * p .0 + 512 ≤ length (now card)) × (d ≡ descriptorAt (now card) (p .0)) ⌝ }
+    ensures { λ r. ⌜ r ≡ formOk (now (card .entry)) (p .0) d ⌝ }
+{
+    let at = 512 * (p.0 as usize);
+    let layout = d.layout;
+    let volume = d.volume;
+    if !has_mark(card, p) {
+        return false;
+    }
+    if layout == 0 {
+        return false;
+    }
+    if 2 < layout {
+        return false;
+    }
+    if volume == 0 {
+        return false;
+    }
+    if 14336 < volume {
+        return false;
+    }
+    if !is_called(card, p) {
+        return false;
+    }
+    if !is_reserved(&card[at + 40..at + 64]) {
+        return false;
+    }
+    if layout != 1 {
+        return true;
+    }
+    bytes::all_zero(&card[at + 64..at + 512])
+}
+
+// Whether layout and L are those of block 0, and alpha, beta and next those of a region that starts at block `p` of `n`.
+pub fn is_placed(first: Descriptor, n: usize, p: Physical, d: Descriptor) -> bool
+    ensures { λ r. ⌜ r ≡ regionOk first n (p .0) d ⌝ }
+{
+    let layout = d.layout;
+    let volume = d.volume;
+    let alpha = d.alpha.0 as usize;
+    let beta = d.beta.0 as usize;
+    let next = d.next.0 as usize;
+    if layout != first.layout {
+        return false;
+    }
+    if volume != first.volume {
+        return false;
+    }
+    if alpha != p.0 as usize {
+        return false;
+    }
+    let cost = descriptor::opening_cost(layout, volume) as usize;
+    if beta < alpha + cost {
+        return false;
+    }
+    if n < beta {
+        return false;
+    }
+    if next == 0 {
+        return true;
+    }
+    if next != beta {
+        return false;
+    }
+    beta < n
+}
+
+// Whether the descriptor in block `p` has the name: names that differ do so in one of two 64-bit words.
+fn has_name(card: &[u8], p: Physical, name: [u8; 16]) -> bool
+    requires { ⌜ 512 * p .0 + 512 ≤ length (now card) ⌝ }
+    ensures { λ r. ⌜ r ≡ same (descriptorAt (now (card .entry)) (p .0) .name) name ⌝ }
+{
+    let at = 512 * (p.0 as usize) + 24;
+    if bytes::get_u64(card, at) != bytes::get_u64(&name, 0) {
+        return false;
+    }
+    if bytes::get_u64(card, at + 8) != bytes::get_u64(&name, 8) {
+        return false;
+    }
+    bytes::same_bytes(&card[at..at + 16], &name)
+}
+
+// The index of the first of `n` descriptors that has the name, or `n` where none has it.
+pub fn index_of(card: &[u8], starts: &[u32], n: usize, name: [u8; 16]) -> usize
+    requires { ⌜ (n ≤ length (now starts)) × ((j : ℕ) → j < n → 512 * getD (now starts) j 0 + 512 ≤ length (now card)) ⌝ }
+    ensures { λ r. ⌜ r ≡ indexOf (descriptorsAt (now (card .entry)) (take n (now (starts .entry)))) name ⌝ }
+    ensures { λ r. ⌜ r ≤ n ⌝ }
+{
+    let mut j = 0;
+    while j < n {
+        let p = starts[j];
+        if has_name(card, Physical(p), name) {
+            return j;
+        }
+        j += 1;
+    }
+    j
+}
+
+// Whether one of the descriptors in the first `k` blocks of `starts` has the name.
+pub fn is_named(card: &[u8], starts: &[u32], k: usize, name: [u8; 16]) -> bool
+    requires { ⌜ (k ≤ length (now starts)) × ((j : ℕ) → j < k → 512 * getD (now starts) j 0 + 512 ≤ length (now card)) ⌝ }
+    ensures { λ r. ⌜ r ≡ named (descriptorsAt (now (card .entry)) (take k (now (starts .entry)))) name ⌝ }
+{
+    index_of(card, starts, k, name) < k
+}
+
+// The same, where `keys` has a flag for the key of each of their names: a key without one is of no name among them.
+fn is_repeated(card: &[u8], starts: &[u32], k: usize, keys: &[bool], name: [u8; 16]) -> bool
+    requires { ⌜ Keyed (now card) (now starts) k (now keys) × (k ≤ length (now starts)) × ((j : ℕ) → j < k → 512 * getD (now starts) j 0 + 512 ≤ length (now card)) ⌝ }
+    ensures { λ r. ⌜ r ≡ named (descriptorsAt (now (card .entry)) (take k (now (starts .entry)))) name ⌝ }
+{
+    let key = name::key(name);
+    if !keys[key] {
+        return false;
+    }
+    is_named(card, starts, k, name)
+}
+
+fn unsound(p: u32) -> Regions
+    ensures { λ r. ⌜ r ≡ regionsOf (Unsound p) ⌝ }
+{
+    Regions {
+        sound: false,
+        place: Physical(p),
+        active: Descriptor {
+            layout: 0,
+            volume: 0,
+            alpha: Physical(0),
+            beta: Physical(1),
+            next: Physical(0),
+            name: [0u8; 16],
+        },
+        count: 0,
+        starts: [0u32; 257],
+    }
+}
+
+// Whether the descriptor `d` in block `p` of `n` is formed and placed as it must be.
+fn is_right(card: &[u8], first: Descriptor, n: usize, p: Physical, d: Descriptor) -> bool
+    requires { ⌜ (512 * p .0 + 512 ≤ length (now card)) × (d ≡ descriptorAt (now card) (p .0)) ⌝ }
+    ensures { λ r. ⌜ r ≡ (formOk (now (card .entry)) (p .0) d && regionOk first n (p .0) d) ⌝ }
+{
+    if !is_formed(card, p, d) {
+        return false;
+    }
+    is_placed(first, n, p, d)
+}
+
+// Walks the chain of the card. A flag for each name's key says of most names that no earlier descriptor has them.
+pub fn walk_chain(card: &[u8]) -> Regions
+    ensures { λ r. ⌜ r ≡ regionsOf (chain (now (card .entry))) ⌝ }
+{
+    let n = card.len() / 512;
+    if n == 0 {
+        return unsound(0);
+    }
+    let first = descriptor::read_descriptor(card, Physical(0));
+    let mut d = first;
+    let mut starts = [0u32; 257];
+    let mut keys = [false; 1024];
+    let mut p: u32 = 0;
+    let mut k: usize = 0;
+    while k < 256 {
+        if !is_right(card, first, n, Physical(p), d) {
+            return unsound(p);
+        }
+        let name = d.name;
+        if is_repeated(card, &starts, k, &keys, name) {
+            return unsound(p);
+        }
+        keys[name::key(name)] = true;
+        let beta = d.beta.0;
+        let next = d.next.0;
+        k += 1;
+        starts[k] = beta;
+        if next == 0 {
+            return Regions {
+                sound: true,
+                place: Physical(0),
+                active: d,
+                count: k,
+                starts,
+            };
+        }
+        p = next;
+        d = descriptor::read_descriptor(card, Physical(p));
+    }
+    unsound(p)
+}
+
+// The next of region `k` of `count`, which ends at block `end`.
+pub fn next_of(end: u32, k: usize, count: usize) -> Physical
+    requires { ⌜ k < count ⌝ }
+    ensures { λ r. ⌜ r ≡ physical (pick (eqb (k + 1) count) 0 end) ⌝ }
+{
+    if k + 1 == count {
+        return Physical(0);
+    }
+    Physical(end)
+}
+
+// The descriptor of region `k`, by what the walk found: of its bytes the name alone is read again.
+pub fn descriptor_of(
+    card: &[u8],
+    active: Descriptor,
+    starts: &[u32],
+    count: usize,
+    k: usize,
+) -> Descriptor
+    requires { ⌜ (regionsOf (chain (now card)) ≡ record { sound = true; place = physical 0; active = active; count = count; starts = now starts }) × (k < count) ⌝ }
+    ensures { λ r. ⌜ r ≡ descriptorAt (now (card .entry)) (getD (now (starts .entry)) k 0) ⌝ }
+{
+    let start = starts[k];
+    let end = starts[k + 1];
+    let name = descriptor::name_at(card, Physical(start));
+    Descriptor {
+        layout: active.layout,
+        volume: active.volume,
+        alpha: Physical(start),
+        beta: Physical(end),
+        next: next_of(end, k, count),
+        name,
+    }
+}
