@@ -1,4 +1,3 @@
-// The work sheet: one line after the other.
-pub mod run; // what a line does
-pub mod print; // what it prints
-pub mod next; // a turn of the program
+// The work sheet: its definitions and laws, and the types that these name. It has no function of its own.
+pub mod run; // what a line leaves
+pub mod next; // what a turn leaves

@@ -1,6 +1,6 @@
 // The sheet program: it reads a work sheet on standard input and prints what each line answers.
-use sheet::next;
-use sheet::print;
+use turns::next;
+use turns::print;
 
 fn main() {
     let mut input = [0u8; 16385];

@@ -1,0 +1,2 @@
+// The lines of a work sheet, each with its call.
+pub mod run; // what a line does

@@ -1,0 +1,221 @@
+// One line of a work sheet.
+use blocks::numbers::Logical;
+use calls::answer::Answer;
+use calls::answer::Record;
+use calls::answer::Target;
+use cutter::line::Line;
+use cutter::line::SheetCall;
+use reading::check;
+use reading::list;
+use reading::read;
+use sheet::run::Ran;
+use sheet::run::Shown;
+use storing::ream;
+use storing::revert;
+use storing::snap;
+use writes::write;
+ghost use mathlib.Core.Path.{_≡_};
+ghost use Prim.Native.Nat.{_≤_};
+ghost use lib.ListN.{length};
+ghost use Rattle.blocks.specs.Name.{noName};
+ghost use Rattle.sheet.specs.Sheet.{sizeOf, countOf, afterCall, afterLine};
+
+// A format, of the first `size` blocks: where it is accepted, these are the card.
+fn run_ream(
+    area: &mut [u8],
+    blocks: u32,
+    records: [Record; 64],
+    layout: u32,
+    size: u32,
+    volume: u32,
+    name: [u8; 16],
+) -> Ran
+    requires { ⌜ (length (now area) ≡ 32768) × (blocks ≤ 64) × (size ≤ 64) ⌝ }
+    ensures { λ r. ⌜ record { ran = r; area = now (area .exit) } ≡ afterCall (record { area = now (area .entry); blocks = blocks; records = records }) (SheetCall.Ream layout size volume) name ⌝ }
+{
+    let end = 512 * (size as usize);
+    let answer = ream::ream(&mut area[..end], layout, volume, name);
+    let refusal = answer.number;
+    if refusal != 0 {
+        return Ran {
+            answer,
+            blocks,
+            shown: Shown::Nothing,
+            records,
+            ended: false,
+        };
+    }
+    Ran {
+        answer,
+        blocks: size,
+        shown: Shown::Nothing,
+        records,
+        ended: false,
+    }
+}
+
+// A write of a block full of one byte.
+fn run_write(area: &mut [u8], blocks: u32, records: [Record; 64], l: Logical, fill: u8) -> Ran
+    requires { ⌜ (length (now area) ≡ 32768) × (blocks ≤ 64) ⌝ }
+    ensures { λ r. ⌜ record { ran = r; area = now (area .exit) } ≡ afterCall (record { area = now (area .entry); blocks = blocks; records = records }) (SheetCall.Write l fill) noName ⌝ }
+{
+    let end = 512 * (blocks as usize);
+    let block = [fill; 512];
+    let answer = write::write(&mut area[..end], l, &block);
+    Ran {
+        answer,
+        blocks,
+        shown: Shown::Nothing,
+        records,
+        ended: false,
+    }
+}
+
+// A read, which shows the first byte.
+fn run_read(
+    area: &[u8],
+    blocks: u32,
+    records: [Record; 64],
+    target: Target,
+    l: Logical,
+    name: [u8; 16],
+) -> Ran
+    requires { ⌜ (length (now area) ≡ 32768) × (blocks ≤ 64) ⌝ }
+    ensures { λ r. ⌜ record { ran = r; area = now (area .entry) } ≡ afterCall (record { area = now (area .entry); blocks = blocks; records = records }) (SheetCall.Read target l) name ⌝ }
+{
+    let end = 512 * (blocks as usize);
+    let mut block = [0u8; 512];
+    let answer = read::read(&area[..end], target, name, l, &mut block);
+    let number = answer.number;
+    let first = block[0];
+    if number != 0 {
+        return Ran {
+            answer,
+            blocks,
+            shown: Shown::Nothing,
+            records,
+            ended: false,
+        };
+    }
+    Ran {
+        answer,
+        blocks,
+        shown: Shown::Byte(first),
+        records,
+        ended: false,
+    }
+}
+
+// A snapshot under the name.
+fn run_snap(area: &mut [u8], blocks: u32, records: [Record; 64], name: [u8; 16]) -> Ran
+    requires { ⌜ (length (now area) ≡ 32768) × (blocks ≤ 64) ⌝ }
+    ensures { λ r. ⌜ record { ran = r; area = now (area .exit) } ≡ afterCall (record { area = now (area .entry); blocks = blocks; records = records }) (SheetCall.Snap) name ⌝ }
+{
+    let end = 512 * (blocks as usize);
+    let answer = snap::snap(&mut area[..end], name);
+    Ran {
+        answer,
+        blocks,
+        shown: Shown::Nothing,
+        records,
+        ended: false,
+    }
+}
+
+// A rollback to the snapshot of the name.
+fn run_revert(area: &mut [u8], blocks: u32, records: [Record; 64], name: [u8; 16]) -> Ran
+    requires { ⌜ (length (now area) ≡ 32768) × (blocks ≤ 64) ⌝ }
+    ensures { λ r. ⌜ record { ran = r; area = now (area .exit) } ≡ afterCall (record { area = now (area .entry); blocks = blocks; records = records }) (SheetCall.Revert) name ⌝ }
+{
+    let end = 512 * (blocks as usize);
+    let answer = revert::revert(&mut area[..end], name);
+    Ran {
+        answer,
+        blocks,
+        shown: Shown::Nothing,
+        records,
+        ended: false,
+    }
+}
+
+// A listing, which shows a record for each descriptor.
+fn run_list(area: &[u8], blocks: u32, records: [Record; 64]) -> Ran
+    requires { ⌜ (length (now area) ≡ 32768) × (blocks ≤ 64) ⌝ }
+    ensures { λ r. ⌜ record { ran = r; area = now (area .entry) } ≡ afterCall (record { area = now (area .entry); blocks = blocks; records = records }) (SheetCall.List) noName ⌝ }
+{
+    let end = 512 * (blocks as usize);
+    let found = list::list_64(&area[..end], records);
+    let answer = found.answer;
+    let count = found.count;
+    let filled = found.records;
+    let number = answer.number;
+    if number != 0 {
+        return Ran {
+            answer,
+            blocks,
+            shown: Shown::Nothing,
+            records: filled,
+            ended: false,
+        };
+    }
+    Ran {
+        answer,
+        blocks,
+        shown: Shown::Listed(count),
+        records: filled,
+        ended: false,
+    }
+}
+
+// A check.
+fn run_check(area: &[u8], blocks: u32, records: [Record; 64]) -> Ran
+    requires { ⌜ (length (now area) ≡ 32768) × (blocks ≤ 64) ⌝ }
+    ensures { λ r. ⌜ record { ran = r; area = now (area .entry) } ≡ afterCall (record { area = now (area .entry); blocks = blocks; records = records }) (SheetCall.Check) noName ⌝ }
+{
+    let end = 512 * (blocks as usize);
+    let answer = check::check(&area[..end]);
+    Ran {
+        answer,
+        blocks,
+        shown: Shown::Nothing,
+        records,
+        ended: false,
+    }
+}
+
+// One line: the call that it asks for, or 15 with the line's number, after which the sheet ends.
+pub fn run_line(area: &mut [u8], blocks: u32, records: [Record; 64], number: u32, line: Line) -> Ran
+    requires { ⌜ (length (now area) ≡ 32768) × (blocks ≤ 64) × (sizeOf (line .call) ≤ 64) ⌝ }
+    ensures { λ r. ⌜ record { ran = r; area = now (area .exit) } ≡ afterLine (record { area = now (area .entry); blocks = blocks; records = records }) number line ⌝ }
+    ensures { λ r. ⌜ (r .blocks ≤ 64) × (countOf (r .shown) ≤ 64) ⌝ }
+{
+    let call = line.call;
+    let name = line.name;
+    match call {
+        SheetCall::Malformed => Ran {
+            answer: Answer {
+                number: 15,
+                place: number,
+            },
+            blocks,
+            shown: Shown::Nothing,
+            records,
+            ended: true,
+        },
+        SheetCall::Ream(layout, size, volume) => run_ream(
+            area,
+            blocks,
+            records,
+            layout,
+            size,
+            volume,
+            name,
+        ),
+        SheetCall::Write(l, fill) => run_write(area, blocks, records, l, fill),
+        SheetCall::Read(target, l) => run_read(area, blocks, records, target, l, name),
+        SheetCall::Snap => run_snap(area, blocks, records, name),
+        SheetCall::Revert => run_revert(area, blocks, records, name),
+        SheetCall::List => run_list(area, blocks, records),
+        SheetCall::Check => run_check(area, blocks, records),
+    }
+}
