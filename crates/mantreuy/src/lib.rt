@@ -4,7 +4,7 @@ use blocks::descriptor;
 use blocks::name;
 use blocks::numbers::Logical;
 use calls::area;
-use reading::check;
+use checking::check;
 use reading::list;
 use reading::read;
 use storing::ream;

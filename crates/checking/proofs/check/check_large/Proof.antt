@@ -3,8 +3,8 @@ use native.Mathlib.Omega.{arith}
 use borrow.Author.Needs.{needs}
 use Rattle.entries.proofs.OpeningLaws.{replicate-clear}
 use Rattle.calls.proofs.CardLaws.{card-small}
-use Rattle.reading.proofs.check.check_large.Statement.{statement}
-use Rattle.reading.proofs.check.check_large.Tie as tie
+use Rattle.checking.proofs.check.check_large.Statement.{statement}
+use Rattle.checking.proofs.check.check_large.Tie as tie
 
 slice-aggregate-check-chain : tie.Need-slice-aggregate-check-chain
 slice-aggregate-check-chain c = search needs

@@ -9,8 +9,8 @@ use Rattle.calls.proofs.CardLaws.{regions-whole}
 use Rattle.calls.proofs.RowLaws.{area-given}
 use Rattle.calls.proofs.CheckCardLaws.{check-6, check-0, check-10}
 use borrow.Author.Needs.{needs}
-use Rattle.reading.proofs.check.check.Statement.{statement}
-use Rattle.reading.proofs.check.check.Tie as tie
+use Rattle.checking.proofs.check.check.Statement.{statement}
+use Rattle.checking.proofs.check.check.Tie as tie
 
 is-bad-requires : tie.Need-is-bad-requires
 is-bad-requires c κs = search needs

@@ -7,8 +7,8 @@ use borrow.Author.Needs.{needs}
 use Rattle.blocks.specs.Chain.{chain, descriptors}
 use Rattle.calls.specs.Check.{takingChain}
 use Rattle.calls.proofs.CheckCardLaws.{chain-few, chain-ready, chain-ask, chain-end, chain-more, chain-stop, chain-told}
-use Rattle.reading.proofs.check.check_chain.Statement.{statement}
-use Rattle.reading.proofs.check.check_chain.Tie as tie
+use Rattle.checking.proofs.check.check_chain.Statement.{statement}
+use Rattle.checking.proofs.check.check_chain.Tie as tie
 
 abbrev Inv-loop : tie.InvT-loop
 Inv-loop card active starts count seen₀ cost turn₀ k₀ seen turn k =
@@ -74,7 +74,7 @@ returns c =
     let p = m .before .before in
     let q = p .before .before .before .before .pre in
     chain-told _ _ _ _ (q .0) (q .1) _ (p .opening-cost .ensures) _ (q .3) (q .2) _ (m .mark-openings .ensures) _
-    (chain-stop _ _ _ _ (q .0) (q .1) _ _ _ _ _ (l .loop .inv .2) (omega arith) _ _ (t .next-turn .ensures) _ (o .before .before .descriptor-of .ensures) _ _ (o .check-one .ensures) _ (cc))
+    (chain-stop _ _ _ _ (q .0) (q .1) _ _ _ _ _ (l .loop .inv .2) (omega arith) _ _ (t .next-turn .ensures) _ (o .before .before .descriptor-of .ensures) _ _ (o .check-one .ensures) _ (c .before .v .given .1))
 
 enum-told : tie.Need-enum-told Inv-loop μ-loop
 enum-told c = search needs
@@ -96,7 +96,7 @@ loop-again c =
     let q = l .before .before .before .before .before .before .before .before .before .pre in (
       omega arith,
       o .check-one .kept .1 .1 .0 ∙ t .next-turn .kept .0 ∙ l .loop .inv .1,
-      chain-more _ _ _ _ (q .0) (q .1) _ _ _ _ _ (l .loop .inv .2) (omega arith) _ _ (t .next-turn .ensures) _ (o .before .before .descriptor-of .ensures) _ _ (o .check-one .ensures) (cc),
+      chain-more _ _ _ _ (q .0) (q .1) _ _ _ _ _ (l .loop .inv .2) (omega arith) _ _ (t .next-turn .ensures) _ (o .before .before .descriptor-of .ensures) _ _ (o .check-one .ensures) (c .enum-told .given .1),
     )
 
 same-length-2 : tie.Need-same-length-2 Inv-loop μ-loop

@@ -2,8 +2,8 @@
 use native.Mathlib.Omega.{arith}
 use borrow.Author.Needs.{needs}
 use Rattle.entries.proofs.OpeningLaws.{replicate-clear}
-use Rattle.reading.proofs.check.check_small.Statement.{statement}
-use Rattle.reading.proofs.check.check_small.Tie as tie
+use Rattle.checking.proofs.check.check_small.Statement.{statement}
+use Rattle.checking.proofs.check.check_small.Tie as tie
 
 slice-aggregate-check-chain : tie.Need-slice-aggregate-check-chain
 slice-aggregate-check-chain c = search needs
