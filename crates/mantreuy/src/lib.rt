@@ -3,6 +3,8 @@
 use blocks::descriptor;
 use blocks::name;
 use blocks::numbers::Logical;
+use boundary::argument;
+use boundary::record;
 use calls::area;
 use checking::check;
 use reading::list;
@@ -15,11 +17,8 @@ use writes::write;
 ghost use mathlib.Core.Path.{_≡_};
 ghost use Rattle.calls.specs.Call.{Ream, Read, Write, Snap, Revert, Check, None, Block, answer};
 ghost use Rattle.calls.specs.Step.{step};
-ghost use Rattle.mantreuy.specs.Exported.{done, nameIn, targetIn, paddingOf};
-ghost use Rattle.mantreuy.specs.RecordBytes.{listingOf};
-
-pub mod argument; // names and targets as a caller gives them
-pub mod record; // records as bytes
+ghost use Rattle.boundary.specs.Exported.{done, nameIn, targetIn, paddingOf};
+ghost use Rattle.boundary.specs.RecordBytes.{listingOf};
 
 // Formats the card.
 #[no_mangle]

@@ -1,6 +1,6 @@
 -- `mantreuy_list` meets its contract: where the area is no card, and with what the walk found.
 use borrow.Author.Needs.{needs}
-use Rattle.mantreuy.proofs.RecordLaws.{listing-1, filling-fits, listing-done}
+use Rattle.boundary.proofs.RecordLaws.{listing-1, filling-fits, listing-done}
 use Rattle.mantreuy.proofs.mantreuy_list.Statement.{statement}
 use Rattle.mantreuy.proofs.mantreuy_list.Tie as tie
 

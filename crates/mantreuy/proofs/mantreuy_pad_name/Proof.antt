@@ -1,5 +1,5 @@
 -- `mantreuy_pad_name` meets its contract, by its tests.
-use Rattle.mantreuy.proofs.ExportedLaws.{padding-other, padding-none, padding-made}
+use Rattle.boundary.proofs.ExportedLaws.{padding-other, padding-none, padding-made}
 use borrow.Author.Needs.{needs}
 use Rattle.mantreuy.proofs.mantreuy_pad_name.Statement.{statement}
 use Rattle.mantreuy.proofs.mantreuy_pad_name.Tie as tie

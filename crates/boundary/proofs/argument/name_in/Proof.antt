@@ -1,9 +1,9 @@
 -- `name_in` meets its contract, by its test.
 use native.Mathlib.Omega.{arith}
-use Rattle.mantreuy.proofs.ExportedLaws.{name-other, name-whole}
+use Rattle.boundary.proofs.ExportedLaws.{name-other, name-whole}
 use borrow.Author.Needs.{needs}
-use Rattle.mantreuy.proofs.argument.name_in.Statement.{statement}
-use Rattle.mantreuy.proofs.argument.name_in.Tie as tie
+use Rattle.boundary.proofs.argument.name_in.Statement.{statement}
+use Rattle.boundary.proofs.argument.name_in.Tie as tie
 
 returns : tie.Need-returns
 returns c = name-other _ (omega arith)

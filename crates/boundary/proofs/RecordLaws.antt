@@ -24,7 +24,7 @@ use Rattle.calls.specs.Step.{isAccepted}
 use Rattle.calls.specs.Listing.{fillingOf, fillingBy, recordBy}
 use Rattle.calls.proofs.StepLaws.{step-answer}
 use Rattle.calls.proofs.ListLaws.{filling-1, filling-told, list-room, list-inside, list-record, ready-by, regions-some, walk-starts}
-use Rattle.mantreuy.specs.RecordBytes.{recordBytes, recordsBytes, roomIn, listingOf, filledBytesTo, filledBytes}
+use Rattle.boundary.specs.RecordBytes.{recordBytes, recordsBytes, roomIn, listingOf, filledBytesTo, filledBytes}
 
 pub record-length : (r : Record) → length (r .name) ≡ 16 → length (recordBytes r) ≡ 28
 unfolding recordBytes le32

@@ -17,8 +17,8 @@ use Rattle.calls.specs.Effect.{recordOf, listed, lentOf, filledOf}
 use Rattle.calls.specs.Step.{step, isAccepted}
 use Rattle.calls.proofs.StepLaws.{step-answer, step-lent}
 use Rattle.calls.proofs.ListLaws.{list-room}
-use Rattle.mantreuy.specs.RecordBytes.{recordBytes, recordsBytes, recordIn, recordsIn, lentBytes, roomIn, ListedBytes, listingOf}
-use Rattle.mantreuy.proofs.RecordLaws.{room-size}
+use Rattle.boundary.specs.RecordBytes.{recordBytes, recordsBytes, recordIn, recordsIn, lentBytes, roomIn, ListedBytes, listingOf}
+use Rattle.boundary.proofs.RecordLaws.{room-size}
 
 -- a listing's answer depends on how many records are lent, and not on what stands in them
 answer-room : (c : List ℕ) (rs ts : List Record) → length rs ≡ length ts → answerOf (Listing rs) c ≡ answerOf (Listing ts) c

@@ -9,9 +9,9 @@ use Rattle.calls.specs.Parts.{areaBad}
 use Rattle.calls.specs.Ladder.{firstRow, listRows, rowsOf, answerOf}
 use Rattle.calls.specs.Effect.{listed}
 use Rattle.calls.specs.Step.{step}
-use Rattle.mantreuy.specs.Exported.{nameIn, targetIn, paddingOf}
-use Rattle.mantreuy.specs.RecordBytes.{recordBytes, recordsBytes, recordIn, roomIn, listingOf}
-use Rattle.mantreuy.specs.Values.{NameValues, TargetValues, PaddedValues, PaddingValues, RecordValues, ListingValues}
+use Rattle.boundary.specs.Exported.{nameIn, targetIn, paddingOf}
+use Rattle.boundary.specs.RecordBytes.{recordBytes, recordsBytes, recordIn, roomIn, listingOf}
+use Rattle.boundary.specs.Values.{NameValues, TargetValues, PaddedValues, PaddingValues, RecordValues, ListingValues}
 
 pub name-values : NameValues
 unfolding NameValues nameIn

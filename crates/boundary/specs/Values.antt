@@ -9,8 +9,8 @@ use Rattle.blocks.specs.Descriptor.{physical, descriptorBlock}
 use Rattle.calls.specs.declared.answer.Record.{Record}
 use Rattle.calls.specs.declared.answer.Target.the-variants.{Active, Snapshot}
 use Rattle.calls.specs.Call.{answer, accepted}
-use Rattle.mantreuy.specs.Exported.{nameIn, targetIn, paddingOf}
-use Rattle.mantreuy.specs.RecordBytes.{recordBytes, recordIn, listingOf}
+use Rattle.boundary.specs.Exported.{nameIn, targetIn, paddingOf}
+use Rattle.boundary.specs.RecordBytes.{recordBytes, recordIn, listingOf}
 
 -- Sixteen bytes are taken as they are; fifteen and seventeen are no name.
 unfoldable pub NameValues : Type 0

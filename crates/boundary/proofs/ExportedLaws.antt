@@ -11,7 +11,7 @@ use Rattle.blocks.specs.Bytes.{part, splice}
 use Rattle.blocks.specs.Name.{isName, isText, padded, noName}
 use Rattle.blocks.proofs.NameLaws.{padded-name}
 use Rattle.blocks.proofs.ByteLaws.{splice-whole}
-use Rattle.mantreuy.specs.Exported.{nameIn, Padding, paddingOf}
+use Rattle.boundary.specs.Exported.{nameIn, Padding, paddingOf}
 
 -- the name in lent bytes, by the test of the code
 module _ (lent : List ℕ) where

@@ -7,7 +7,7 @@ ghost use mathlib.Core.Path.{_≡_};
 ghost use Prim.Native.Nat.{ℕ, _+_, _*_, _≤_, _<_};
 ghost use lib.ListN.{length, getD};
 ghost use Rattle.blocks.specs.Bytes.{splice};
-ghost use Rattle.mantreuy.specs.RecordBytes.{recordBytes, filledBytes};
+ghost use Rattle.boundary.specs.RecordBytes.{recordBytes, filledBytes};
 
 // Stores the bytes of a record at `at`.
 fn put_record(area: &mut [u8], at: usize, r: Record)

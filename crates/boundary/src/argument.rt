@@ -2,7 +2,7 @@
 use blocks::bytes;
 use calls::answer::Target;
 ghost use mathlib.Core.Path.{_≡_};
-ghost use Rattle.mantreuy.specs.Exported.{nameIn, targetIn};
+ghost use Rattle.boundary.specs.Exported.{nameIn, targetIn};
 
 // The name in lent bytes, sixteen zeros where they are not sixteen.
 pub fn name_in(lent: &[u8]) -> [u8; 16]

@@ -3,10 +3,10 @@ use mathlib.Core.Path.{_≡_, refl, _∙_}
 use Prim.Native.Nat.{_≤_, _-_}
 use native.Mathlib.Omega.{arith}
 use lib.ListN.{length}
-use Rattle.mantreuy.specs.RecordBytes.{filledBytesTo}
-use Rattle.mantreuy.proofs.RecordLaws.{bytes-none, bytes-more, bytes-all}
-use Rattle.mantreuy.proofs.record.fill_bytes.Statement.{statement}
-use Rattle.mantreuy.proofs.record.fill_bytes.Tie as tie
+use Rattle.boundary.specs.RecordBytes.{filledBytesTo}
+use Rattle.boundary.proofs.RecordLaws.{bytes-none, bytes-more, bytes-all}
+use Rattle.boundary.proofs.record.fill_bytes.Statement.{statement}
+use Rattle.boundary.proofs.record.fill_bytes.Tie as tie
 
 abbrev Inv-loop : tie.InvT-loop
 Inv-loop card starts area₀ n i₀ area i = (i ≤ n) × (length area ≡ length area₀) × (area ≡ filledBytesTo card starts area₀ n i)

@@ -1,8 +1,8 @@
 -- `target_in` meets its contract, by its test.
 use Rattle.blocks.proofs.Tests.{tests}
-use Rattle.mantreuy.specs.Exported.{targetIn}
-use Rattle.mantreuy.proofs.argument.target_in.Statement.{statement}
-use Rattle.mantreuy.proofs.argument.target_in.Tie as tie
+use Rattle.boundary.specs.Exported.{targetIn}
+use Rattle.boundary.proofs.argument.target_in.Statement.{statement}
+use Rattle.boundary.proofs.argument.target_in.Tie as tie
 
 returns : tie.Need-returns
 unfolding targetIn

@@ -1,8 +1,8 @@
 -- `put_record` meets its contract: the fields, put one after the other, are the bytes of the record.
-use Rattle.mantreuy.proofs.RecordLaws.{record-put}
+use Rattle.boundary.proofs.RecordLaws.{record-put}
 use borrow.Author.Needs.{needs}
-use Rattle.mantreuy.proofs.record.put_record.Statement.{statement}
-use Rattle.mantreuy.proofs.record.put_record.Tie as tie
+use Rattle.boundary.proofs.record.put_record.Statement.{statement}
+use Rattle.boundary.proofs.record.put_record.Tie as tie
 
 put-name-requires : tie.Need-put-name-requires
 put-name-requires c κs = search needs
