@@ -1,4 +1,4 @@
-// The desk's work sheet, cut into lines and each line into its pairs, for any bytes whatever.
+// The desk's work sheet: what its lines ask for, and the words and numbers in them, for any bytes whatever.
 pub mod word; // where a byte stands, and the key of a word
 pub mod number; // decimal numbers
-pub mod line; // a line, and the next line of a sheet
+pub mod line; // what a line asks for

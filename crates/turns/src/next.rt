@@ -1,7 +1,7 @@
 // One turn of the sheet program: the next line, cut, run and printed.
 use crate::print;
 use calls::answer::Record;
-use cutter::line;
+use cutting::line;
 use lines::run;
 use sheet::next::Turn;
 ghost use mathlib.Core.Path.{_≡_};

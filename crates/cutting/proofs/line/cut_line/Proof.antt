@@ -1,8 +1,8 @@
 -- `cut_line` meets its contract, by the places of the spaces.
 use Rattle.cutter.proofs.FormLaws.{line-long, line-one, line-two, line-three, line-four, line-five, line-more}
 use borrow.Author.Needs.{needs}
-use Rattle.cutter.proofs.line.cut_line.Statement.{statement}
-use Rattle.cutter.proofs.line.cut_line.Tie as tie
+use Rattle.cutting.proofs.line.cut_line.Statement.{statement}
+use Rattle.cutting.proofs.line.cut_line.Tie as tie
 
 not-formed-requires : tie.Need-not-formed-requires
 not-formed-requires c κs = search needs

@@ -1,9 +1,9 @@
 -- `cut_next` meets its contract, by the place of the line feed.
 use native.Mathlib.Omega.{arith}
 use Rattle.cutter.proofs.LineLaws.{next-open, next-ended}
 use borrow.Author.Needs.{needs}
-use Rattle.cutter.proofs.line.cut_next.Statement.{statement}
-use Rattle.cutter.proofs.line.cut_next.Tie as tie
+use Rattle.cutting.proofs.line.cut_next.Statement.{statement}
+use Rattle.cutting.proofs.line.cut_next.Tie as tie
 
 find-byte-requires : tie.Need-find-byte-requires
 find-byte-requires c κs = search needs

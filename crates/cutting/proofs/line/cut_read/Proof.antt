@@ -1,9 +1,9 @@
 -- `cut_read` meets its contract, by its tests.
 use Rattle.cutter.proofs.WordLaws.{key-fits}
 use Rattle.cutter.proofs.FormLaws.{read-no-key, read-is, read-no-block}
 use borrow.Author.Needs.{needs}
-use Rattle.cutter.proofs.line.cut_read.Statement.{statement}
-use Rattle.cutter.proofs.line.cut_read.Tie as tie
+use Rattle.cutting.proofs.line.cut_read.Statement.{statement}
+use Rattle.cutting.proofs.line.cut_read.Tie as tie
 
 slice-aggregate-has-key : tie.Need-slice-aggregate-has-key
 slice-aggregate-has-key c = search needs

@@ -1,8 +1,8 @@
 -- `read_from` meets its contract, by its test.
 use Rattle.cutter.proofs.FormLaws.{from-active, from-snapshot}
 use borrow.Author.Needs.{needs}
-use Rattle.cutter.proofs.line.read_from.Statement.{statement}
-use Rattle.cutter.proofs.line.read_from.Tie as tie
+use Rattle.cutting.proofs.line.read_from.Statement.{statement}
+use Rattle.cutting.proofs.line.read_from.Tie as tie
 
 slice-aggregate-same-bytes : tie.Need-slice-aggregate-same-bytes
 slice-aggregate-same-bytes c = search needs

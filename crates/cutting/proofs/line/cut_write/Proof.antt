@@ -1,8 +1,8 @@
 -- `cut_write` meets its contract, by its tests.
 use Rattle.cutter.proofs.FormLaws.{write-no-block, write-no-fill, write-large, write-is}
 use borrow.Author.Needs.{needs}
-use Rattle.cutter.proofs.line.cut_write.Statement.{statement}
-use Rattle.cutter.proofs.line.cut_write.Tie as tie
+use Rattle.cutting.proofs.line.cut_write.Statement.{statement}
+use Rattle.cutting.proofs.line.cut_write.Tie as tie
 
 slice-aggregate-read-pair : tie.Need-slice-aggregate-read-pair
 slice-aggregate-read-pair c = search needs

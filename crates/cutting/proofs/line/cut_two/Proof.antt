@@ -1,9 +1,9 @@
 -- `cut_two` meets its contract, by its tests.
 use Rattle.cutter.proofs.WordLaws.{key-fits}
 use Rattle.cutter.proofs.FormLaws.{two-no-key, two-snap, two-revert, two-other}
 use borrow.Author.Needs.{needs}
-use Rattle.cutter.proofs.line.cut_two.Statement.{statement}
-use Rattle.cutter.proofs.line.cut_two.Tie as tie
+use Rattle.cutting.proofs.line.cut_two.Statement.{statement}
+use Rattle.cutting.proofs.line.cut_two.Tie as tie
 
 slice-aggregate-has-key : tie.Need-slice-aggregate-has-key
 slice-aggregate-has-key c = search needs

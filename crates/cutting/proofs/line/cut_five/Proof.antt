@@ -1,9 +1,9 @@
 -- `cut_five` meets its contract, by its tests.
 use Rattle.cutter.proofs.WordLaws.{key-fits}
 use Rattle.cutter.proofs.FormLaws.{five-other, five-no-layout, five-no-blocks, five-large, five-no-volume, five-no-name, five-is}
 use borrow.Author.Needs.{needs}
-use Rattle.cutter.proofs.line.cut_five.Statement.{statement}
-use Rattle.cutter.proofs.line.cut_five.Tie as tie
+use Rattle.cutting.proofs.line.cut_five.Statement.{statement}
+use Rattle.cutting.proofs.line.cut_five.Tie as tie
 
 slice-aggregate-same-bytes : tie.Need-slice-aggregate-same-bytes
 slice-aggregate-same-bytes c = search needs

@@ -1,0 +1,217 @@
+// A line of the work sheet: what it asks for, and where the next one starts.
+use blocks::bytes;
+use blocks::name;
+use blocks::numbers::Logical;
+use calls::answer::Target;
+use cutter::line::Cut;
+use cutter::line::Line;
+use cutter::line::SheetCall;
+use cutter::number;
+use cutter::number::Number;
+use cutter::word;
+ghost use mathlib.Core.Path.{_≡_};
+ghost use Prim.Native.Nat.{_≤_, _<_};
+ghost use lib.ListN.{length};
+ghost use Rattle.cutter.specs.Grammar.{malformed, lineOfOne, lineOfTwo, lineOfWrite, lineOfRead, lineOfThree, lineOfFive, lineOf, readFrom, cutAt};
+
+// The line that is not of the form.
+fn not_formed() -> Line
+    ensures { λ r. ⌜ r ≡ malformed ⌝ }
+{
+    Line {
+        call: SheetCall::Malformed,
+        name: [0u8; 16],
+    }
+}
+
+// `op=list`, `op=check`
+fn cut_one(op: &[u8]) -> Line
+    ensures { λ r. ⌜ r ≡ lineOfOne (now (op .entry)) ⌝ }
+{
+    if bytes::same_bytes(op, b"op=list") {
+        return Line {
+            call: SheetCall::List,
+            name: [0u8; 16],
+        };
+    }
+    if bytes::same_bytes(op, b"op=check") {
+        return Line {
+            call: SheetCall::Check,
+            name: [0u8; 16],
+        };
+    }
+    not_formed()
+}
+
+// `op=snap name=`, `op=revert name=`
+fn cut_two(op: &[u8], a: &[u8]) -> Line
+    ensures { λ r. ⌜ r ≡ lineOfTwo (now (op .entry)) (now (a .entry)) ⌝ }
+{
+    if !word::has_key(a, b"name=") {
+        return not_formed();
+    }
+    let name = name::pad_name(&a[5..]);
+    if bytes::same_bytes(op, b"op=snap") {
+        return Line {
+            call: SheetCall::Snap,
+            name,
+        };
+    }
+    if bytes::same_bytes(op, b"op=revert") {
+        return Line {
+            call: SheetCall::Revert,
+            name,
+        };
+    }
+    not_formed()
+}
+
+// `op=write block= fill=`, the two words after the first
+fn cut_write(a: &[u8], b: &[u8]) -> Line
+    ensures { λ r. ⌜ r ≡ lineOfWrite (now (a .entry)) (now (b .entry)) ⌝ }
+{
+    let block = match number::read_pair(a, b"block=") {
+        Number::Is(n) => n,
+        Number::Not => return not_formed(),
+    };
+    let fill = match number::read_pair(b, b"fill=") {
+        Number::Is(n) => n,
+        Number::Not => return not_formed(),
+    };
+    if 255 < fill {
+        return not_formed();
+    }
+    Line {
+        call: SheetCall::Write(Logical(block), fill as u8),
+        name: [0u8; 16],
+    }
+}
+
+// A read of block `l` from what the text names.
+fn read_from(from: &[u8], l: u32) -> Line
+    ensures { λ r. ⌜ r ≡ readFrom (now (from .entry)) l ⌝ }
+{
+    if bytes::same_bytes(from, b"*") {
+        return Line {
+            call: SheetCall::Read(Target::Active, Logical(l)),
+            name: [0u8; 16],
+        };
+    }
+    Line {
+        call: SheetCall::Read(Target::Snapshot, Logical(l)),
+        name: name::pad_name(from),
+    }
+}
+
+// `op=read from= block=`, the two words after the first
+fn cut_read(a: &[u8], b: &[u8]) -> Line
+    ensures { λ r. ⌜ r ≡ lineOfRead (now (a .entry)) (now (b .entry)) ⌝ }
+{
+    if !word::has_key(a, b"from=") {
+        return not_formed();
+    }
+    match number::read_pair(b, b"block=") {
+        Number::Is(n) => read_from(&a[5..], n),
+        Number::Not => not_formed(),
+    }
+}
+
+// `op=write block= fill=`, `op=read from= block=`
+fn cut_three(op: &[u8], a: &[u8], b: &[u8]) -> Line
+    ensures { λ r. ⌜ r ≡ lineOfThree (now (op .entry)) (now (a .entry)) (now (b .entry)) ⌝ }
+{
+    if bytes::same_bytes(op, b"op=write") {
+        return cut_write(a, b);
+    }
+    if bytes::same_bytes(op, b"op=read") {
+        return cut_read(a, b);
+    }
+    not_formed()
+}
+
+// `op=ream layout= blocks= volume= name=`
+fn cut_five(op: &[u8], a: &[u8], b: &[u8], c: &[u8], d: &[u8]) -> Line
+    ensures { λ r. ⌜ r ≡ lineOfFive (now (op .entry)) (now (a .entry)) (now (b .entry)) (now (c .entry)) (now (d .entry)) ⌝ }
+{
+    if !bytes::same_bytes(op, b"op=ream") {
+        return not_formed();
+    }
+    let layout = match number::read_pair(a, b"layout=") {
+        Number::Is(n) => n,
+        Number::Not => return not_formed(),
+    };
+    let blocks = match number::read_pair(b, b"blocks=") {
+        Number::Is(n) => n,
+        Number::Not => return not_formed(),
+    };
+    if 64 < blocks {
+        return not_formed();
+    }
+    let volume = match number::read_pair(c, b"volume=") {
+        Number::Is(n) => n,
+        Number::Not => return not_formed(),
+    };
+    if !word::has_key(d, b"name=") {
+        return not_formed();
+    }
+    Line {
+        call: SheetCall::Ream(layout, blocks, volume),
+        name: name::pad_name(&d[5..]),
+    }
+}
+
+// Cuts one line: its bytes without the line feed.
+pub fn cut_line(line: &[u8]) -> Line
+    ensures { λ r. ⌜ r ≡ lineOf (now (line .entry)) ⌝ }
+{
+    let n = line.len();
+    if 127 < n {
+        return not_formed();
+    }
+    let a = word::find_byte(line, 0, 32);
+    if a == n {
+        return cut_one(line);
+    }
+    let b = word::find_byte(line, a + 1, 32);
+    if b == n {
+        return cut_two(&line[0..a], &line[a + 1..n]);
+    }
+    let c = word::find_byte(line, b + 1, 32);
+    if c == n {
+        return cut_three(&line[0..a], &line[a + 1..b], &line[b + 1..n]);
+    }
+    let d = word::find_byte(line, c + 1, 32);
+    if d == n {
+        return not_formed();
+    }
+    let e = word::find_byte(line, d + 1, 32);
+    if e == n {
+        return cut_five(
+            &line[0..a],
+            &line[a + 1..b],
+            &line[b + 1..c],
+            &line[c + 1..d],
+            &line[d + 1..n],
+        );
+    }
+    not_formed()
+}
+
+// The line of the sheet that starts at `at`, and where the next one starts.
+pub fn cut_next(sheet: &[u8], at: usize) -> Cut
+    requires { ⌜ at < length (now sheet) ⌝ }
+    ensures { λ r. ⌜ r ≡ cutAt (now (sheet .entry)) at ⌝ }
+    ensures { λ r. ⌜ (at < r .next) × (r .next ≤ length (now (sheet .entry))) ⌝ }
+{
+    let end = word::find_byte(sheet, at, 10);
+    if end == sheet.len() {
+        return Cut {
+            line: not_formed(),
+            next: end,
+        };
+    }
+    Cut {
+        line: cut_line(&sheet[at..end]),
+        next: end + 1,
+    }
+}
