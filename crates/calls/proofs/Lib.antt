@@ -1,5 +1,6 @@
 -- Laws of the definitions of the calls, which the proofs of the calls and the theorems cite.
 pub mod RowLaws
+pub mod Passed
 pub mod StepLaws
 pub mod CardLaws
 pub mod ReamLaws

@@ -27,7 +27,8 @@ use Rattle.calls.specs.Effect.{recordOf, listed, storesOf, lentOf, fille
 use Rattle.calls.specs.Step.{Done, step, isAccepted}
 use Rattle.calls.specs.Listing.{fillingWith, fillingOf, fillingBy, noStarts, planOf, recordBy, filledTo, filled}
 use Rattle.calls.proofs.CardLaws.{card-count, chain-is}
-use Rattle.calls.proofs.RowLaws.{rows-passed, row-given, last-passed, area-given, area-passed, chain-given, chain-passed}
+use Rattle.calls.proofs.Passed.{list-passed}
+use Rattle.calls.proofs.RowLaws.{row-given, last-passed, area-given, area-passed, chain-given, chain-passed}
 
 -- what a listing answers and fills, in the order of the code's tests
 module _ (c : List ℕ) (records : List Record) (bad : Bool) (area : bad ≡ areaBad c) where
@@ -136,12 +137,11 @@ module _ (c : List ℕ) (records : List Record) (ok : isAccepted (answerOf (List
   ds = descriptorsOf c
 
   list-whole : regionsOf (chain c) ≡ record { sound = true; place = physical 0; active = activeOf ds; count = length ds; starts = startsOf ds }
-  unfolding rowsOf listRows regionsOf
-  list-whole = ap regionsOf (chain-is (chain c) (not-false (chainSound (chain c)) (rows-passed (Listing records) c ok 1 (omega arith))))
+  unfolding regionsOf
+  list-whole = ap regionsOf (chain-is (chain c) (list-passed c records ok .sound))
 
   pub list-room : length ds ≤ length records
-  unfolding rowsOf listRows
-  list-room = ltb-false (length records) (length ds) (rows-passed (Listing records) c ok 2 (omega arith))
+  list-room = list-passed c records ok .room
 
   -- the blocks of the descriptors are on the card
   pub list-inside : (k : ℕ) → k < length ds → 512 * getD (startsOf ds) k 0 + 512 ≤ length c
@@ -175,8 +175,8 @@ module _ (c : List ℕ) (records : List Record) where
 
   -- those of a plan
   plan-starts : isAccepted (answerOf (Listing records) c) ≡ true → planOf c records .starts ≡ startsOf (descriptorsOf c)
-  unfolding planOf rowsOf listRows
-  plan-starts ok = rw (rows-passed (Listing records) c ok 0 (omega arith)) (walk-starts ok)
+  unfolding planOf
+  plan-starts ok = rw (list-passed c records ok .area) (walk-starts ok)
 
   some-by : (t : Bool) → 0 < length (pick t noStarts (regionsOf (chain c) .starts))
   some-by true = omega (arith, length-replicate {A = ℕ} 257 0)

@@ -16,7 +16,7 @@ use Rattle.blocks.specs.declared.chain.Regions.{Regions}
 use Rattle.calls.specs.Call.{Revert, answer, accepted}
 use Rattle.calls.specs.Parts.{areaBad, snapshotsOf, withName}
 use Rattle.calls.specs.Ladder.{firstRow, revertRows, rowsOf, answerOf}
-use Rattle.calls.specs.Effect.{reverting, storesOf}
+use Rattle.calls.specs.Effect.{reverting, storesOf, revertStores}
 use Rattle.calls.proofs.StepLaws.{stored-one}
 use Rattle.calls.proofs.CardLaws.{card-snapshots, card-snapshot-count, card-snapshot, card-alpha, card-at, card-found}
 use Rattle.calls.proofs.RowLaws.{row-given, last-passed, named-passed}
@@ -63,7 +63,7 @@ module _ (c : List ℕ) (name : List ℕ) (bad : Bool) (area : bad ≡ areaBad c
     pub reverted : (d : Descriptor) → d ≡ descriptorAt c (getD (r .starts) k 0) → (c′ : List ℕ)
         → c′ ≡ storeBlock c (getD (r .starts) k 0) (descriptorBlock (linkedOf (renamedOf d (r .active .name)) (physical 0)) (tailAt c (getD (r .starts) k 0)))
         → c′ ≡ storeAll c (storesOf (Revert name) c)
-    unfolding storesOf reverting
+    unfolding storesOf revertStores reverting
     reverted d d-is c′ e =
         e
         ∙ rw d-is

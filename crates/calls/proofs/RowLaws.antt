@@ -1,5 +1,5 @@
 -- Laws of the rows of a refusal table: which row is given, and which are passed by an accepted call.
-use mathlib.Core.Path.{_≡_, refl, sym, ap, _∙_}
+use mathlib.Core.Path.{_≡_, refl, sym, ap, _∙_, subst}
 use mathlib.Core.Bool.{Bool, true, false, not, _&&_}
 use mathlib.Core.List.{List, [], _∷_}
 use Prim.Native.Nat.{ℕ, zero, suc, _≤_, _<_}
@@ -27,6 +27,11 @@ fresh n (r ∷ rs) = not (eqb (r .number) n) && fresh n rs
 unfoldable pub numbered : List Row → Bool
 numbered [] = true
 numbered (r ∷ rs) = not (eqb (r .number) 0) && fresh (r .number) rs && numbered rs
+
+-- the condition of the row that has the number, false where no row has it
+unfoldable pub holdsOf : ℕ → List Row → Bool
+holdsOf n [] = false
+holdsOf n (r ∷ rs) = pick (eqb (r .number) n) (r .holds) (holdsOf n rs)
 
 -- so it is in each call's list
 pub rows-numbered : (k : Call) (c : List ℕ) → numbered (rowsOf k c) ≡ true
@@ -136,23 +141,36 @@ unfolding firstRow
 all-passed [] f = refl
 all-passed (r ∷ rs) f = row-passed r rs (f 0 (omega arith)) ∙ all-passed rs (λ i l. f (suc i) (omega arith))
 
--- an accepted call: no row of it holds
-pub rows-passed : (k : Call) (c : List ℕ) → isAccepted (answerOf k c) ≡ true → (i : ℕ) → i < length (rowsOf k c) → getD (rowsOf k c) i (row false 0 0) .holds ≡ false
+-- where no row holds, none does that has a given number
+passed-by : (r : Row) (n : ℕ) (later : Answer) (rest h own : Bool) → r .holds ≡ h → (r .number ≡ 0 → ⊥) → (later .number ≡ 0 → rest ≡ false) → pick h (answer (r .number) (r .place)) later .number ≡ 0
+    → pick own (r .holds) rest ≡ false
+passed-by r n later rest true own q z more e = absurd (z e)
+passed-by r n later rest false true q z more e = q
+passed-by r n later rest false false q z more e = more e
+
+pub number-passed : (rs : List Row) → numbered rs ≡ true → firstRow rs .number ≡ 0 → (n : ℕ) → holdsOf n rs ≡ false
+unfolding firstRow holdsOf
+number-passed [] is e n = refl
+number-passed (r ∷ rs) is e n =
+    passed-by r n (firstRow rs) (holdsOf n rs) (r .holds) (eqb (r .number) n) refl (head-set r rs is) (λ q. number-passed rs (tail-numbered r rs is) q n) e
+
+-- an accepted call has passed the row of every number
+pub rows-passed : (k : Call) (c : List ℕ) → isAccepted (answerOf k c) ≡ true → (n : ℕ) → holdsOf n (rowsOf k c) ≡ false
 unfolding answerOf
-rows-passed k c e = none (rowsOf k c) (rows-numbered k c) (eqb-true (firstRow (rowsOf k c) .number) 0 e)
+rows-passed k c e = number-passed (rowsOf k c) (rows-numbered k c) (eqb-true (firstRow (rowsOf k c) .number) 0 e)
 
 -- a number that is given is that of a row that holds
-number-by : (r : Row) (rs : List Row) → numbered (r ∷ rs) ≡ true → (i : ℕ) → i < length (r ∷ rs) → ((n : ℕ) → n < length rs → firstRow rs .number ≡ at rs n .number → at rs n .holds ≡ true)
-    → (h : Bool) → r .holds ≡ h → pick h (answer (r .number) (r .place)) (firstRow rs) .number ≡ at (r ∷ rs) i .number → at (r ∷ rs) i .holds ≡ true
-number-by r rs is zero l later true q e = q
-number-by r rs is zero l later false q e = absurd (fresh-never rs (r .number) (head-own r rs is) (head-set r rs is) e)
-number-by r rs is (suc i) l later true q e = absurd (fresh-other rs (r .number) (head-own r rs is) i (omega arith) (sym e))
-number-by r rs is (suc i) l later false q e = later i (omega arith) e
+given-by-number : (r : Row) (rs : List Row) (n : ℕ) (h own : Bool) → r .holds ≡ h → eqb (r .number) n ≡ own → numbered (r ∷ rs) ≡ true → (n ≡ 0 → ⊥)
+    → (firstRow rs .number ≡ n → holdsOf n rs ≡ true) → pick h (answer (r .number) (r .place)) (firstRow rs) .number ≡ n → pick own (r .holds) (holdsOf n rs) ≡ true
+given-by-number r rs n true true q o is z later e = q
+given-by-number r rs n true false q o is z later e = absurd (eqb-false (r .number) n o e)
+given-by-number r rs n false true q o is z later e = absurd (fresh-never rs n (subst (λ (m : ℕ). fresh m rs ≡ true) (eqb-true (r .number) n o) (head-own r rs is)) z e)
+given-by-number r rs n false false q o is z later e = later e
 
-pub number-given : (rs : List Row) → numbered rs ≡ true → (i : ℕ) → i < length rs → firstRow rs .number ≡ at rs i .number → at rs i .holds ≡ true
-unfolding firstRow
-number-given [] is i l e = absurd (omega arith)
-number-given (r ∷ rs) is i l e = number-by r rs is i l (number-given rs (tail-numbered r rs is)) (r .holds) refl e
+pub number-given : (rs : List Row) → numbered rs ≡ true → (n : ℕ) → (n ≡ 0 → ⊥) → firstRow rs .number ≡ n → holdsOf n rs ≡ true
+unfolding firstRow holdsOf
+number-given [] is n z e = absurd (z (sym e))
+number-given (r ∷ rs) is n z e = given-by-number r rs n (r .holds) (eqb (r .number) n) refl refl is z (number-given rs (tail-numbered r rs is) n z) e
 
 -- the rows that several calls share, each at the head of a list, by the tests of the code
 module _ (rs : List Row) where

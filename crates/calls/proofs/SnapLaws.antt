@@ -18,7 +18,7 @@ use Rattle.blocks.proofs.DescriptorLaws.{head-length, block-length, tail-block,
 use Rattle.calls.specs.Call.{Snap, answer, accepted}
 use Rattle.calls.specs.Parts.{areaBad}
 use Rattle.calls.specs.Ladder.{firstRow, snapRows, rowsOf, answerOf}
-use Rattle.calls.specs.Effect.{snapping, storesOf}
+use Rattle.calls.specs.Effect.{snapping, storesOf, snapStores}
 use Rattle.calls.proofs.StepLaws.{stored-append, stored-one}
 use Rattle.calls.proofs.CardLaws.{card-some, card-all, card-snapshot-count, card-found}
 use Rattle.calls.proofs.RowLaws.{row-given, row-passed, last-passed, named-passed}
@@ -157,5 +157,5 @@ module _ (c : List ℕ) (name : List ℕ) (bad : Bool) (area : bad ≡ areaBad c
       snap-0 h = to-room ∙ last-passed _ (rw (← (card-found c r walked good ok), ← cost-is) (le-ltb (length c / 512) (d .beta .0 + k) h))
 
       pub snap-stores : (c′ : List ℕ) → c′ ≡ storeAll c (snapping c d name) → c′ ≡ storeAll c (storesOf (Snap name) c)
-      unfolding storesOf
+      unfolding storesOf snapStores
       snap-stores c′ e = e ∙ ap (λ (x : Descriptor). storeAll c (snapping c x name)) (card-found c r walked good ok)

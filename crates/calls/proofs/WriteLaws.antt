@@ -26,7 +26,7 @@ use Rattle.calls.specs.declared.answer.Answer.{Answer}
 use Rattle.calls.specs.Call.{Call, Write, Block, answer, accepted}
 use Rattle.calls.specs.Parts.{areaBad, isMisplaced, holderOf}
 use Rattle.calls.specs.Ladder.{firstRow, writeRows, rowsOf, answerOf}
-use Rattle.calls.specs.Effect.{Written, written, WriteReady, lentOf, filledOf, storesOf}
+use Rattle.calls.specs.Effect.{Written, written, WriteReady, lentOf, filledOf, writeStores, storesOf}
 use Rattle.calls.specs.Step.{Done, step}
 use Rattle.calls.proofs.StepLaws.{step-refused, step-accepted}
 use Rattle.calls.proofs.CardLaws.{card-some, card-found, card-active, card-through, card-small}
@@ -180,7 +180,7 @@ module _ (c : List ℕ) (l : ℕ) (block : List ℕ) (bad : Bool) (area : bad �
         done-by : (t : Bool) → ltb (blockCount c) (d .beta .0 + need (d .alpha .0) f) ≡ t → isMisplaced f ≡ false → (a : Answer) (c′ : List ℕ)
             → _≡_ {A = Written} (record { answer = a; card = c′ }) (pick t (record { answer = answer 11 0; card = c }) (record { answer = accepted; card = storeAll c (writing c d f l block) }))
             → _≡_ {A = Done} (record { outcome = record { answer = a; lent = Block block }; card = c′ }) (step call c)
-        unfolding lentOf filledOf storesOf
+        unfolding lentOf filledOf storesOf writeStores
         done-by true e g a c′ h =
             let a-is : a ≡ answer 11 0 = ap (λ (x : Written). x .answer) h in
             let c-is : c′ ≡ c = ap (λ (x : Written). x .card) h in

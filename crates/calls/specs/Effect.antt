@@ -29,13 +29,23 @@ snapping c d name =
 unfoldable pub reverting : List ℕ → Descriptor → List ℕ → List Store
 reverting c v activeName = store (v .alpha .0) (descriptorBlock (linkedOf (renamedOf v activeName) (physical 0)) (tailAt c (v .alpha .0))) ∷ []
 
+-- the stores of a write, of a snap and of a revert on a card: through the active descriptor, and to the snapshot of the name
+unfoldable pub writeStores : List ℕ → ℕ → List ℕ → List Store
+writeStores c l block = let d = activeOf (descriptorsOf c) in writing c d (foundThrough c d l) l block
+
+unfoldable pub snapStores : List ℕ → List ℕ → List Store
+snapStores c name = snapping c (activeOf (descriptorsOf c)) name
+
+unfoldable pub revertStores : List ℕ → List ℕ → List Store
+revertStores c name = let ds = descriptorsOf c in reverting c (withName (snapshotsOf ds) name) (activeOf ds .name)
+
 -- the stores of an accepted call
 unfoldable pub storesOf : Call → List ℕ → List Store
 storesOf (Ream layout volume name) c = opening layout volume name
 storesOf (Read target name l block) c = []
-storesOf (Write l block) c = let d = activeOf (descriptorsOf c) in writing c d (foundThrough c d l) l block
-storesOf (Snap name) c = snapping c (activeOf (descriptorsOf c)) name
-storesOf (Revert name) c = let ds = descriptorsOf c in reverting c (withName (snapshotsOf ds) name) (activeOf ds .name)
+storesOf (Write l block) c = writeStores c l block
+storesOf (Snap name) c = snapStores c name
+storesOf (Revert name) c = revertStores c name
 storesOf (Listing records) c = []
 storesOf Check c = []
 

@@ -13,19 +13,22 @@ use Rattle.blocks.specs.declared.descriptor.Descriptor.{Descriptor}
 use Rattle.blocks.proofs.BoolLaws.{no}
 use Rattle.blocks.proofs.ChainLaws.{active-snoc}
 use Rattle.entries.specs.Entry.{find, need}
-use Rattle.calls.specs.Call.{Call, Ream, Read, Write, Snap, Revert, Listing, Check}
+use Rattle.calls.specs.Call.{Call}
 use Rattle.calls.specs.Parts.{descriptorsOf, snapshotsOf, withName}
 use Rattle.calls.specs.Ladder.{answerOf}
-use Rattle.calls.specs.Effect.{storesOf}
+use Rattle.calls.specs.Effect.{writeStores, snapStores, revertStores}
 use Rattle.calls.specs.Step.{step, isAccepted}
-use Rattle.claims.specs.History.{betaOf, Agree, isReam, isFormat}
+use Rattle.claims.specs.History.{betaOf, Agree, isFormat, formats}
 use Rattle.claims.proofs.Agreement.{agree-below, agree-chain, agree-answer}
 use Rattle.claims.proofs.StoreLists.{Whole, isStored, stored-length, stored-both, stored-anyway, blocks-taken}
-use Rattle.claims.proofs.Frame.{stores-inside}
+use Rattle.claims.proofs.Inside.{write-whole, snap-whole, revert-whole}
 use Rattle.claims.proofs.ChainAfter.{before, active-append, reverted-chain}
 use Rattle.claims.proofs.SnappedChain.{snapped-chain}
 use Rattle.claims.proofs.SameStores.{v-below, same-revert, same-snap, snap-covered, same-write, found-is, write-covered}
 use Rattle.claims.proofs.WrittenChain.{written-chain}
+use Rattle.calls.proofs.Passed.{WritePassed, SnapPassed, RevertPassed}
+use Rattle.claims.specs.Kinds.{Kind, kindOf}
+use Rattle.claims.proofs.Changes.{storesBy, Allowed, to-format, to-leave, to-write, to-snap, to-revert, call-stores, call-allowed, step-cases}
 
 -- the same stores on two cards that agree: they agree again, where every block below the new beta was below the old one or is stored
 module _ (s t : List ℕ) (agree : Agree s t) (ss : List Store) (whole : Whole (length s) ss) (ds : List Descriptor)
@@ -69,61 +72,54 @@ module _ (s t : List ℕ) (agree : Agree s t) where
   unfolding betaOf
   active-beta = refl
 
-  accepted-too : (k : Call) → isAccepted (answerOf k s) ≡ true → isAccepted (answerOf k t) ≡ true
-  accepted-too k e = ap isAccepted (sym (agree-answer s t agree k)) ∙ e
+  -- both cards after the same stores, given what their chain is then
+  both : (xs ys : List Store) (zs : List Descriptor) → Whole (length s) xs → xs ≡ ys → chain (storeAll s xs) ≡ Sound zs → chain (storeAll t ys) ≡ Sound zs
+      → ((p : ℕ) → p < activeOf zs .beta .0 → (p < d .beta .0) ⊎ (isStored xs p ≡ true)) → Agree (storeAll s xs) (storeAll t ys)
+  both xs ys zs whole same-stores in-s in-t covered =
+      subst (λ (ss : List Store). Agree (storeAll s xs) (storeAll t ss)) same-stores
+      (agree-stored s t agree xs whole zs in-s (subst (λ (ss : List Store). chain (storeAll t ss) ≡ Sound zs) (sym same-stores) in-t) (λ p h. rw active-beta (covered p h)))
 
-  -- both cards after the call, given what their chain is then
-  both : (k : Call) (e : isAccepted (answerOf k s) ≡ true) (zs : List Descriptor) → storesOf k s ≡ storesOf k t → chain (storeAll s (storesOf k s)) ≡ Sound zs → chain (storeAll t (storesOf k t)) ≡ Sound zs
-      → ((p : ℕ) → p < activeOf zs .beta .0 → (p < d .beta .0) ⊎ (isStored (storesOf k s) p ≡ true)) → Agree (storeAll s (storesOf k s)) (storeAll t (storesOf k t))
-  both k e zs same-stores in-s in-t covered =
-      subst (λ (ss : List Store). Agree (storeAll s (storesOf k s)) (storeAll t ss)) same-stores
-      (agree-stored s t agree (storesOf k s) (stores-inside k s e) zs in-s (subst (λ (ss : List Store). chain (storeAll t ss) ≡ Sound zs) (sym same-stores) in-t) (λ p h. rw active-beta (covered p h)))
-
-  after-revert : (name : List ℕ) → isAccepted (answerOf (Revert name) s) ≡ true → Agree (storeAll s (storesOf (Revert name) s)) (storeAll t (storesOf (Revert name) t))
-  after-revert name e =
+  after-revert : (name : List ℕ) → RevertPassed s name → RevertPassed t name → Agree (storeAll s (revertStores s name)) (storeAll t (revertStores t name))
+  after-revert name e e′ =
       let ss = snapshotsOf ds in
       let w = linkedOf (renamedOf (withName ss name) (d .name)) (physical 0) in
-      both (Revert name) e (before ss name ++ (w ∷ [])) (same-revert s t agree name e) (reverted-chain s name e)
-      (subst (λ (x : Chain). let xs = descriptors x in chain (storeAll t (storesOf (Revert name) t)) ≡ Sound (before (snapshotsOf xs) name ++ (linkedOf (renamedOf (withName (snapshotsOf xs) name) (activeOf xs .name)) (physical 0) ∷ [])))
-      (sym (agree-chain s t agree)) (reverted-chain t name (accepted-too (Revert name) e)))
+      both (revertStores s name) (revertStores t name) (before ss name ++ (w ∷ [])) (revert-whole s name e) (same-revert s t agree name e) (reverted-chain s name e)
+      (subst (λ (x : Chain). let xs = descriptors x in chain (storeAll t (revertStores t name)) ≡ Sound (before (snapshotsOf xs) name ++ (linkedOf (renamedOf (withName (snapshotsOf xs) name) (activeOf xs .name)) (physical 0) ∷ [])))
+      (sym (agree-chain s t agree)) (reverted-chain t name e′))
       (λ p h. inl (omega (arith, v-below s t agree name e .1, ap (λ (x : Descriptor). x .beta .0) (active-snoc (before ss name) w))))
 
-  after-snap : (name : List ℕ) → isAccepted (answerOf (Snap name) s) ≡ true → Agree (storeAll s (storesOf (Snap name) s)) (storeAll t (storesOf (Snap name) t))
-  after-snap name e =
+  after-snap : (name : List ℕ) → SnapPassed s name → SnapPassed t name → Agree (storeAll s (snapStores s name)) (storeAll t (snapStores t name))
+  after-snap name e e′ =
       let old = linkedOf (renamedOf d name) (d .beta) in
-      both (Snap name) e (snapshotsOf ds ++ (old ∷ reopenedOf d ∷ [])) (same-snap s t agree name e) (snapped-chain s name e)
-      (subst (λ (x : Chain). let xs = descriptors x in chain (storeAll t (storesOf (Snap name) t)) ≡ Sound (snapshotsOf xs ++ (linkedOf (renamedOf (activeOf xs) name) (activeOf xs .beta) ∷ reopenedOf (activeOf xs) ∷ [])))
-      (sym (agree-chain s t agree)) (snapped-chain t name (accepted-too (Snap name) e)))
+      both (snapStores s name) (snapStores t name) (snapshotsOf ds ++ (old ∷ reopenedOf d ∷ [])) (snap-whole s name e) (same-snap s t agree name e) (snapped-chain s name e)
+      (subst (λ (x : Chain). let xs = descriptors x in chain (storeAll t (snapStores t name)) ≡ Sound (snapshotsOf xs ++ (linkedOf (renamedOf (activeOf xs) name) (activeOf xs .beta) ∷ reopenedOf (activeOf xs) ∷ [])))
+      (sym (agree-chain s t agree)) (snapped-chain t name e′))
       (λ p h. snap-covered s t agree name e p (omega (arith, ap (λ (x : Descriptor). x .beta .0) (active-append (snapshotsOf ds) old (reopenedOf d ∷ [])), ap (λ (x : Descriptor). x .beta .0) (active-two old (reopenedOf d)))))
 
-  after-write : (l : ℕ) (block : List ℕ) → isAccepted (answerOf (Write l block) s) ≡ true → Agree (storeAll s (storesOf (Write l block) s)) (storeAll t (storesOf (Write l block) t))
-  after-write l block e =
+  after-write : (l : ℕ) (block : List ℕ) → WritePassed s l block → WritePassed t l block → Agree (storeAll s (writeStores s l block)) (storeAll t (writeStores t l block))
+  after-write l block e e′ =
       let more = need (d .alpha .0) (find s ds d l) in
-      both (Write l block) e (snapshotsOf ds ++ (extendedOf d more ∷ [])) (same-write s t agree l block e) (written-chain s l block e)
+      both (writeStores s l block) (writeStores t l block) (snapshotsOf ds ++ (extendedOf d more ∷ [])) (write-whole s l block e) (same-write s t agree l block e) (written-chain s l block e)
       (rw (found-is s t agree l block e)
-      (subst (λ (x : Chain). let xs = descriptors x in chain (storeAll t (storesOf (Write l block) t)) ≡ Sound (snapshotsOf xs ++ (extendedOf (activeOf xs) (need (activeOf xs .alpha .0) (find t xs (activeOf xs) l)) ∷ [])))
-      (sym (agree-chain s t agree)) (written-chain t l block (accepted-too (Write l block) e))))
+      (subst (λ (x : Chain). let xs = descriptors x in chain (storeAll t (writeStores t l block)) ≡ Sound (snapshotsOf xs ++ (extendedOf (activeOf xs) (need (activeOf xs .alpha .0) (find t xs (activeOf xs) l)) ∷ [])))
+      (sym (agree-chain s t agree)) (written-chain t l block e′)))
       (λ p h. write-covered s t agree l block e p (omega (arith, ap (λ (x : Descriptor). x .beta .0) (active-snoc (snapshotsOf ds) (extendedOf d more)))))
 
-  -- every accepted call that is no format
-  none-same : (k : Call) → storesOf k s ≡ [] → storesOf k t ≡ [] → Agree (storeAll s (storesOf k s)) (storeAll t (storesOf k t))
-  unfolding storeAll
-  none-same k e f = rw (e, f) agree
+  -- every change that is no format
+  pub after-change : {x : Kind} → formats x ≡ false → Allowed s x → Allowed t x → Agree (storeAll s (storesBy x s)) (storeAll t (storesBy x t))
+  unfolding formats storesBy storeAll
+  after-change f (to-format e) e′ = no (sym f)
+  after-change f to-leave e′ = agree
+  after-change f (to-write {l = l} {block = block} e) (to-write e′) = after-write l block e e′
+  after-change f (to-snap {name = name} e) (to-snap e′) = after-snap name e e′
+  after-change f (to-revert {name = name} e) (to-revert e′) = after-revert name e e′
 
-  after-accepted : (k : Call) → isFormat k s ≡ false → isAccepted (answerOf k s) ≡ true → Agree (storeAll s (storesOf k s)) (storeAll t (storesOf k t))
-  unfolding isFormat isReam storesOf
-  after-accepted (Ream layout volume name) f e = no (sym f ∙ e)
-  after-accepted (Read target name l block) f e = none-same (Read target name l block) refl refl
-  after-accepted (Write l block) f e = after-write l block e
-  after-accepted (Snap name) f e = after-snap name e
-  after-accepted (Revert name) f e = after-revert name e
-  after-accepted (Listing records) f e = none-same (Listing records) refl refl
-  after-accepted Check f e = none-same Check refl refl
-
-  step-by : (k : Call) (b : Bool) → isAccepted (answerOf k s) ≡ b → isFormat k s ≡ false → Agree (step k s .card) (step k t .card)
+  step-by : (k : Call) (b : Bool) → isAccepted (answerOf k t) ≡ b → isFormat k s ≡ false → Agree (step k s .card) (step k t .card)
   unfolding step
-  step-by k true e f = rw (e, accepted-too k e) (after-accepted k f e)
-  step-by k false e f = rw (e, ap isAccepted (sym (agree-answer s t agree k)) ∙ e) agree
+  step-by k true e f =
+      rw (e, call-stores k t)
+      (step-cases k s (λ (c : List ℕ). Agree c (storeAll t (storesBy (kindOf k) t))) (λ z. no (sym z ∙ ap isAccepted (agree-answer s t agree k) ∙ e)) (λ z n a. after-change n a (call-allowed k t e)) f)
+  step-by k false e f = rw e (step-cases k s (λ (c : List ℕ). Agree c t) (λ z. agree) (λ z n a. no (sym e ∙ ap isAccepted (sym (agree-answer s t agree k)) ∙ z)) f)
 
   pub agree-step : (k : Call) → isFormat k s ≡ false → Agree (step k s .card) (step k t .card)
-  agree-step k f = step-by k (isAccepted (answerOf k s)) refl f
+  agree-step k f = step-by k (isAccepted (answerOf k t)) refl f

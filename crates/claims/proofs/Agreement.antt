@@ -6,7 +6,7 @@ use Prim.Native.Nat.{ℕ, suc, _+_, _*_, _-_, _/_, _≤_, _<_}
 use native.Mathlib.Omega.{arith}
 use lib.ListN.{length, take, getD}
 use lib.Seq.{length-take-le, getD-take}
-use lib.Dec.{ltb, leb}
+use lib.Dec.{ltb}
 use borrow.Author.Tests.{leb-false, not-false}
 use Rattle.blocks.specs.Pick.{pick}
 use Rattle.blocks.specs.Bytes.{part, blockCount, blockAt, storeAll}
@@ -31,7 +31,7 @@ use Rattle.calls.specs.Effect.{storesOf, lentOf, filledOf}
 use Rattle.calls.specs.Step.{Done, step, isAccepted}
 use Rattle.claims.specs.History.{betaOf, Agree}
 use Rattle.calls.proofs.CardLaws.{snapshots-at, chain-is}
-use Rattle.calls.proofs.RowLaws.{rows-passed}
+use Rattle.calls.proofs.Passed.{read-passed}
 use Rattle.claims.proofs.Local.{Below, below-linked, linked-chain}
 use Rattle.claims.proofs.LocalEntries.{Region, local-find, local-block, local-check}
 use Rattle.claims.proofs.ChainBlocks.{own-inside, few-tables}
@@ -159,25 +159,20 @@ module _ (s t : List ℕ) (agree : Agree s t) where
       ∙ ap (λ (d : Descriptor). d .volume) (sym (active-at ds some))
 
   -- what a read or a write finds
-  module _ (target : Target) (name : List ℕ) (l : ℕ) (standing : (isSnapshot target && not (named (snapshotsOf ds) name)) ≡ false) (inside : leb (activeOf ds .volume) l ≡ false) where
+  module _ (target : Target) (name : List ℕ) (l : ℕ) (standing : (isSnapshot target && not (named (snapshotsOf ds) name)) ≡ false) (inside : l < activeOf ds .volume) where
     target-region : Region (targetOf ds target name) (betaOf s)
     target-region = let m = target-member ds some target name standing in rw (m .2) (agree-region (m .0) (m .1))
 
     target-volume : l < targetOf ds target name .volume
     target-volume =
         let m = target-member ds some target name standing in
-        omega (arith, leb-false (activeOf ds .volume) l inside, ap (λ (d : Descriptor). d .volume) (m .2), volume-at (m .0) (m .1))
+        omega (arith, inside, ap (λ (d : Descriptor). d .volume) (m .2), volume-at (m .0) (m .1))
 
     pub found-same : find s ds (targetOf ds target name) l ≡ find t ds (targetOf ds target name) l
     found-same = local-find s t (betaOf s) agree-below (targetOf ds target name) target-region ds l target-volume
 
     block-same : blockFound s (find s ds (targetOf ds target name) l) ≡ blockFound t (find t ds (targetOf ds target name) l)
     block-same = local-block s t (betaOf s) agree-below (targetOf ds target name) target-region ds l ∙ ap (blockFound t) found-same
-
-  read-passed : (target : Target) (name : List ℕ) (l : ℕ) (block : List ℕ) → isAccepted (answerOf (Read target name l block) s) ≡ true
-      → ((isSnapshot target && not (named (snapshotsOf ds) name)) ≡ false) × (leb (activeOf ds .volume) l ≡ false)
-  unfolding rowsOf readRows
-  read-passed target name l block e = let passed = rows-passed (Read target name l block) s e in (passed 4 (omega arith), passed 5 (omega arith))
 
   -- check
   check-rest : (rest : List Descriptor) → ((k : ℕ) → k < length rest → Region (getD rest k noDescriptor) (betaOf s)) → checkAll s ds rest ≡ checkAll t ds rest
@@ -194,7 +189,7 @@ module _ (s t : List ℕ) (agree : Agree s t) where
   unfolding readRows
   read-rows target name l block =
       rw (← agree-area, ← agree-chain)
-      (then (λ a. then (λ b. then (λ c. then (λ d. then (λ e. then (λ f. same-rows (ap (λ (x : Found). row (isMisplaced x) 10 (holderOf x) ∷ []) (found-same target name l e f)))))))))
+      (then (λ a. then (λ b. then (λ c. then (λ d. then (λ e. then (λ f. same-rows (ap (λ (x : Found). row (isMisplaced x) 10 (holderOf x) ∷ []) (found-same target name l e (leb-false (activeOf ds .volume) l f))))))))))
 
   write-rows : (l : ℕ) (block : List ℕ) → SameRows (writeRows s l block) (writeRows t l block)
   unfolding writeRows
@@ -203,7 +198,7 @@ module _ (s t : List ℕ) (agree : Agree s t) where
       rw (← agree-area, ← agree-chain, ← agree-count)
       (then (λ a. then (λ b. then (λ c. then (λ e. same-rows (ap
       (λ (x : Found). row (isMisplaced x) 10 (holderOf x) ∷ row (ltb (blockCount s) (d .beta .0 + need (d .alpha .0) x)) 11 0 ∷ [])
-      (rw (active-target ds) at (found-same Active [] l refl e))))))))
+      (rw (active-target ds) at (found-same Active [] l refl (leb-false (d .volume) l e)))))))))
 
   pub agree-answer : (k : Call) → answerOf k s ≡ answerOf k t
   unfolding answerOf rowsOf reamRows snapRows revertRows listRows checkRows
@@ -219,7 +214,7 @@ module _ (s t : List ℕ) (agree : Agree s t) where
   agree-filled : (k : Call) → isAccepted (answerOf k s) ≡ true → filledOf k s ≡ filledOf k t
   unfolding filledOf
   agree-filled (Ream layout volume name) e = refl
-  agree-filled (Read target name l block) e = rw (← agree-chain) (ap Block (block-same target name l (read-passed target name l block e .0) (read-passed target name l block e .1)))
+  agree-filled (Read target name l block) e = rw (← agree-chain) (ap Block (let h = read-passed s target name l block e in block-same target name l (h .there) (h .below)))
   agree-filled (Write l block) e = refl
   agree-filled (Snap name) e = refl
   agree-filled (Revert name) e = refl

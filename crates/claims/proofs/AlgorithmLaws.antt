@@ -7,10 +7,9 @@ use native.Mathlib.Omega.{arith}
 use lib.ListN.{length, take, drop, getD, length-replicate}
 use lib.Seq.{take-append-add, drop-append-add, drop-at}
 use lib.Dec.{eqb, ltb, leb}
-use borrow.Author.Tests.{eq-eqb, ne-eqb, le-leb, lt-leb, lt-ltb, le-ltb, eqb-true, eqb-false, ltb-true, ltb-false, leb-true, leb-false, not-true, not-false}
+use borrow.Author.Tests.{eq-eqb, ne-eqb, le-leb, lt-leb, lt-ltb, le-ltb, eqb-true, eqb-false, ltb-true, ltb-false, leb-true, leb-false, not-true}
 use Rattle.blocks.specs.Pick.{pick}
 use Rattle.blocks.specs.Bytes.{u32At, le32, splice, store, blockCount, blockAt, zeroBlock, storeBlock, storeAll}
-use Rattle.blocks.specs.Name.{isName}
 use Rattle.blocks.specs.Descriptor.{physical, tableCount, cost, costOf, noDescriptor, descriptorAt, headBytes, tailAt, descriptorBlock, renamedOf, linkedOf, extendedOf, reopenedOf, copying}
 use Rattle.blocks.specs.Chain.{chain, chainSound, indexOf, named, regionsOf, activeOf}
 use Rattle.blocks.specs.declared.descriptor.Descriptor.{Descriptor}
@@ -35,17 +34,17 @@ use Rattle.entries.proofs.SetLaws.{table-length, tail-with-length}
 use Rattle.calls.specs.declared.answer.Target.{Target}
 use Rattle.calls.specs.Call.{Call, Read, Write, Snap, Revert, Block}
 use Rattle.calls.specs.Parts.{areaBad, descriptorsOf, snapshotsOf, withName, targetOf, foundThrough, isMisplaced, blockFound}
-use Rattle.calls.specs.Ladder.{rowsOf, readRows, writeRows, snapRows, revertRows, answerOf}
-use Rattle.calls.specs.Effect.{storesOf, filledOf, snapping, reverting}
+use Rattle.calls.specs.Ladder.{rowsOf, readRows, answerOf}
+use Rattle.calls.specs.Effect.{storesOf, filledOf, snapping, reverting, writeStores, snapStores, revertStores}
 use Rattle.claims.specs.Algorithms.{Sigma, put, putNumber, copyRange, closeRegion, openRegion, algorithm1, algorithm2, algorithm3, algorithm4, algorithm5, algorithm6}
 use Rattle.calls.specs.Step.{step, isAccepted}
 use Rattle.claims.specs.History.{AreBytes}
 use Rattle.claims.specs.Claims.{AlgorithmClaim}
 use Rattle.calls.proofs.CardLaws.{card-through, card-snapshot, card-snapshot-count}
-use Rattle.calls.proofs.RowLaws.{rows-passed}
+use Rattle.calls.proofs.Passed.{read-passed, write-passed, snap-passed, revert-passed}
 use Rattle.calls.proofs.StepLaws.{stored-append, accepted-card}
 use Rattle.claims.proofs.Stored.{form-name}
-use Rattle.claims.proofs.Frame.{regions-ok, active-through, active-name, block-whole}
+use Rattle.claims.proofs.Inside.{regions-ok, active-through, active-name, block-whole}
 
 -- an accepted call: the card after it, and what was lent
 accepted-lent : (k : Call) (c : List ℕ) → isAccepted (answerOf k c) ≡ true → step k c .outcome .lent ≡ filledOf k c
@@ -105,12 +104,12 @@ pub algorithm-read : (c : List ℕ) → AreBytes c → (target : Target) (name :
     step (Read target name l block) c .outcome .lent ≡ Block (pick (eqb (d .layout) 1) (algorithm1 (blockAt c) (d .alpha .0) l) (algorithm4 (blockAt c) (d .alpha .0) l))
 unfolding filledOf rowsOf readRows
 algorithm-read c bytes target name l block e =
-    let rows = rows-passed (Read target name l block) c e in
+    let shown = read-passed c target name l block e in
     let d : Descriptor = targetOf (descriptorsOf c) target name in
-    let most = active-volume c (rows 0 (omega arith)) (not-false (chainSound (chain c)) (rows 3 (omega arith))) in
-    let below : l < activeOf (descriptorsOf c) .volume = leb-false (activeOf (descriptorsOf c) .volume) l (rows 5 (omega arith)) in
+    let most = active-volume c (shown .area) (shown .sound) in
+    let below = shown .below in
     accepted-lent (Read target name l block) c e
-    ∙ ap Block (read-by c (descriptorsOf c) d l (omega (arith, most, below)) (eqb (d .layout) 1) refl (rows 6 (omega arith)))
+    ∙ ap Block (read-by c (descriptorsOf c) d l (omega (arith, most, below)) (eqb (d .layout) 1) refl (shown .in-place))
 
 -- the block of a descriptor of the chain
 region-block : (c : List ℕ) → AreBytes c → (p end : ℕ) (d : Descriptor) → RegionAt c p end d → 512 * d .alpha .0 + 512 ≤ length c → blockAt c (d .alpha .0) ≡ descriptorBlock d (tailAt c (d .alpha .0))
@@ -185,12 +184,12 @@ reverted c v name is h e f p =
 pub algorithm-revert : (c : List ℕ) → AreBytes c → (name : List ℕ) → isAccepted (answerOf (Revert name) c) ≡ true → (p : ℕ) → p < blockCount c
     → let v = withName (snapshotsOf (descriptorsOf c)) name in
     blockAt (step (Revert name) c .card) p ≡ closeRegion (blockAt c) (v .alpha .0) 0 (activeOf (descriptorsOf c) .name) p
-unfolding storesOf rowsOf revertRows
+unfolding storesOf revertStores
 algorithm-revert c bytes name e p h =
-    let rows = rows-passed (Revert name) c e in
-    let area : areaBad c ≡ false = rows 0 (omega arith) in
-    let sound : chainSound (chain c) ≡ true = not-false (chainSound (chain c)) (rows 2 (omega arith)) in
-    let called : named (snapshotsOf (descriptorsOf c)) name ≡ true = not-false (named (snapshotsOf (descriptorsOf c)) name) (rows 3 (omega arith)) in
+    let shown = revert-passed c name e in
+    let area = shown .area in
+    let sound = shown .sound in
+    let called = shown .there in
     let v : Descriptor = withName (snapshotsOf (descriptorsOf c)) name in
     let starts : List ℕ = regionsOf (chain c) .starts in
     let count : ℕ = regionsOf (chain c) .count in
@@ -393,14 +392,14 @@ module _ (c : List ℕ) (bytes : AreBytes c) (starts : List ℕ) (count : ℕ) (
 pub algorithm-snap : (c : List ℕ) → AreBytes c → (name : List ℕ) → isAccepted (answerOf (Snap name) c) ≡ true → (p : ℕ) → p < blockCount c
     → let d = activeOf (descriptorsOf c) in
     blockAt (step (Snap name) c .card) p ≡ pick (eqb (d .layout) 1) (algorithm3 (blockAt c) (d .alpha .0) (tableCount (d .volume)) name) (algorithm6 (blockAt c) (d .alpha .0) name) p
-unfolding storesOf rowsOf snapRows blockCount
+unfolding storesOf snapStores blockCount
 algorithm-snap c bytes name e p h =
-    let rows = rows-passed (Snap name) c e in
-    let area : areaBad c ≡ false = rows 0 (omega arith) in
-    let sound : chainSound (chain c) ≡ true = not-false (chainSound (chain c)) (rows 2 (omega arith)) in
+    let shown = snap-passed c name e in
+    let area = shown .area in
+    let sound = shown .sound in
     let d : Descriptor = activeOf (descriptorsOf c) in
-    let long : length name ≡ 16 = name-size name (not-false (isName name) (rows 1 (omega arith))) in
-    let room : d .beta .0 + costOf d ≤ length c / 512 = ltb-false (length c / 512) (d .beta .0 + costOf d) (rows 5 (omega arith)) in
+    let long : length name ≡ 16 = name-size name (shown .called) in
+    let room : d .beta .0 + costOf d ≤ length c / 512 = shown .room in
     ap (λ (x : List ℕ). blockAt x p) (accepted-card (Snap name) c e)
     ∙ snap-by c bytes (regionsOf (chain c) .starts) (regionsOf (chain c) .count) d (active-through c area sound) name long (omega arith) p (eqb (d .layout) 1) refl
 
@@ -700,17 +699,17 @@ module _ (c : List ℕ) (bytes : AreBytes c) (starts : List ℕ) (count : ℕ) (
 pub algorithm-write : (c : List ℕ) → AreBytes c → (l : ℕ) (block : List ℕ) → isAccepted (answerOf (Write l block) c) ≡ true → (p : ℕ) → p < blockCount c
     → let d = activeOf (descriptorsOf c) in
     blockAt (step (Write l block) c .card) p ≡ pick (eqb (d .layout) 1) (algorithm2 (blockAt c) (d .alpha .0) l block) (algorithm5 (blockAt c) (d .alpha .0) l block) p
-unfolding storesOf rowsOf writeRows blockCount
+unfolding storesOf writeStores blockCount
 algorithm-write c bytes l block e p h =
-    let rows = rows-passed (Write l block) c e in
-    let area : areaBad c ≡ false = rows 0 (omega arith) in
-    let sound : chainSound (chain c) ≡ true = not-false (chainSound (chain c)) (rows 2 (omega arith)) in
+    let shown = write-passed c l block e in
+    let area = shown .area in
+    let sound = shown .sound in
     let d : Descriptor = activeOf (descriptorsOf c) in
-    let whole : length block ≡ 512 = eqb-true (length block) 512 (not-false (eqb (length block) 512) (rows 1 (omega arith))) in
-    let below : l < d .volume = leb-false (d .volume) l (rows 3 (omega arith)) in
-    let room : d .beta .0 + need (d .alpha .0) (foundThrough c d l) ≤ length c / 512 = ltb-false (length c / 512) (d .beta .0 + need (d .alpha .0) (foundThrough c d l)) (rows 5 (omega arith)) in
+    let whole = shown .whole in
+    let below = shown .below in
+    let room : d .beta .0 + need (d .alpha .0) (foundThrough c d l) ≤ length c / 512 = shown .room in
     ap (λ (x : List ℕ). blockAt x p) (accepted-card (Write l block) c e)
-    ∙ write-by c bytes (regionsOf (chain c) .starts) (regionsOf (chain c) .count) d (active-through c area sound) l block whole below (rows 4 (omega arith)) room p (eqb (d .layout) 1) refl
+    ∙ write-by c bytes (regionsOf (chain c) .starts) (regionsOf (chain c) .count) d (active-through c area sound) l block whole below (shown .in-place) room p (eqb (d .layout) 1) refl
 
 -- accepted calls are the paper's algorithms
 pub algorithm-claim : AlgorithmClaim

@@ -1,12 +1,12 @@
 -- A card of bytes stays one: each call stores bytes, and so does a format.
-use mathlib.Core.Path.{_≡_, refl, sym, _∙_}
+use mathlib.Core.Path.{_≡_, refl, sym}
 use mathlib.Core.Bool.{Bool, true, false, not, _&&_, _||_}
 use mathlib.Core.List.{List, [], _∷_, _++_}
 use Prim.Native.Nat.{ℕ, zero, suc, _+_, _*_, _-_, _/_, _%_, _<_}
 use native.Mathlib.Omega.{arith}
 use lib.ListN.{length, take, drop, replicate}
 use lib.Dec.{eqb, ltb, leb}
-use borrow.Author.Tests.{eqb-true, leb-true, not-false}
+use borrow.Author.Tests.{eqb-true, leb-true}
 use Rattle.blocks.specs.Pick.{pick, allZero}
 use Rattle.blocks.specs.Bytes.{part, splice, le32, blockAt, blockCount, zeroBlock, Store, store, storeBlock, storeAll}
 use Rattle.blocks.specs.Name.{nameByte, nameLength, isName}
@@ -18,15 +18,16 @@ use Rattle.blocks.proofs.BoolLaws.{no}
 use Rattle.entries.specs.Entry.{need, tableIsNew, tableWith, tailWith, setInTable, setInNewTable, writing}
 use Rattle.entries.specs.declared.find.Found.{Found}
 use Rattle.entries.specs.declared.find.Found.the-variants.{Misplaced, Entry}
-use Rattle.calls.specs.Call.{Call, Ream, Read, Write, Snap, Revert, Listing, Check}
+use Rattle.calls.specs.Call.{Call}
 use Rattle.calls.specs.Parts.{areaBad, descriptorsOf, snapshotsOf, withName, foundThrough}
-use Rattle.calls.specs.Ladder.{rowsOf, writeRows, snapRows, revertRows, answerOf}
-use Rattle.calls.specs.Effect.{snapping, reverting, storesOf}
-use Rattle.calls.specs.Step.{step, after, isAccepted}
-use Rattle.claims.specs.History.{isReam, isFormat, AreBytes, writtenBy, Standing, none, more, formattable, formatted}
-use Rattle.calls.proofs.RowLaws.{rows-passed}
+use Rattle.calls.specs.Effect.{snapping, reverting, writeStores, snapStores, revertStores}
+use Rattle.calls.specs.Step.{step, after}
+use Rattle.claims.specs.History.{formats, isFormat, AreBytes, bytesOf, writtenBy, Standing, none, more, formattable, formatted}
 use Rattle.claims.proofs.ChainAfter.{active-name}
 use Rattle.claims.proofs.Runs.{standing-length, step-length}
+use Rattle.calls.proofs.Passed.{WritePassed, SnapPassed, RevertPassed}
+use Rattle.claims.specs.Kinds.{Kind}
+use Rattle.claims.proofs.Changes.{storesBy, Allowed, to-format, to-leave, to-write, to-snap, to-revert, step-cases}
 
 -- lists of bytes: their parts and joins
 bytes-nil : AreBytes []
@@ -218,50 +219,37 @@ module _ (c : List ℕ) (card : AreBytes c) where
       (also (d .beta .0) block t (stores-table d (m .0) l h)))
 
   -- the name of the active descriptor
-  active-bytes : areaBad c ≡ false → not (chainSound (chain c)) ≡ false → AreBytes (activeOf (descriptorsOf c) .name)
-  active-bytes a s = bytes-name (activeOf (descriptorsOf c) .name) (active-name c a (not-false (chainSound (chain c)) s))
+  active-bytes : areaBad c ≡ false → chainSound (chain c) ≡ true → AreBytes (activeOf (descriptorsOf c) .name)
+  active-bytes a s = bytes-name (activeOf (descriptorsOf c) .name) (active-name c a s)
 
-  stores-write : (l : ℕ) (block : List ℕ) → AreBytes block → isAccepted (answerOf (Write l block) c) ≡ true → ByteStores (storesOf (Write l block) c)
-  unfolding storesOf rowsOf writeRows
+  stores-write : (l : ℕ) (block : List ℕ) → AreBytes block → WritePassed c l block → ByteStores (writeStores c l block)
+  unfolding writeStores
   stores-write l block t e =
-      let f = rows-passed (Write l block) c e in
       let d = activeOf (descriptorsOf c) in
-      stores-writing d (foundThrough c d l) l block (active-bytes (f 0 (omega arith)) (f 2 (omega arith))) t
+      stores-writing d (foundThrough c d l) l block (active-bytes (e .area) (e .sound)) t
 
-  stores-snap : (name : List ℕ) → isAccepted (answerOf (Snap name) c) ≡ true → ByteStores (storesOf (Snap name) c)
-  unfolding storesOf rowsOf snapRows
-  stores-snap name e =
-      let f = rows-passed (Snap name) c e in
-      stores-snapping (activeOf (descriptorsOf c)) name (active-bytes (f 0 (omega arith)) (f 2 (omega arith))) (bytes-name name (not-false (isName name) (f 1 (omega arith))))
+  stores-snap : (name : List ℕ) → SnapPassed c name → ByteStores (snapStores c name)
+  unfolding snapStores
+  stores-snap name e = stores-snapping (activeOf (descriptorsOf c)) name (active-bytes (e .area) (e .sound)) (bytes-name name (e .called))
 
-  stores-revert : (name : List ℕ) → isAccepted (answerOf (Revert name) c) ≡ true → ByteStores (storesOf (Revert name) c)
-  unfolding storesOf rowsOf revertRows
+  stores-revert : (name : List ℕ) → RevertPassed c name → ByteStores (revertStores c name)
+  unfolding revertStores
   stores-revert name e =
-      let f = rows-passed (Revert name) c e in
       let ds = descriptorsOf c in
-      stores-reverting (withName (snapshotsOf ds) name) (activeOf ds .name) (active-bytes (f 0 (omega arith)) (f 2 (omega arith)))
+      stores-reverting (withName (snapshotsOf ds) name) (activeOf ds .name) (active-bytes (e .area) (e .sound))
 
-  stores-none : (k : Call) → storesOf k c ≡ [] → ByteStores (storesOf k c)
-  stores-none k q = rw q nothing
-
-  stores-accepted : (k : Call) → AreBytes (writtenBy k) → isFormat k c ≡ false → isAccepted (answerOf k c) ≡ true → ByteStores (storesOf k c)
-  unfolding isFormat isReam storesOf writtenBy
-  stores-accepted (Ream layout volume name) w f e = no (sym f ∙ e)
-  stores-accepted (Read target name l block) w f e = stores-none (Read target name l block) refl
-  stores-accepted (Write l block) w f e = stores-write l block w e
-  stores-accepted (Snap name) w f e = stores-snap name e
-  stores-accepted (Revert name) w f e = stores-revert name e
-  stores-accepted (Listing records) w f e = stores-none (Listing records) refl
-  stores-accepted Check w f e = stores-none Check refl
-
-  card-by : (k : Call) (z : Bool) → isAccepted (answerOf k c) ≡ z → AreBytes (writtenBy k) → isFormat k c ≡ false → AreBytes (step k c .card)
-  unfolding step
-  card-by k true e w f = rw e (bytes-stored c card (stores-accepted k w f e))
-  card-by k false e w f = rw e card
+  stores-change : {x : Kind} → AreBytes (bytesOf x) → formats x ≡ false → Allowed c x → ByteStores (storesBy x c)
+  unfolding bytesOf formats storesBy
+  stores-change w f (to-format h) = no (sym f)
+  stores-change w f to-leave = nothing
+  stores-change w f (to-write {l = l} {block = block} h) = stores-write l block w h
+  stores-change w f (to-snap {name = name} h) = stores-snap name h
+  stores-change w f (to-revert {name = name} h) = stores-revert name h
 
 -- a call that is no accepted format, and a list of them
 pub bytes-step : (k : Call) (c : List ℕ) → AreBytes c → AreBytes (writtenBy k) → isFormat k c ≡ false → AreBytes (step k c .card)
-bytes-step k c h w f = card-by c h k (isAccepted (answerOf k c)) refl w f
+unfolding writtenBy
+bytes-step k c h w f = step-cases k c AreBytes (λ e. h) (λ e n a. bytes-stored c h (stores-change c h w n a)) f
 
 pub bytes-run : (ks : List Call) (c : List ℕ) → AreBytes c → Standing c ks → AreBytes (after ks c)
 unfolding after

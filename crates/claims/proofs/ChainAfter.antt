@@ -1,4 +1,4 @@
--- Cards with a sound chain, and the chain after an accepted revert.
+-- Cards with a sound chain, and the chain after a revert.
 use mathlib.Core.Path.{_≡_, refl, sym, ap, _∙_}
 use mathlib.Core.Logic.{inl}
 use mathlib.Core.Bool.{true, false}
@@ -7,7 +7,7 @@ use Prim.Native.Nat.{ℕ, zero, suc, _+_, _*_, _≤_, _<_}
 use native.Mathlib.Omega.{arith}
 use lib.ListN.{length, take, drop, length-append}
 use lib.Seq.{split-at}
-use borrow.Author.Tests.{not-false, ne-eqb}
+use borrow.Author.Tests.{ne-eqb}
 use Rattle.blocks.specs.Bytes.{part, blockCount, blockAt, store, storeAll}
 use Rattle.blocks.specs.Name.{isName}
 use Rattle.blocks.specs.Descriptor.{physical, costOf, noDescriptor, descriptorAt, tailAt, descriptorBlock, renamedOf, linkedOf, copying, reservedOk, phiOk}
@@ -19,18 +19,15 @@ use Rattle.blocks.proofs.SoundLaws.{form-most, form-layout}
 use Rattle.blocks.proofs.ChainLaws.{region-long, region-end, cost-least}
 use Rattle.blocks.proofs.LinkedLaws.{Linked, chain-linked, chain-few, linked-some, linked-rise, region-start-suc, region-start-zero}
 use Rattle.blocks.proofs.NameLaws.{name-size}
-use Rattle.calls.specs.Call.{Revert}
 use Rattle.calls.specs.Parts.{areaBad, descriptorsOf, snapshotsOf, withName}
-use Rattle.calls.specs.Ladder.{rowsOf, revertRows, answerOf}
-use Rattle.calls.specs.Effect.{storesOf, reverting}
-use Rattle.calls.specs.Step.{isAccepted}
+use Rattle.calls.specs.Effect.{reverting, revertStores}
 use Rattle.calls.proofs.CardLaws.{card-most, chain-is}
-use Rattle.calls.proofs.RowLaws.{rows-passed}
+use Rattle.calls.proofs.Passed.{RevertPassed}
 use Rattle.claims.proofs.Agreement.{end-from}
 use Rattle.claims.proofs.Stored.{block-long, tail-part, form-kept, form-phi, form-name}
 use Rattle.claims.proofs.Changed.{layout-small, named-left, member-from, member-form, member-region, member-fresh, member-inside, changed-last}
 use Rattle.claims.proofs.StoreLists.{Whole, none, isStored, stored-length, stored-other, stored-last}
-use Rattle.claims.proofs.Frame.{stores-inside}
+use Rattle.claims.proofs.Inside.{revert-whole}
 
 -- a chain is its snapshots, then the active descriptor
 active-from : (d : Descriptor) (ds : List Descriptor) → d ∷ ds ≡ snapshotsOf (d ∷ ds) ++ (activeOf (d ∷ ds) ∷ [])
@@ -164,13 +161,7 @@ copies-stored c from p zero q h = refl
 copies-stored c from p (suc n) q h = rw (ne-eqb p q (omega arith)) (copies-stored c (suc from) (suc p) n q (omega arith))
 
 -- a revert
-module _ (c name : List ℕ) (e : isAccepted (answerOf (Revert name) c) ≡ true) where
-  pub revert-rows : (areaBad c ≡ false) × (chainSound (chain c) ≡ true) × (named (snapshotsOf (descriptorsOf c)) name ≡ true)
-  unfolding rowsOf revertRows
-  revert-rows =
-      let rows = rows-passed (Revert name) c e in
-      (rows 0 (omega arith), not-false (chainSound (chain c)) (rows 2 (omega arith)), not-false (named (snapshotsOf (descriptorsOf c)) name) (rows 3 (omega arith)))
-
+module _ (c name : List ℕ) (e : RevertPassed c name) where
   abbrev ss : List Descriptor
   ss = snapshotsOf (descriptorsOf c)
 
@@ -181,56 +172,61 @@ module _ (c name : List ℕ) (e : isAccepted (answerOf (Revert name) c) ≡ true
   w = linkedOf (renamedOf v (activeOf (descriptorsOf c) .name)) (physical 0)
 
   abbrev t : List ℕ
-  t = storeAll c (storesOf (Revert name) c)
+  t = storeAll c (revertStores c name)
 
   pub revert-split : descriptorsOf c ≡ before ss name ++ (v ∷ (behind ss name ++ (activeOf (descriptorsOf c) ∷ [])))
   revert-split =
-      active-last c (revert-rows .0) (revert-rows .1)
-      ∙ ap (λ (xs : List Descriptor). xs ++ (activeOf (descriptorsOf c) ∷ [])) (name-split ss name (revert-rows .2))
+      active-last c (e .area) (e .sound)
+      ∙ ap (λ (xs : List Descriptor). xs ++ (activeOf (descriptorsOf c) ∷ [])) (name-split ss name (e .there))
       ∙ append-assoc (before ss name) (v ∷ behind ss name) (activeOf (descriptorsOf c) ∷ [])
 
-  pub stores-are : storesOf (Revert name) c ≡ store (v .alpha .0) (descriptorBlock w (tailAt c (v .alpha .0))) ∷ []
-  unfolding storesOf reverting
+  pub stores-are : revertStores c name ≡ store (v .alpha .0) (descriptorBlock w (tailAt c (v .alpha .0))) ∷ []
+  unfolding revertStores reverting
   stores-are = refl
 
-  pub whole : Whole (length c) (storesOf (Revert name) c)
-  whole = stores-inside (Revert name) c e
+  pub whole : Whole (length c) (revertStores c name)
+  whole = revert-whole c name e
 
-  module _ (area : areaBad c ≡ false) (ok : chainSound (chain c) ≡ true) where
-    abbrev xs : List Descriptor
-    xs = before ss name
+  area : areaBad c ≡ false
+  area = e .area
 
-    abbrev ys : List Descriptor
-    ys = behind ss name ++ (activeOf (descriptorsOf c) ∷ [])
+  ok : chainSound (chain c) ≡ true
+  ok = e .sound
 
-    pub fits : Fits w
-    fits =
-        let b = link-end c area ok xs v ys revert-split in
-        let l = link-low c area ok xs v ys revert-split in
-        let n = link-most c area ok xs v ys revert-split in
-        fits-of w (link-layout c area ok xs v ys revert-split) (link-volume c area ok xs v ys revert-split) (omega arith) (omega arith) (omega arith) (active-name c area ok)
+  abbrev xs : List Descriptor
+  xs = before ss name
 
-    pub tail : length (tailAt c (v .alpha .0)) ≡ 472
-    tail = tail-length c (v .alpha .0) (link-inside c area ok xs v ys revert-split)
+  abbrev ys : List Descriptor
+  ys = behind ss name ++ (activeOf (descriptorsOf c) ∷ [])
 
-    pub block : blockAt t (v .alpha .0) ≡ descriptorBlock w (tailAt c (v .alpha .0))
-    block =
-        rw stores-are
-        (stored-last (length c) c refl none (v .alpha .0) (descriptorBlock w (tailAt c (v .alpha .0))) (block-long w (tailAt c (v .alpha .0)) fits tail) (link-inside c area ok xs v ys revert-split) none (none-stored (v .alpha .0)))
+  pub fits : Fits w
+  fits =
+      let b = link-end c area ok xs v ys revert-split in
+      let l = link-low c area ok xs v ys revert-split in
+      let n = link-most c area ok xs v ys revert-split in
+      fits-of w (link-layout c area ok xs v ys revert-split) (link-volume c area ok xs v ys revert-split) (omega arith) (omega arith) (omega arith) (active-name c area ok)
 
-    kept : (q : ℕ) → q < v .alpha .0 → blockAt c q ≡ blockAt t q
-    kept q h = sym (stored-other (length c) c refl whole q (rw stores-are (one-stored (v .alpha .0) (descriptorBlock w (tailAt c (v .alpha .0))) q (λ k. omega arith))))
+  pub tail : length (tailAt c (v .alpha .0)) ≡ 472
+  tail = tail-length c (v .alpha .0) (link-inside c area ok xs v ys revert-split)
 
-    pub same-long : length c ≡ length t
-    same-long = sym (stored-length (length c) c refl whole)
+  pub block : blockAt t (v .alpha .0) ≡ descriptorBlock w (tailAt c (v .alpha .0))
+  block =
+      rw stores-are
+      (stored-last (length c) c refl none (v .alpha .0) (descriptorBlock w (tailAt c (v .alpha .0))) (block-long w (tailAt c (v .alpha .0)) fits tail) (link-inside c area ok xs v ys revert-split) none (none-stored (v .alpha .0)))
 
-    chain-by : chain t ≡ Sound (xs ++ (w ∷ []))
-    chain-by =
-        let n = count-kept c t same-long in
-        changed-last c (descriptorsOf c) xs v ys (sound-is c area ok) revert-split t same-long kept w (tailAt c (v .alpha .0)) block fits tail refl refl refl (active-name c area ok)
-        (link-reserved c area ok xs v ys revert-split) (link-phi c area ok xs v ys revert-split) (link-long c area ok xs v ys revert-split) (omega (arith, link-end c area ok xs v ys revert-split)) (inl refl)
-        (named-left xs (v ∷ behind ss name) (activeOf (descriptorsOf c) .name) (rw (name-split ss name (revert-rows .2)) at (active-fresh c area ok)))
-        refl (omega (arith, snapshots-few c area ok, ap length (name-split ss name (revert-rows .2)), length-append xs (v ∷ behind ss name)))
+  kept : (q : ℕ) → q < v .alpha .0 → blockAt c q ≡ blockAt t q
+  kept q h = sym (stored-other (length c) c refl whole q (rw stores-are (one-stored (v .alpha .0) (descriptorBlock w (tailAt c (v .alpha .0))) q (λ k. omega arith))))
+
+  pub same-long : length c ≡ length t
+  same-long = sym (stored-length (length c) c refl whole)
+
+  chain-by : chain t ≡ Sound (xs ++ (w ∷ []))
+  chain-by =
+      let n = count-kept c t same-long in
+      changed-last c (descriptorsOf c) xs v ys (sound-is c area ok) revert-split t same-long kept w (tailAt c (v .alpha .0)) block fits tail refl refl refl (active-name c area ok)
+      (link-reserved c area ok xs v ys revert-split) (link-phi c area ok xs v ys revert-split) (link-long c area ok xs v ys revert-split) (omega (arith, link-end c area ok xs v ys revert-split)) (inl refl)
+      (named-left xs (v ∷ behind ss name) (activeOf (descriptorsOf c) .name) (rw (name-split ss name (e .there)) at (active-fresh c area ok)))
+      refl (omega (arith, snapshots-few c area ok, ap length (name-split ss name (e .there)), length-append xs (v ∷ behind ss name)))
 
   pub reverted-chain : chain t ≡ Sound (before ss name ++ (w ∷ []))
-  reverted-chain = chain-by (revert-rows .0) (revert-rows .1)
+  reverted-chain = chain-by

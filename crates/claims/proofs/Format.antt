@@ -40,7 +40,7 @@ use Rattle.claims.proofs.Local.{linked-chain}
 use Rattle.claims.proofs.Stored.{block-tail, stored-descriptor, stored-bytes, stored-mark, region-ok}
 use Rattle.claims.proofs.Changed.{layout-small}
 use Rattle.claims.proofs.StoreLists.{isStored, stored-length, stored-other}
-use Rattle.claims.proofs.Frame.{inside-clearing, block-whole}
+use Rattle.claims.proofs.Inside.{inside-clearing, block-whole}
 
 -- a store before block b leaves the bytes from block b on
 store-past : (c : List ℕ) (p : ℕ) (bytes : List ℕ) (b : ℕ) → length bytes ≡ 512 → 512 * p + 512 ≤ length c → p < b → drop (512 * b) (storeBlock c p bytes) ≡ drop (512 * b) c

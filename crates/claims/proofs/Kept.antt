@@ -9,11 +9,11 @@ use native.Mathlib.Omega.{arith}
 use lib.ListN.{length, take, drop, length-append, take-append-drop}
 use lib.Seq.{take-append-le, take-append-add, append-snoc}
 use lib.Dec.{eqb, ltb, leb}
-use borrow.Author.Tests.{ne-eqb, leb-true, leb-false, ltb-false, not-false}
+use borrow.Author.Tests.{ne-eqb, leb-true, leb-false, ltb-false}
 use Rattle.blocks.specs.Pick.{pick}
-use Rattle.blocks.specs.Bytes.{blockAt, store, storeAll}
+use Rattle.blocks.specs.Bytes.{blockAt, store, storeAll, Store}
 use Rattle.blocks.specs.Descriptor.{physical, renamedOf, linkedOf, extendedOf, reopenedOf}
-use Rattle.blocks.specs.Chain.{Sound, chain, chainSound, indexOf, named, activeOf}
+use Rattle.blocks.specs.Chain.{Sound, chain, indexOf, named, activeOf}
 use Rattle.blocks.specs.declared.descriptor.Descriptor.{Descriptor}
 use Rattle.blocks.proofs.Tests.{and-right}
 use Rattle.blocks.proofs.BoolLaws.{no, or-false-right}
@@ -22,20 +22,21 @@ use Rattle.blocks.proofs.ChainLaws.{active-snoc, descriptors-are}
 use Rattle.entries.specs.Entry.{tableIsNew, need, setInTable, setInNewTable, writing}
 use Rattle.entries.specs.declared.find.Found.{Found}
 use Rattle.entries.specs.declared.find.Found.the-variants.{Misplaced, Entry}
-use Rattle.calls.specs.Call.{Call, Ream, Read, Write, Snap, Revert, Listing, Check}
-use Rattle.calls.specs.Parts.{areaBad, descriptorsOf, snapshotsOf, withName, foundThrough}
-use Rattle.calls.specs.Ladder.{rowsOf, writeRows, answerOf}
-use Rattle.calls.specs.Effect.{storesOf, reverting}
-use Rattle.calls.specs.Step.{step, isAccepted}
-use Rattle.claims.specs.History.{isReam, isFormat}
-use Rattle.calls.proofs.RowLaws.{rows-passed}
+use Rattle.calls.specs.Call.{Call}
+use Rattle.calls.specs.Parts.{descriptorsOf, snapshotsOf, withName, foundThrough}
+use Rattle.calls.specs.Effect.{reverting, writeStores, snapStores, revertStores}
+use Rattle.calls.specs.Step.{step}
+use Rattle.claims.specs.History.{isFormat, formats}
 use Rattle.claims.proofs.Relinked.{later-alpha}
 use Rattle.claims.proofs.Changed.{named-left, member-from, member-fresh}
-use Rattle.claims.proofs.StoreLists.{isStored, stored-length, stored-other}
-use Rattle.claims.proofs.Frame.{stores-inside}
+use Rattle.claims.proofs.StoreLists.{isStored, stored-length, stored-other, Whole}
+use Rattle.claims.proofs.Inside.{write-whole, snap-whole, revert-whole}
 use Rattle.claims.proofs.ChainAfter.{before, behind, active-split, snapshots-snoc, active-last, link-low, one-stored, revert-split, reverted-chain}
-use Rattle.claims.proofs.SnappedChain.{snap-rows, snap-above, snapped-chain}
+use Rattle.claims.proofs.SnappedChain.{snap-above, snapped-chain}
 use Rattle.claims.proofs.WrittenChain.{written-chain}
+use Rattle.calls.proofs.Passed.{WritePassed, SnapPassed, RevertPassed}
+use Rattle.claims.specs.Kinds.{Kind}
+use Rattle.claims.proofs.Changes.{storesBy, Allowed, to-format, to-leave, to-write, to-snap, to-revert, step-cases}
 
 -- a later region starts where an earlier one ends, or after
 beta-before : {c : List ℕ} {es : List Descriptor} {p : ℕ} {ds : List Descriptor} → Linked c es p ds → (v : Descriptor) (us : List Descriptor) (u : Descriptor) (ws : List Descriptor) → ds ≡ v ∷ (us ++ (u ∷ ws))
@@ -110,10 +111,9 @@ module _ (s : List ℕ) (xs : List Descriptor) (v : Descriptor) (n : List ℕ) (
   active-above = omega (arith, after-v (snapshotsOf rest) (activeOf rest) [] (active-split rest (h .some)), ap (λ (x : Descriptor). x .alpha .0) stands-active)
 
   -- stores at or above v's beta, and a chain that still has v
-  stands-by : (k : Call) → isAccepted (answerOf k t) ≡ true → (ys : List Descriptor) → 0 < length ys → chain (storeAll t (storesOf k t)) ≡ Sound (xs ++ (v ∷ ys)) → activeOf ys .name ≡ n
-      → ((p : ℕ) → p < v .beta .0 → isStored (storesOf k t) p ≡ false) → Stands s xs v n (storeAll t (storesOf k t))
-  stands-by k e ys m is a low =
-      let w = stores-inside k t e in
+  stands-by : (ss : List Store) → Whole (length t) ss → (ys : List Descriptor) → 0 < length ys → chain (storeAll t ss) ≡ Sound (xs ++ (v ∷ ys)) → activeOf ys .name ≡ n
+      → ((p : ℕ) → p < v .beta .0 → isStored ss p ≡ false) → Stands s xs v n (storeAll t ss)
+  stands-by ss w ys m is a low =
       record {
         long = h .long ∙ sym (stored-length (length t) t refl w);
         rest = ys;
@@ -130,38 +130,32 @@ module _ (s : List ℕ) (xs : List Descriptor) (v : Descriptor) (n : List ℕ) (
   active-name = ap (λ (x : Descriptor). x .name) stands-active ∙ h .active
 
   -- a write
-  write-rows : (l : ℕ) (block : List ℕ) → isAccepted (answerOf (Write l block) t) ≡ true → (areaBad t ≡ false) × (chainSound (chain t) ≡ true)
-  unfolding rowsOf writeRows
-  write-rows l block e = let rows = rows-passed (Write l block) t e in (rows 0 (omega arith), not-false (chainSound (chain t)) (rows 2 (omega arith)))
-
-  write-above : (l : ℕ) (block : List ℕ) → isAccepted (answerOf (Write l block) t) ≡ true → (p : ℕ) → p < v .beta .0 → isStored (storesOf (Write l block) t) p ≡ false
-  unfolding storesOf
+  write-above : (l : ℕ) (block : List ℕ) → WritePassed t l block → (p : ℕ) → p < v .beta .0 → isStored (writeStores t l block) p ≡ false
+  unfolding writeStores
   write-above l block e p q =
-      let r = write-rows l block e in
       let d = activeOf (descriptorsOf t) in
-      writing-above t d (link-low t (r .0) (r .1) (snapshotsOf (descriptorsOf t)) d [] (active-last t (r .0) (r .1))) l block p (omega (arith, active-above)) (foundThrough t d l)
+      writing-above t d (link-low t (e .area) (e .sound) (snapshotsOf (descriptorsOf t)) d [] (active-last t (e .area) (e .sound))) l block p (omega (arith, active-above)) (foundThrough t d l)
 
-  pub stands-write : (l : ℕ) (block : List ℕ) → isAccepted (answerOf (Write l block) t) ≡ true → Stands s xs v n (storeAll t (storesOf (Write l block) t))
+  pub stands-write : (l : ℕ) (block : List ℕ) → WritePassed t l block → Stands s xs v n (storeAll t (writeStores t l block))
   stands-write l block e =
       let d = activeOf (descriptorsOf t) in
       let x = extendedOf d (need (d .alpha .0) (foundThrough t d l)) in
-      stands-by (Write l block) e (snapshotsOf rest ++ (x ∷ [])) (omega (arith, length-append (snapshotsOf rest) (x ∷ [])))
+      stands-by (writeStores t l block) (write-whole t l block e) (snapshotsOf rest ++ (x ∷ [])) (omega (arith, length-append (snapshotsOf rest) (x ∷ [])))
       (written-chain t l block e ∙ ap Sound (grown (x ∷ []))) (ap (λ (y : Descriptor). y .name) (active-snoc (snapshotsOf rest) x) ∙ active-name) (write-above l block e)
 
   -- a snap
-  pub stands-snap : (name : List ℕ) → isAccepted (answerOf (Snap name) t) ≡ true → Stands s xs v n (storeAll t (storesOf (Snap name) t))
+  pub stands-snap : (name : List ℕ) → SnapPassed t name → Stands s xs v n (storeAll t (snapStores t name))
   stands-snap name e =
       let d = activeOf (descriptorsOf t) in
       let old = linkedOf (renamedOf d name) (d .beta) in
       let new = reopenedOf d in
-      let r = snap-rows t name e in
-      stands-by (Snap name) e (snapshotsOf rest ++ (old ∷ new ∷ [])) (omega (arith, length-append (snapshotsOf rest) (old ∷ new ∷ [])))
+      stands-by (snapStores t name) (snap-whole t name e) (snapshotsOf rest ++ (old ∷ new ∷ [])) (omega (arith, length-append (snapshotsOf rest) (old ∷ new ∷ [])))
       (snapped-chain t name e ∙ ap Sound (grown (old ∷ new ∷ [])))
       (ap (λ (ys : List Descriptor). activeOf ys .name) (sym (append-snoc (snapshotsOf rest) old (new ∷ []))) ∙ ap (λ (y : Descriptor). y .name) (active-snoc (snapshotsOf rest ++ (old ∷ [])) new) ∙ active-name)
-      (λ p q. snap-above t name e (r .0) (r .1) (r .2) (r .3) (r .5) p (omega (arith, active-above)))
+      (λ p q. snap-above t name e p (omega (arith, active-above)))
 
   -- a revert: to a later snapshot v stays, otherwise it is gone
-  module _ (name : List ℕ) (e : isAccepted (answerOf (Revert name) t) ≡ true) where
+  module _ (name : List ℕ) (e : RevertPassed t name) where
     abbrev ss : List Descriptor
     ss = snapshotsOf (descriptorsOf t)
 
@@ -188,51 +182,40 @@ module _ (s : List ℕ) (xs : List Descriptor) (v : Descriptor) (n : List ℕ) (
         let split : descriptorsOf t ≡ xs ++ (v ∷ (take i zs ++ (u ∷ ws))) = revert-split t name e ∙ ap (λ (ys : List Descriptor). ys ++ (u ∷ ws)) (later i q) ∙ append-assoc xs (v ∷ take i zs) (u ∷ ws) in
         beta-before (member-from t (descriptorsOf t) xs v (take i zs ++ (u ∷ ws)) sound-t split) v (take i zs) u ws refl
 
-    revert-above : (i : ℕ) → indexOf ss name ≡ length xs + suc i → (p : ℕ) → p < v .beta .0 → isStored (storesOf (Revert name) t) p ≡ false
-    unfolding storesOf reverting
+    revert-above : (i : ℕ) → indexOf ss name ≡ length xs + suc i → (p : ℕ) → p < v .beta .0 → isStored (revertStores t name) p ≡ false
+    unfolding revertStores reverting
     revert-above i q p l = one-stored (u .alpha .0) _ p (λ k. omega (arith, later-above i q))
 
-    stands-later : (i : ℕ) → indexOf ss name ≡ length xs + suc i → Stands s xs v n (storeAll t (storesOf (Revert name) t))
+    stands-later : (i : ℕ) → indexOf ss name ≡ length xs + suc i → Stands s xs v n (storeAll t (revertStores t name))
     stands-later i q =
-        stands-by (Revert name) e (take i zs ++ (w ∷ [])) (omega (arith, length-append (take i zs) (w ∷ [])))
+        stands-by (revertStores t name) (revert-whole t name e) (take i zs ++ (w ∷ [])) (omega (arith, length-append (take i zs) (w ∷ [])))
         (reverted-chain t name e ∙ ap Sound (ap (λ (ys : List Descriptor). ys ++ (w ∷ [])) (later i q) ∙ append-assoc xs (v ∷ take i zs) (w ∷ [])))
         (ap (λ (y : Descriptor). y .name) (active-snoc (take i zs) w) ∙ active-name) (revert-above i q)
 
-    gone : indexOf ss name ≤ length xs → named (snapshotsOf (descriptorsOf (storeAll t (storesOf (Revert name) t)))) (v .name) ≡ false
+    gone : indexOf ss name ≤ length xs → named (snapshotsOf (descriptorsOf (storeAll t (revertStores t name)))) (v .name) ≡ false
     gone q =
         let j = indexOf ss name in
         let f : before ss name ≡ take j xs = ap (λ (ys : List Descriptor). take j ys) stands-snapshots ∙ take-append-le j xs (v ∷ zs) q in
-        let g : snapshotsOf (descriptorsOf (storeAll t (storesOf (Revert name) t))) ≡ take j xs = ap snapshotsOf (descriptors-are (storeAll t (storesOf (Revert name) t)) (before ss name ++ (w ∷ [])) (reverted-chain t name e)) ∙ snapshots-snoc (before ss name) w ∙ f in
+        let g : snapshotsOf (descriptorsOf (storeAll t (revertStores t name))) ≡ take j xs = ap snapshotsOf (descriptors-are (storeAll t (revertStores t name)) (before ss name ++ (w ∷ [])) (reverted-chain t name e)) ∙ snapshots-snoc (before ss name) w ∙ f in
         ap (λ (ys : List Descriptor). named ys (v .name)) g
         ∙ named-left (take j xs) (drop j xs) (v .name) (ap (λ (ys : List Descriptor). named ys (v .name)) (take-append-drop j xs) ∙ member-fresh t (xs ++ (v ∷ rest)) xs v rest (h .is) refl)
 
     revert-by : (z : Bool) → leb (indexOf ss name) (length xs) ≡ z
-        → Stands s xs v n (storeAll t (storesOf (Revert name) t)) ⊎ (named (snapshotsOf (descriptorsOf (storeAll t (storesOf (Revert name) t)))) (v .name) ≡ false)
+        → Stands s xs v n (storeAll t (revertStores t name)) ⊎ (named (snapshotsOf (descriptorsOf (storeAll t (revertStores t name)))) (v .name) ≡ false)
     revert-by true q = inr (gone (leb-true (indexOf ss name) (length xs) q))
     revert-by false q = inl (stands-later (indexOf ss name - suc (length xs)) (omega (arith, leb-false (indexOf ss name) (length xs) q)))
 
-  -- every call that is no accepted format
+  -- every change that is no format
   abbrev Either : List ℕ → Type 0
   Either c = Stands s xs v n c ⊎ (named (snapshotsOf (descriptorsOf c)) (v .name) ≡ false)
 
-  same-card : (k : Call) → storesOf k t ≡ [] → Either (storeAll t (storesOf k t))
-  unfolding storeAll
-  same-card k q = rw q (inl h)
-
-  stands-accepted : (k : Call) → isFormat k t ≡ false → isAccepted (answerOf k t) ≡ true → Either (storeAll t (storesOf k t))
-  unfolding isFormat isReam storesOf
-  stands-accepted (Ream layout volume name) f e = no (sym f ∙ e)
-  stands-accepted (Read target name l block) f e = same-card (Read target name l block) refl
-  stands-accepted (Write l block) f e = inl (stands-write l block e)
-  stands-accepted (Snap name) f e = inl (stands-snap name e)
-  stands-accepted (Revert name) f e = revert-by name e (leb (indexOf (snapshotsOf (descriptorsOf t)) name) (length xs)) refl
-  stands-accepted (Listing records) f e = same-card (Listing records) refl
-  stands-accepted Check f e = same-card Check refl
-
-  step-by : (k : Call) (b : Bool) → isAccepted (answerOf k t) ≡ b → isFormat k t ≡ false → Either (step k t .card)
-  unfolding step
-  step-by k true e f = rw e (stands-accepted k f e)
-  step-by k false e f = rw e (inl h)
+  stands-change : {x : Kind} → formats x ≡ false → Allowed t x → Either (storeAll t (storesBy x t))
+  unfolding formats storesBy storeAll
+  stands-change f (to-format e) = no (sym f)
+  stands-change f to-leave = inl h
+  stands-change f (to-write {l = l} {block = block} e) = inl (stands-write l block e)
+  stands-change f (to-snap {name = name} e) = inl (stands-snap name e)
+  stands-change f (to-revert {name = name} e) = revert-by name e (leb (indexOf (snapshotsOf (descriptorsOf t)) name) (length xs)) refl
 
   pub stands-step : (k : Call) → isFormat k t ≡ false → Stands s xs v n (step k t .card) ⊎ (named (snapshotsOf (descriptorsOf (step k t .card))) (v .name) ≡ false)
-  stands-step k f = step-by k (isAccepted (answerOf k t)) refl f
+  stands-step k f = step-cases k t Either (λ e. inl h) (λ e g a. stands-change g a) f

@@ -16,12 +16,12 @@ use Rattle.blocks.proofs.BoolLaws.{no}
 use Rattle.blocks.proofs.ListLaws.{same-equal}
 use Rattle.blocks.proofs.NamedLaws.{named-one}
 use Rattle.blocks.proofs.ChainLaws.{descriptors-are}
-use Rattle.calls.specs.Call.{Call, Ream, Read, Write, Snap, Revert, Listing, Check}
+use Rattle.calls.specs.Call.{Call}
 use Rattle.calls.specs.Parts.{descriptorsOf, snapshotsOf}
 use Rattle.calls.specs.Ladder.{answerOf}
-use Rattle.calls.specs.Effect.{storesOf}
+use Rattle.calls.specs.Effect.{writeStores, snapStores, revertStores}
 use Rattle.calls.specs.Step.{step, after, isAccepted}
-use Rattle.claims.specs.History.{isReam, isFormat, Standing, more, isSnapOf, Position, Nowhere, At, latestFrom, latestSnap}
+use Rattle.claims.specs.History.{isFormat, Standing, more, isSnapOf, Position, Nowhere, At, latestFrom, latestSnap, formats, snapsAs}
 use Rattle.claims.specs.Claims.{Unsnapped, end, then, LastSnap}
 use Rattle.claims.proofs.Changed.{named-append, named-left}
 use Rattle.claims.proofs.ChainAfter.{before, snapshots-snoc, reverted-chain}
@@ -29,54 +29,48 @@ use Rattle.claims.proofs.SnappedChain.{snapped-chain}
 use Rattle.claims.proofs.WrittenChain.{written-chain}
 use Rattle.claims.proofs.Kept.{Stands, stands-step}
 use Rattle.claims.proofs.Runs.{standing-length, step-length}
+use Rattle.calls.proofs.Passed.{WritePassed, SnapPassed, RevertPassed}
+use Rattle.claims.specs.Kinds.{Kind, Formats, Leaves, Writes, Snaps, Reverts, kindOf}
+use Rattle.claims.proofs.Changes.{storesBy, Allowed, to-format, to-leave, to-write, to-snap, to-revert, step-cases}
 
 -- a call that is no accepted snap of the name makes no snapshot of it
 module _ (n t : List ℕ) (gone : named (snapshotsOf (descriptorsOf t)) n ≡ false) where
   gone-by : (c : List ℕ) (ss : List Descriptor) (e : Descriptor) → chain c ≡ Sound (ss ++ (e ∷ [])) → named ss n ≡ false → named (snapshotsOf (descriptorsOf c)) n ≡ false
   gone-by c ss e is h = ap (λ (ds : List Descriptor). named (snapshotsOf ds) n) (descriptors-are c (ss ++ (e ∷ [])) is) ∙ ap (λ (ds : List Descriptor). named ds n) (snapshots-snoc ss e) ∙ h
 
-  gone-write : (l : ℕ) (block : List ℕ) → isAccepted (answerOf (Write l block) t) ≡ true → named (snapshotsOf (descriptorsOf (storeAll t (storesOf (Write l block) t)))) n ≡ false
-  gone-write l block e = gone-by (storeAll t (storesOf (Write l block) t)) (snapshotsOf (descriptorsOf t)) _ (written-chain t l block e) gone
+  gone-write : (l : ℕ) (block : List ℕ) → WritePassed t l block → named (snapshotsOf (descriptorsOf (storeAll t (writeStores t l block)))) n ≡ false
+  gone-write l block e = gone-by (storeAll t (writeStores t l block)) (snapshotsOf (descriptorsOf t)) _ (written-chain t l block e) gone
 
-  gone-snap : (name : List ℕ) → isAccepted (answerOf (Snap name) t) ≡ true → same name n ≡ false → named (snapshotsOf (descriptorsOf (storeAll t (storesOf (Snap name) t)))) n ≡ false
+  gone-snap : (name : List ℕ) → SnapPassed t name → same name n ≡ false → named (snapshotsOf (descriptorsOf (storeAll t (snapStores t name)))) n ≡ false
   gone-snap name e other =
       let d = activeOf (descriptorsOf t) in
       let old = linkedOf (renamedOf d name) (d .beta) in
-      gone-by (storeAll t (storesOf (Snap name) t)) (snapshotsOf (descriptorsOf t) ++ (old ∷ [])) (reopenedOf d)
+      gone-by (storeAll t (snapStores t name)) (snapshotsOf (descriptorsOf t) ++ (old ∷ [])) (reopenedOf d)
       (snapped-chain t name e ∙ ap Sound (sym (append-snoc (snapshotsOf (descriptorsOf t)) old (reopenedOf d ∷ []))))
       (named-append (snapshotsOf (descriptorsOf t)) (old ∷ []) n ∙ rw (gone, named-one old n, other))
 
-  gone-revert : (name : List ℕ) → isAccepted (answerOf (Revert name) t) ≡ true → named (snapshotsOf (descriptorsOf (storeAll t (storesOf (Revert name) t)))) n ≡ false
+  gone-revert : (name : List ℕ) → RevertPassed t name → named (snapshotsOf (descriptorsOf (storeAll t (revertStores t name)))) n ≡ false
   gone-revert name e =
       let ss = snapshotsOf (descriptorsOf t) in
-      gone-by (storeAll t (storesOf (Revert name) t)) (before ss name) _ (reverted-chain t name e)
+      gone-by (storeAll t (revertStores t name)) (before ss name) _ (reverted-chain t name e)
       (named-left (before ss name) (drop (indexOf ss name) ss) n (ap (λ (ds : List Descriptor). named ds n) (take-append-drop (indexOf ss name) ss) ∙ gone))
 
-  gone-same : (k : Call) → storesOf k t ≡ [] → named (snapshotsOf (descriptorsOf (storeAll t (storesOf k t)))) n ≡ false
-  unfolding storeAll
-  gone-same k q = rw q gone
+  gone-change : {x : Kind} → formats x ≡ false → snapsAs n x ≡ false → Allowed t x → named (snapshotsOf (descriptorsOf (storeAll t (storesBy x t)))) n ≡ false
+  unfolding formats snapsAs storesBy storeAll
+  gone-change f o (to-format e) = no (sym f)
+  gone-change f o to-leave = gone
+  gone-change f o (to-write {l = l} {block = block} e) = gone-write l block e
+  gone-change f o (to-snap {name = name} e) = gone-snap name e o
+  gone-change f o (to-revert {name = name} e) = gone-revert name e
 
-  gone-accepted : (k : Call) → isFormat k t ≡ false → isAccepted (answerOf k t) ≡ true → isSnapOf n k ≡ false → named (snapshotsOf (descriptorsOf (storeAll t (storesOf k t)))) n ≡ false
-  unfolding isFormat isReam storesOf isSnapOf
-  gone-accepted (Ream layout volume name) f e o = no (sym f ∙ e)
-  gone-accepted (Read target name l block) f e o = gone-same (Read target name l block) refl
-  gone-accepted (Write l block) f e o = gone-write l block e
-  gone-accepted (Snap name) f e o = gone-snap name e o
-  gone-accepted (Revert name) f e o = gone-revert name e
-  gone-accepted (Listing records) f e o = gone-same (Listing records) refl
-  gone-accepted Check f e o = gone-same Check refl
-
-  step-by : (k : Call) (b : Bool) → isAccepted (answerOf k t) ≡ b → isFormat k t ≡ false → (isSnapOf n k && b) ≡ false → named (snapshotsOf (descriptorsOf (step k t .card))) n ≡ false
-  unfolding step
-  step-by k true e f o = rw e (gone-accepted k f e (and-true (isSnapOf n k) o))
-    where
-      and-true : (x : Bool) → (x && true) ≡ false → x ≡ false
-      and-true true q = q
-      and-true false q = refl
-  step-by k false e f o = rw e gone
+  other-by : (b a : Bool) → (b && a) ≡ false → a ≡ true → b ≡ false
+  other-by true a o e = no (sym o ∙ e)
+  other-by false a o e = refl
 
   gone-step : (k : Call) → isFormat k t ≡ false → (isSnapOf n k && isAccepted (answerOf k t)) ≡ false → named (snapshotsOf (descriptorsOf (step k t .card))) n ≡ false
-  gone-step k f o = step-by k (isAccepted (answerOf k t)) refl f o
+  unfolding isSnapOf
+  gone-step k f o =
+      step-cases k t (λ (c : List ℕ). named (snapshotsOf (descriptorsOf c)) n ≡ false) (λ e. gone) (λ e g a. gone-change g (other-by (snapsAs n (kindOf k)) (isAccepted (answerOf k t)) o e) a) f
 
 -- no snapshot of the name comes to be in a run without an accepted snap of it
 pub gone-run : (n : List ℕ) (ks : List Call) (t : List ℕ) → named (snapshotsOf (descriptorsOf t)) n ≡ false → Standing t ks → Unsnapped n t ks → named (snapshotsOf (descriptorsOf (after ks t))) n ≡ false
@@ -162,12 +156,10 @@ unfolding latestSnap
 latest-at n c ks r e = at-by n c ks r (latest-some n ks c 0 r Nowhere e)
 
 -- a snap under the name
-pub snap-of : (n : List ℕ) (k : Call) → isSnapOf n k ≡ true → k ≡ Snap n
-unfolding isSnapOf
-snap-of n (Ream layout volume name) e = no e
-snap-of n (Read target name l block) e = no e
-snap-of n (Write l block) e = no e
-snap-of n (Snap name) e = ap Snap (same-equal name n e)
-snap-of n (Revert name) e = no e
-snap-of n (Listing records) e = no e
-snap-of n Check e = no e
+pub snap-kind : (n : List ℕ) (x : Kind) → snapsAs n x ≡ true → x ≡ Snaps n
+unfolding snapsAs
+snap-kind n (Formats layout volume name) e = no e
+snap-kind n Leaves e = no e
+snap-kind n (Writes l block) e = no e
+snap-kind n (Snaps name) e = ap Snaps (same-equal name n e)
+snap-kind n (Reverts name) e = no e

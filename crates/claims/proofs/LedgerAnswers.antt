@@ -7,7 +7,7 @@ use Prim.Native.Nat.{ℕ, zero, suc, _+_, _-_, _/_, _%_, _≤_, _<_}
 use native.Mathlib.Omega.{arith}
 use lib.ListN.{length, drop, getD, length-append}
 use lib.Dec.{eqb, ltb, leb}
-use borrow.Author.Tests.{eq-eqb, ne-eqb, eqb-true, eqb-false, ltb-true, ltb-false, leb-false, lt-ltb, le-ltb, not-true, not-false}
+use borrow.Author.Tests.{eq-eqb, ne-eqb, eqb-true, eqb-false, ltb-true, leb-false, lt-ltb, le-ltb, not-true, not-false}
 use Rattle.blocks.specs.Pick.{pick, same}
 use Rattle.blocks.specs.Bytes.{blockCount}
 use Rattle.blocks.specs.Descriptor.{physical, tableCount, noDescriptor, descriptorAt}
@@ -37,13 +37,13 @@ use Rattle.claims.specs.History.{betaOf, isReam}
 use Rattle.claims.specs.Ledger.{Volume, Ledger, hasVolume, volumeNamed, ledgerRows, ledgerNumber, volumeRead, cellRead, namesFrom, ledgerNames, cellsFrom, volumeOf, volumesOf, ledgerOf}
 use Rattle.claims.specs.Claims.{blocksNeeded, recordNames, CheckClaim, ListClaim}
 use Rattle.calls.proofs.CardLaws.{chain-is}
-use Rattle.calls.proofs.RowLaws.{rows-passed}
 use Rattle.claims.proofs.Agreement.{end-active, target-member, active-target}
 use Rattle.claims.proofs.Changed.{named-append}
 use Rattle.claims.proofs.Frame.{list-claim}
 use Rattle.claims.proofs.ChainAfter.{active-split}
 use Rattle.claims.proofs.CheckClaims.{check-claim}
 use Rattle.claims.proofs.ChainBlocks.{table-phi}
+use Rattle.calls.proofs.Passed.{read-passed, list-passed}
 
 -- what is followed is in place, by the tests of find
 placed-by : (ds : List Descriptor) (d : Descriptor) (m e : ℕ) (o i z : Bool) → (o ≡ true → z ≡ false) → (o ≡ false → i ≡ true) → inPlace ds d (pick z 0 e) ≡ true
@@ -152,17 +152,17 @@ volume-read c Active name h = refl
 volume-read c Snapshot name h = volume-named c (snapshotsOf (descriptorsOf c)) name (not-false (named (snapshotsOf (descriptorsOf c)) name) h)
 
 -- what a read goes through
-module _ (c : List ℕ) (p : Passes c) (target : Target) (name : List ℕ) (l : ℕ) (standing : (isSnapshot target && not (named (snapshotsOf (descriptorsOf c)) name)) ≡ false) (inside : leb (activeOf (descriptorsOf c) .volume) l ≡ false) where
+module _ (c : List ℕ) (p : Passes c) (target : Target) (name : List ℕ) (l : ℕ) (standing : (isSnapshot target && not (named (snapshotsOf (descriptorsOf c)) name)) ≡ false) (inside : l < activeOf (descriptorsOf c) .volume) where
   below-target : l < targetOf (descriptorsOf c) target name .volume
   below-target =
       let m = target-member (descriptorsOf c) (some-of c p) target name standing in
-      omega (arith, leb-false (activeOf (descriptorsOf c) .volume) l inside, ap (λ (d : Descriptor). d .volume) (m .2), volume-of c p (m .0) (m .1))
+      omega (arith, inside, ap (λ (d : Descriptor). d .volume) (m .2), volume-of c p (m .0) (m .1))
 
   target-found : isMisplaced (foundThrough c (targetOf (descriptorsOf c) target name) l) ≡ false
   target-found =
       let m = target-member (descriptorsOf c) (some-of c p) target name standing in
       rw (m .2)
-      (passing-found c p (m .0) (m .1) l (omega (arith, leb-false (activeOf (descriptorsOf c) .volume) l inside, volume-of c p (m .0) (m .1))))
+      (passing-found c p (m .0) (m .1) l (omega (arith, inside, volume-of c p (m .0) (m .1))))
 
   target-cell : cellRead (ledgerOf c) target name l ≡ blockFound c (foundThrough c (targetOf (descriptorsOf c) target name) l)
   unfolding cellRead
@@ -171,10 +171,10 @@ module _ (c : List ℕ) (p : Passes c) (target : Target) (name : List ℕ) (l : 
 -- an accepted read gives the ledger's cell
 pub ledger-reads : (c : List ℕ) → Passes c → (target : Target) (name : List ℕ) (l : ℕ) (block : List ℕ) → isAccepted (answerOf (Read target name l block) c) ≡ true
     → step (Read target name l block) c .outcome .lent ≡ Block (cellRead (ledgerOf c) target name l)
-unfolding step filledOf rowsOf readRows
+unfolding step filledOf
 ledger-reads c p target name l block ok =
-    let passed = rows-passed (Read target name l block) c ok in
-    rw ok (ap Block (sym (target-cell c p target name l (passed 4 (omega arith)) (passed 5 (omega arith)))))
+    let shown = read-passed c target name l block ok in
+    rw ok (ap Block (sym (target-cell c p target name l (shown .there) (shown .below))))
 
 -- the ledger's names are the chain's
 abbrev namesOf : List Descriptor → List (List ℕ)
@@ -203,8 +203,7 @@ taken-names (d ∷ ds) (x ∷ filled) r h f =
     ∙ ap (λ (ns : List (List ℕ)). d .name ∷ ns) (taken-names ds filled r (omega arith) (λ i l. f (suc i) (omega arith)))
 
 list-fits : (c : List ℕ) (records : List Record) → isAccepted (answerOf (Listing records) c) ≡ true → length (descriptorsOf c) ≤ length records
-unfolding rowsOf listRows
-list-fits c records ok = ltb-false (length records) (length (descriptorsOf c)) (rows-passed (Listing records) c ok 2 (omega arith))
+list-fits c records ok = list-passed c records ok .room
 
 -- an accepted listing gives the ledger's names in their order, and leaves the records after them
 pub ledger-lists : (c : List ℕ) → Passes c → (records : List Record) → isAccepted (answerOf (Listing records) c) ≡ true
@@ -315,10 +314,10 @@ module _ (c : List ℕ) (p : Passes c) where
   unfolding answerOf rowsOf readRows ledgerRows ledgerOf volumeOf
   read-answer target name l block =
       rw (has-volume c (snapshotsOf (descriptorsOf c)) name, cells-length c (activeOf (descriptorsOf c)) (activeOf (descriptorsOf c) .volume) 0)
-      (read-by _ _ _ _ _ _ _ _ _ (p .area) (ap not (p .sound)) (λ s v. target-found c p target name l s v))
+      (read-by _ _ _ _ _ _ _ _ _ (p .area) (ap not (p .sound)) (λ s v. target-found c p target name l s (leb-false (activeOf (descriptorsOf c) .volume) l v)))
 
   active-found : (l : ℕ) → leb (activeOf (descriptorsOf c) .volume) l ≡ false → isMisplaced (foundThrough c (activeOf (descriptorsOf c)) l) ≡ false
-  active-found l v = rw (active-target (descriptorsOf c)) at (target-found c p Active [] l refl v)
+  active-found l v = rw (active-target (descriptorsOf c)) at (target-found c p Active [] l refl (leb-false (activeOf (descriptorsOf c) .volume) l v))
 
   write-answer : (l : ℕ) (block : List ℕ) → answerOf (Write l block) c
       ≡ pick (eqb (firstRow (ledgerRows (Write l block) (ledgerOf c)) .number) 0 && ltb (blockCount c) (betaOf c + blocksNeeded (Write l block) c)) (answer 11 0) (firstRow (ledgerRows (Write l block) (ledgerOf c)))

@@ -20,20 +20,16 @@ use Rattle.entries.specs.declared.find.Found.{Found}
 use Rattle.entries.specs.declared.find.Found.the-variants.{Misplaced, Entry}
 use Rattle.entries.proofs.EntryLaws.{placed-below, find-placed}
 use Rattle.calls.specs.Parts.{descriptorsOf, snapshotsOf, withName, foundThrough, isMisplaced, blockFound}
-use Rattle.claims.specs.Ledger.{Volume, volumesBefore, volumeNamed, ledgerStep, cellsFrom, volumeOf, volumesOf, ledgerOf}
-use Rattle.calls.specs.Call.{Revert}
+use Rattle.claims.specs.Ledger.{Volume, volumesBefore, volumeNamed, cellsFrom, volumeOf, volumesOf, ledgerOf, ledgerChange}
 use Rattle.calls.specs.Check.{Passes}
-use Rattle.calls.specs.Ladder.{answerOf}
-use Rattle.calls.specs.Effect.{storesOf, reverting}
-use Rattle.calls.specs.Step.{step, isAccepted}
-use Rattle.calls.proofs.StepLaws.{accepted-card}
+use Rattle.calls.specs.Effect.{reverting, revertStores}
 use Rattle.claims.specs.History.{betaOf}
 use Rattle.blocks.proofs.BoolLaws.{no}
 use Rattle.blocks.proofs.LinkedLaws.{linked-at, linked-rise, at-alpha}
 use Rattle.claims.proofs.LocalEntries.{Region}
 use Rattle.claims.proofs.Agreement.{agree-region}
 use Rattle.claims.proofs.StoreLists.{stored-other}
-use Rattle.claims.proofs.ChainAfter.{before, behind, snapshots-snoc, link-inside, one-stored, revert-rows, revert-split, reverted-chain, fits, block, same-long, whole}
+use Rattle.claims.proofs.ChainAfter.{before, behind, snapshots-snoc, link-inside, one-stored, revert-split, reverted-chain, fits, block, same-long, whole}
 use Rattle.claims.proofs.SoundStep.{agree-self}
 use Rattle.claims.proofs.LedgerAnswers.{linked-of, beta-upto, group-below, passing-found, volume-named}
 use Rattle.claims.proofs.Local.{shared-number}
@@ -42,6 +38,8 @@ use Rattle.blocks.proofs.DescriptorLaws.{Fits, tail-length}
 use Rattle.blocks.proofs.ChainLaws.{active-snoc, descriptors-are}
 use Rattle.claims.proofs.Stored.{stored-bytes, block-tail, tail-part}
 use Rattle.claims.proofs.ChainBlocks.{fewer-placed, placed-apart, table-own}
+use Rattle.calls.proofs.Passed.{RevertPassed}
+use Rattle.claims.specs.Kinds.{Reverts}
 
 -- the volumes before a name are those of the descriptors before it
 before-by : (c : List ℕ) (d : Descriptor) (ds : List Descriptor) (name : List ℕ) (vs : List Volume) (b : Bool) → vs ≡ volumesOf c (take (indexOf ds name) ds)
@@ -180,7 +178,7 @@ phi-shared c t d i inside long h l =
     let e : 512 * d .alpha .0 + 64 + 4 * i ≡ 512 * d .alpha .0 + (64 + 4 * i) = omega arith in
     rw e (shared-number t c (d .alpha .0) (omega arith) inside h (64 + 4 * i) (omega arith))
 
-module _ (c name : List ℕ) (p : Passes c) (acc : isAccepted (answerOf (Revert name) c) ≡ true) where
+module _ (c name : List ℕ) (p : Passes c) (acc : RevertPassed c name) where
   abbrev ds : List Descriptor
   ds = descriptorsOf c
 
@@ -197,7 +195,7 @@ module _ (c name : List ℕ) (p : Passes c) (acc : isAccepted (answerOf (Revert 
   w = linkedOf (renamedOf v (activeOf ds .name)) (physical 0)
 
   abbrev t : List ℕ
-  t = storeAll c (storesOf (Revert name) c)
+  t = storeAll c (revertStores c name)
 
   split : ds ≡ xs ++ (v ∷ ys)
   split = revert-split c name acc
@@ -206,10 +204,10 @@ module _ (c name : List ℕ) (p : Passes c) (acc : isAccepted (answerOf (Revert 
   after = descriptors-are t (xs ++ (w ∷ [])) (reverted-chain c name acc)
 
   long : length c ≡ length t
-  long = same-long c name acc (p .area) (p .sound)
+  long = same-long c name acc
 
   other : (q : ℕ) → (v .alpha .0 ≡ q → ⊥) → blockAt t q ≡ blockAt c q
-  unfolding storesOf reverting
+  unfolding revertStores reverting
   other q n = stored-other (length c) c refl (whole c name acc) q (one-stored (v .alpha .0) _ q n)
 
   some-before : length xs < length ds
@@ -247,7 +245,7 @@ module _ (c name : List ℕ) (p : Passes c) (acc : isAccepted (answerOf (Revert 
   cell-v : (l : ℕ) → l < v .volume → blockFound t (foundThrough t w l) ≡ blockFound c (foundThrough c v l)
   cell-v l m =
       cell-at (length xs) some-before v w at-v refl refl refl l m
-      (phi-stored c t w v refl (link-inside c (p .area) (p .sound) xs v ys split) long (block c name acc (p .area) (p .sound)) (fits c name acc (p .area) (p .sound))) (λ i h q. omega arith)
+      (phi-stored c t w v refl (link-inside c (p .area) (p .sound) xs v ys split) long (block c name acc) (fits c name acc)) (λ i h q. omega arith)
 
   get-is : (k : ℕ) → k < length xs → getD ds k noDescriptor ≡ getD xs k noDescriptor
   get-is k h = ap (λ (zs : List Descriptor). getD zs k noDescriptor) split ∙ List·getD-append xs (v ∷ ys) noDescriptor k h
@@ -274,14 +272,11 @@ module _ (c name : List ℕ) (p : Passes c) (acc : isAccepted (answerOf (Revert 
 
   cells-after : cellsFrom t w (w .volume) 0 ≡ volumeNamed (volumesOf c (snapshotsOf ds)) name .cells
   unfolding volumeOf
-  cells-after = cells-same c t v w (v .volume) 0 (λ j a b. cell-v j (omega arith)) ∙ sym (ap (λ (x : Volume). x .cells) (volume-named c (snapshotsOf ds) name (revert-rows c name acc .2)))
+  cells-after = cells-same c t v w (v .volume) 0 (λ j a b. cell-v j (omega arith)) ∙ sym (ap (λ (x : Volume). x .cells) (volume-named c (snapshotsOf ds) name (acc .there)))
 
-  reverted-ledger : ledgerOf t ≡ ledgerStep (Revert name) (ledgerOf c)
-  unfolding ledgerStep ledgerOf volumeOf
-  reverted-ledger =
+  pub ledger-revert : ledgerOf t ≡ ledgerChange (Reverts name) (ledgerOf c)
+  unfolding ledgerChange ledgerOf volumeOf
+  ledger-revert =
       ledger-parts t xs w (ap snapshotsOf after ∙ snapshots-snoc xs w) (ap activeOf after ∙ active-snoc xs w)
       ∙ ap (λ (x : List Volume). record { snapshots = x; active = record { name = activeOf ds .name; cells = cellsFrom t w (w .volume) 0 } }) snapshots-after
       ∙ ap (λ (x : List (List ℕ)). record { snapshots = volumesBefore (volumesOf c (snapshotsOf ds)) name; active = record { name = activeOf ds .name; cells = x } }) cells-after
-
-pub ledger-revert : (c name : List ℕ) → Passes c → isAccepted (answerOf (Revert name) c) ≡ true → ledgerOf (step (Revert name) c .card) ≡ ledgerStep (Revert name) (ledgerOf c)
-ledger-revert c name p e = ap ledgerOf (accepted-card (Revert name) c e) ∙ reverted-ledger c name p e

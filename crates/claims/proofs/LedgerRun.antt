@@ -1,6 +1,6 @@
 -- The ledger over whole lists of calls.
-use mathlib.Core.Path.{_≡_, refl, sym, ap, _∙_, subst}
-use mathlib.Core.Bool.{Bool, true, false}
+use mathlib.Core.Path.{_≡_, refl, sym, subst}
+use mathlib.Core.Bool.{true, false}
 use mathlib.Core.List.{List, [], _∷_}
 use Prim.Native.Nat.{ℕ, zero, suc, _<_}
 use native.Mathlib.Omega.{arith}
@@ -10,13 +10,12 @@ use Rattle.blocks.specs.Bytes.{storeAll}
 use Rattle.blocks.proofs.BoolLaws.{no}
 use Rattle.calls.specs.declared.answer.Target.{Target}
 use Rattle.calls.specs.declared.answer.Record.{Record}
-use Rattle.calls.specs.Call.{Call, Ream, Read, Write, Snap, Revert, Listing, Check, Block, Records}
+use Rattle.calls.specs.Call.{Call, Read, Listing, Check, Block, Records}
 use Rattle.calls.specs.Check.{Passes}
 use Rattle.calls.specs.Ladder.{answerOf}
-use Rattle.calls.specs.Effect.{storesOf}
 use Rattle.calls.specs.Step.{step, after, isAccepted}
-use Rattle.claims.specs.History.{Standing, more, isReam, isFormat, formatted}
-use Rattle.claims.specs.Ledger.{Ledger, ledgerStep, ledgerOf, ledgerNames, cellRead}
+use Rattle.claims.specs.History.{Standing, more, isFormat, formatted, formats}
+use Rattle.claims.specs.Ledger.{Ledger, ledgerStep, ledgerOf, ledgerNames, cellRead, ledgerChange}
 use Rattle.claims.specs.Claims.{ledgerAfter, recordNames, firstLedger, LedgerStep, LedgerClaim, FormatClaim, FormatLedgerClaim}
 use Rattle.claims.proofs.Runs.{standing-length, step-length}
 use Rattle.claims.proofs.Format.{format-claim}
@@ -26,44 +25,31 @@ use Rattle.claims.proofs.PassesSnapped.{passes-snap}
 use Rattle.claims.proofs.LedgerNext.{ledger-revert}
 use Rattle.claims.proofs.LedgerSnap.{ledger-snap}
 use Rattle.claims.proofs.LedgerWrite.{passes-write, ledger-write}
+use Rattle.claims.specs.Kinds.{Kind}
+use Rattle.claims.proofs.Changes.{storesBy, Allowed, to-format, to-leave, to-write, to-snap, to-revert, step-cases}
 
 -- one call on a card that passes
 module _ (c : List ℕ) (passing : Passes c) where
-  same-by : (k : Call) → storesOf k c ≡ [] → isAccepted (answerOf k c) ≡ true → step k c .card ≡ c
-  unfolding step storeAll
-  same-by k q e = rw (e, q)
+  passes-change : {x : Kind} → formats x ≡ false → Allowed c x → Passes (storeAll c (storesBy x c))
+  unfolding formats storesBy storeAll
+  passes-change f (to-format e) = no (sym f)
+  passes-change f to-leave = passing
+  passes-change f (to-write {l = l} {block = block} e) = passes-write c l block passing e
+  passes-change f (to-snap {name = name} e) = passes-snap c name passing e
+  passes-change f (to-revert {name = name} e) = passes-revert c name passing e
 
-  passes-accepted : (k : Call) → isFormat k c ≡ false → isAccepted (answerOf k c) ≡ true → Passes (step k c .card)
-  unfolding isFormat isReam storesOf
-  passes-accepted (Ream layout volume name) f e = no (sym f ∙ e)
-  passes-accepted (Read target name l block) f e = subst Passes (sym (same-by (Read target name l block) refl e)) passing
-  passes-accepted (Write l block) f e = passes-write c l block passing e
-  passes-accepted (Snap name) f e = passes-snap c name passing e
-  passes-accepted (Revert name) f e = passes-revert c name passing e
-  passes-accepted (Listing records) f e = subst Passes (sym (same-by (Listing records) refl e)) passing
-  passes-accepted Check f e = subst Passes (sym (same-by Check refl e)) passing
+  ledger-change : {x : Kind} → formats x ≡ false → Allowed c x → ledgerOf (storeAll c (storesBy x c)) ≡ ledgerChange x (ledgerOf c)
+  unfolding formats storesBy storeAll ledgerChange
+  ledger-change f (to-format e) = no (sym f)
+  ledger-change f to-leave = refl
+  ledger-change f (to-write {l = l} {block = block} e) = ledger-write c l block passing e
+  ledger-change f (to-snap {name = name} e) = ledger-snap c name passing e
+  ledger-change f (to-revert {name = name} e) = ledger-revert c name passing e
 
-  next-accepted : (k : Call) → isFormat k c ≡ false → isAccepted (answerOf k c) ≡ true → ledgerOf (step k c .card) ≡ ledgerStep k (ledgerOf c)
-  unfolding isFormat isReam storesOf ledgerStep
-  next-accepted (Ream layout volume name) f e = no (sym f ∙ e)
-  next-accepted (Read target name l block) f e = ap ledgerOf (same-by (Read target name l block) refl e)
-  next-accepted (Write l block) f e = ledger-write c l block passing e
-  next-accepted (Snap name) f e = ledger-snap c name passing e
-  next-accepted (Revert name) f e = ledger-revert c name passing e
-  next-accepted (Listing records) f e = ap ledgerOf (same-by (Listing records) refl e)
-  next-accepted Check f e = ap ledgerOf (same-by Check refl e)
-
-  refused-card : (k : Call) → isAccepted (answerOf k c) ≡ false → step k c .card ≡ c
-  unfolding step
-  refused-card k e = rw e
-
-  passes-by : (k : Call) (b : Bool) → isAccepted (answerOf k c) ≡ b → isFormat k c ≡ false → Passes (step k c .card)
-  passes-by k true e f = passes-accepted k f e
-  passes-by k false e f = subst Passes (sym (refused-card k e)) passing
-
-  next-by : (k : Call) (b : Bool) → isAccepted (answerOf k c) ≡ b → isFormat k c ≡ false → ledgerOf (step k c .card) ≡ pick b (ledgerStep k (ledgerOf c)) (ledgerOf c)
-  next-by k true e f = next-accepted k f e
-  next-by k false e f = ap ledgerOf (refused-card k e)
+  next-by : (k : Call) → isFormat k c ≡ false → ledgerOf (step k c .card) ≡ pick (isAccepted (answerOf k c)) (ledgerStep k (ledgerOf c)) (ledgerOf c)
+  unfolding ledgerStep
+  next-by k f =
+      step-cases k c (λ (t : List ℕ). ledgerOf t ≡ pick (isAccepted (answerOf k c)) (ledgerStep k (ledgerOf c)) (ledgerOf c)) (λ e. rw e) (λ e n a. rw e (ledger-change n a)) f
 
   one-step : (k : Call) → isFormat k c ≡ false → LedgerStep k c (ledgerOf c)
   one-step k f =
@@ -74,8 +60,8 @@ module _ (c : List ℕ) (passing : Passes c) where
         no-room = λ r. ledger-no-room k c passing r;
         reads = λ target name l block q e. reads-by k target name l block q e;
         lists = λ records q e. lists-by k records q e;
-        passes = passes-by k (isAccepted (answerOf k c)) refl f;
-        next = next-by k (isAccepted (answerOf k c)) refl f;
+        passes = step-cases k c Passes (λ e. passing) (λ e n a. passes-change n a) f;
+        next = next-by k f;
       }
     where
       reads-by : (k : Call) (target : Target) (name : List ℕ) (l : ℕ) (block : List ℕ) → k ≡ Read target name l block → isAccepted (answerOf k c) ≡ true → step k c .outcome .lent ≡ Block (cellRead (ledgerOf c) target name l)

@@ -17,14 +17,10 @@ use Rattle.entries.specs.InPlace.{inPlace}
 use Rattle.entries.specs.Entry.{phiAt, tableOf, find}
 use Rattle.entries.specs.Rules.{entryOf, Rules}
 use Rattle.entries.proofs.EntryLaws.{placed-below}
-use Rattle.calls.specs.Call.{Snap}
 use Rattle.calls.specs.Parts.{descriptorsOf, snapshotsOf, foundThrough, blockFound}
 use Rattle.calls.specs.Check.{Passes}
-use Rattle.calls.specs.Ladder.{answerOf}
-use Rattle.calls.specs.Effect.{storesOf}
-use Rattle.calls.specs.Step.{step, isAccepted}
-use Rattle.calls.proofs.StepLaws.{accepted-card}
-use Rattle.claims.specs.Ledger.{Volume, ledgerStep, volumeOf, volumesOf, ledgerOf}
+use Rattle.calls.specs.Effect.{snapStores}
+use Rattle.claims.specs.Ledger.{Volume, volumeOf, volumesOf, ledgerOf, ledgerChange}
 use Rattle.claims.proofs.ChainAfter.{snapshots-snoc}
 use Rattle.claims.proofs.SnappedChain.{snapped-chain}
 use Rattle.claims.proofs.PassesAfter.{same-below}
@@ -33,8 +29,10 @@ use Rattle.claims.proofs.PassesSnapped.{placed-entry, linked, counted, 
 use Rattle.claims.proofs.LedgerNext.{cells-same, volumes-same, volumes-append, ledger-parts}
 use Rattle.claims.proofs.CellEntry.{blockNamed, named-same, cell-rules}
 use Rattle.claims.proofs.ChainBlocks.{placed-apart, own-inside, few-tables, under}
+use Rattle.calls.proofs.Passed.{SnapPassed}
+use Rattle.claims.specs.Kinds.{Snaps}
 
-module _ (c name : List ℕ) (pass : Passes c) (e : isAccepted (answerOf (Snap name) c) ≡ true) where
+module _ (c name : List ℕ) (pass : Passes c) (e : SnapPassed c name) where
   abbrev ds : List Descriptor
   ds = descriptorsOf c
 
@@ -54,7 +52,7 @@ module _ (c name : List ℕ) (pass : Passes c) (e : isAccepted (answerOf (Snap n
   es = snaps ++ (old ∷ opened ∷ [])
 
   abbrev t : List ℕ
-  t = storeAll c (storesOf (Snap name) c)
+  t = storeAll c (snapStores c name)
 
   after : descriptorsOf t ≡ es
   after = descriptors-are t es (snapped-chain c name e)
@@ -147,12 +145,9 @@ module _ (c name : List ℕ) (pass : Passes c) (e : isAccepted (answerOf (Snap n
       volumes-append t snaps (old ∷ []) ∙ ap (λ (vs : List Volume). vs ++ (volumeOf t old ∷ [])) (volumes-same c t snaps cell-first)
       ∙ ap (λ (v : Volume). volumesOf c snaps ++ (v ∷ [])) volume-old
 
-  snapped-ledger : ledgerOf t ≡ ledgerStep (Snap name) (ledgerOf c)
-  unfolding ledgerStep ledgerOf
-  snapped-ledger =
+  pub ledger-snap : ledgerOf t ≡ ledgerChange (Snaps name) (ledgerOf c)
+  unfolding ledgerChange ledgerOf
+  ledger-snap =
       ledger-parts t (snaps ++ (old ∷ [])) opened (ap snapshotsOf after-snoc ∙ snapshots-snoc (snaps ++ (old ∷ [])) opened) (ap activeOf after-snoc ∙ active-snoc (snaps ++ (old ∷ [])) opened)
       ∙ ap (λ (x : List Volume). record { snapshots = x; active = volumeOf t opened }) volumes-after
       ∙ ap (λ (x : Volume). record { snapshots = volumesOf c snaps ++ (record { name = name; cells = volumeOf c act .cells } ∷ []); active = x }) volume-opened
-
-pub ledger-snap : (c name : List ℕ) → Passes c → isAccepted (answerOf (Snap name) c) ≡ true → ledgerOf (step (Snap name) c .card) ≡ ledgerStep (Snap name) (ledgerOf c)
-ledger-snap c name pass e = ap ledgerOf (accepted-card (Snap name) c e) ∙ snapped-ledger c name pass e

@@ -6,7 +6,7 @@ use Prim.Native.Nat.{ℕ, zero, suc, _+_, _-_, _≤_, _<_}
 use native.Mathlib.Omega.{arith}
 use lib.ListN.{length, getD, set, length-append, List·getD-append}
 use lib.Dec.{eqb, leb}
-use borrow.Author.Tests.{ne-eqb, eqb-true, eqb-false, leb-false}
+use borrow.Author.Tests.{ne-eqb, eqb-true, eqb-false}
 use Rattle.blocks.specs.Pick.{pick}
 use Rattle.blocks.specs.Bytes.{blockAt, zeroBlock, storeAll}
 use Rattle.blocks.specs.Descriptor.{noDescriptor, extendedOf}
@@ -23,14 +23,9 @@ use Rattle.entries.specs.declared.find.Found.the-variants.{Misplaced, Entry}
 use Rattle.entries.specs.Rules.{entryOf}
 use Rattle.entries.proofs.EntryLaws.{placed-below}
 use Rattle.calls.specs.Parts.{descriptorsOf, snapshotsOf, foundThrough, isMisplaced, blockFound}
-use Rattle.claims.specs.Ledger.{Volume, ledgerStep, cellsFrom, volumeOf, volumesOf, ledgerOf}
-use Rattle.calls.specs.Call.{Write}
+use Rattle.claims.specs.Ledger.{Volume, cellsFrom, volumeOf, volumesOf, ledgerOf, ledgerChange}
 use Rattle.calls.specs.Check.{Passes}
-use Rattle.calls.specs.Ladder.{writeRows, rowsOf, answerOf}
-use Rattle.calls.specs.Effect.{storesOf}
-use Rattle.calls.specs.Step.{step, isAccepted}
-use Rattle.calls.proofs.RowLaws.{rows-passed}
-use Rattle.calls.proofs.StepLaws.{accepted-card}
+use Rattle.calls.specs.Effect.{writeStores}
 use Rattle.claims.proofs.ChainAfter.{active-split, snapshots-snoc}
 use Rattle.claims.proofs.WrittenChain.{written-chain}
 use Rattle.claims.proofs.LedgerAnswers.{group-below, linked-of, some-of}
@@ -40,6 +35,8 @@ use Rattle.claims.proofs.WriteOwn.{own-none, own-one}
 use Rattle.claims.proofs.WriteNew.{new-two}
 use Rattle.claims.proofs.LedgerNext.{cells-same, volumes-same, ledger-parts}
 use Rattle.claims.proofs.CellEntry.{blockNamed, named-same, cell-entry}
+use Rattle.calls.proofs.Passed.{WritePassed}
+use Rattle.claims.specs.Kinds.{Writes}
 
 -- what a read gives through a descriptor that stands at k
 cell-at : (c : List ℕ) → Passes c → (k : ℕ) → k < length (descriptorsOf c) → (d : Descriptor) → getD (descriptorsOf c) k noDescriptor ≡ d → (j : ℕ) → j < d .volume
@@ -69,7 +66,7 @@ cells-set s t d e block (suc n) k (suc i) b other here =
     )
 
 -- an accepted write on a card that passes
-module _ (c : List ℕ) (passes : Passes c) (l : ℕ) (block : List ℕ) (ok : isAccepted (answerOf (Write l block) c) ≡ true) where
+module _ (c : List ℕ) (passes : Passes c) (l : ℕ) (block : List ℕ) (ok : WritePassed c l block) where
   abbrev ds : List Descriptor
   ds = descriptorsOf c
 
@@ -83,7 +80,7 @@ module _ (c : List ℕ) (passes : Passes c) (l : ℕ) (block : List ℕ) (ok : i
   x = extendedOf d (need (d .alpha .0) (foundThrough c d l))
 
   abbrev t : List ℕ
-  t = storeAll c (storesOf (Write l block) c)
+  t = storeAll c (writeStores c l block)
 
   split : ds ≡ xs ++ (d ∷ [])
   split = active-split ds (some-of c passes)
@@ -92,8 +89,7 @@ module _ (c : List ℕ) (passes : Passes c) (l : ℕ) (block : List ℕ) (ok : i
   after = descriptors-are t (xs ++ (x ∷ [])) (written-chain c l block ok)
 
   inside : l < d .volume
-  unfolding rowsOf writeRows
-  inside = leb-false (d .volume) l (rows-passed (Write l block) c ok 3 (omega arith))
+  inside = ok .below
 
   count : length ds ≡ length xs + 1
   count = ap length split ∙ length-append xs (d ∷ [])
@@ -109,7 +105,7 @@ module _ (c : List ℕ) (passes : Passes c) (l : ℕ) (block : List ℕ) (ok : i
 
   module _ (facts : WriteFacts c t (xs ++ (x ∷ [])) d x l block) where
     passes-after : Passes t
-    passes-after = subst Passes (accepted-card (Write l block) c ok) (passes-write-by c passes l block ok (facts .rules))
+    passes-after = passes-write-by c passes l block ok (facts .rules)
 
     -- a snapshot's region ends at or below the active alpha, and every block below that is kept
     snapshot-by : (k : ℕ) → k < length xs → (j : ℕ) → j < getD ds k noDescriptor .volume
@@ -155,8 +151,8 @@ module _ (c : List ℕ) (passes : Passes c) (l : ℕ) (block : List ℕ) (ok : i
         cells-set c t d x block (d .volume) 0 l inside (λ j u v n. other-cell j (omega arith) (λ q. n (omega arith)))
         (λ j q. let e : j ≡ l = omega arith in ap (λ (i : ℕ). blockFound t (foundThrough t x i)) e ∙ set-cell)
 
-    written-ledger : ledgerOf t ≡ ledgerStep (Write l block) (ledgerOf c)
-    unfolding ledgerStep ledgerOf volumeOf
+    written-ledger : ledgerOf t ≡ ledgerChange (Writes l block) (ledgerOf c)
+    unfolding ledgerChange ledgerOf volumeOf
     written-ledger =
         ledger-parts t xs x (ap snapshotsOf after ∙ snapshots-snoc xs x) active-after
         ∙ ap (λ (vs : List Volume). record { snapshots = vs; active = record { name = d .name; cells = cellsFrom t x (x .volume) 0 } }) (volumes-same c t xs snapshot-cell)
@@ -174,18 +170,18 @@ need-two alpha m p z o = need-by (not (eqb (p .0) 0) && leb alpha (p .0)) (table
 
 taken : (c : List ℕ) (l : ℕ) (block : List ℕ) {n k : ℕ} → n ≡ k
     → let d = activeOf (descriptorsOf c) in
-    let t = storeAll c (storesOf (Write l block) c) in
+    let t = storeAll c (writeStores c l block) in
     let xs = snapshotsOf (descriptorsOf c) in
     WriteFacts c t (xs ++ (extendedOf d k ∷ [])) d (extendedOf d k) l block → WriteFacts c t (xs ++ (extendedOf d n ∷ [])) d (extendedOf d n) l block
 taken c l block e facts =
     let d = activeOf (descriptorsOf c) in
-    subst (λ (n : ℕ). WriteFacts c (storeAll c (storesOf (Write l block) c)) (snapshotsOf (descriptorsOf c) ++ (extendedOf d n ∷ [])) d (extendedOf d n) l block) (sym e) facts
+    subst (λ (n : ℕ). WriteFacts c (storeAll c (writeStores c l block)) (snapshotsOf (descriptorsOf c) ++ (extendedOf d n ∷ [])) d (extendedOf d n) l block) (sym e) facts
 
 -- what the write leaves, by the blocks that it takes
-facts-by : (c : List ℕ) → Passes c → (l : ℕ) (block : List ℕ) → isAccepted (answerOf (Write l block) c) ≡ true
+facts-by : (c : List ℕ) → Passes c → (l : ℕ) (block : List ℕ) → WritePassed c l block
     → let d = activeOf (descriptorsOf c) in
     (f : Found) → foundThrough c d l ≡ f → isMisplaced f ≡ false → (z o : Bool) → eqb (need (d .alpha .0) f) 0 ≡ z → eqb (need (d .alpha .0) f) 1 ≡ o
-    → WriteFacts c (storeAll c (storesOf (Write l block) c)) (snapshotsOf (descriptorsOf c) ++ (extendedOf d (need (d .alpha .0) f) ∷ [])) d (extendedOf d (need (d .alpha .0) f)) l block
+    → WriteFacts c (storeAll c (writeStores c l block)) (snapshotsOf (descriptorsOf c) ++ (extendedOf d (need (d .alpha .0) f) ∷ [])) d (extendedOf d (need (d .alpha .0) f)) l block
 unfolding isMisplaced
 facts-by c p l block ok (Misplaced h) e m z o u v = no (sym m)
 facts-by c p l block ok (Entry a b) e m true o u v = taken c l block (eqb-true _ 0 u) (own-none c p l block ok a b e (eqb-true _ 0 u))
@@ -194,20 +190,19 @@ facts-by c p l block ok (Entry a b) e m false false u v =
     let two = need-two (activeOf (descriptorsOf c) .alpha .0) a b (eqb-false _ 0 u) (eqb-false _ 1 v) in
     taken c l block two (new-two c p l block ok a b e two)
 
-pub write-facts : (c : List ℕ) → Passes c → (l : ℕ) (block : List ℕ) → isAccepted (answerOf (Write l block) c) ≡ true
+pub write-facts : (c : List ℕ) → Passes c → (l : ℕ) (block : List ℕ) → WritePassed c l block
     → let d = activeOf (descriptorsOf c) in
     let x = extendedOf d (need (d .alpha .0) (foundThrough c d l)) in
-    WriteFacts c (storeAll c (storesOf (Write l block) c)) (snapshotsOf (descriptorsOf c) ++ (x ∷ [])) d x l block
-unfolding rowsOf writeRows
+    WriteFacts c (storeAll c (writeStores c l block)) (snapshotsOf (descriptorsOf c) ++ (x ∷ [])) d x l block
 write-facts c p l block ok =
     let d = activeOf (descriptorsOf c) in
     let f = foundThrough c d l in
-    facts-by c p l block ok f refl (rows-passed (Write l block) c ok 4 (omega arith)) (eqb (need (d .alpha .0) f) 0) (eqb (need (d .alpha .0) f) 1) refl refl
+    facts-by c p l block ok f refl (ok .in-place) (eqb (need (d .alpha .0) f) 0) (eqb (need (d .alpha .0) f) 1) refl refl
 
 -- the card after an accepted write passes
-pub passes-write : (c : List ℕ) (l : ℕ) (block : List ℕ) → Passes c → isAccepted (answerOf (Write l block) c) ≡ true → Passes (step (Write l block) c .card)
+pub passes-write : (c : List ℕ) (l : ℕ) (block : List ℕ) → Passes c → WritePassed c l block → Passes (storeAll c (writeStores c l block))
 passes-write c l block p ok = passes-write-by c p l block ok (write-facts c p l block ok .rules)
 
 -- and its ledger is the ledger's step
-pub ledger-write : (c : List ℕ) (l : ℕ) (block : List ℕ) → Passes c → isAccepted (answerOf (Write l block) c) ≡ true → ledgerOf (step (Write l block) c .card) ≡ ledgerStep (Write l block) (ledgerOf c)
-ledger-write c l block p ok = ap ledgerOf (accepted-card (Write l block) c ok) ∙ written-ledger c p l block ok (write-facts c p l block ok)
+pub ledger-write : (c : List ℕ) (l : ℕ) (block : List ℕ) → Passes c → WritePassed c l block → ledgerOf (storeAll c (writeStores c l block)) ≡ ledgerChange (Writes l block) (ledgerOf c)
+ledger-write c l block p ok = written-ledger c p l block ok (write-facts c p l block ok)

@@ -12,6 +12,8 @@ pub mod Agreement
 pub mod Stored
 pub mod Changed
 pub mod StoreLists
+pub mod Inside
+pub mod Changes
 pub mod Frame
 pub mod ChainAfter
 pub mod SnappedChain

@@ -22,19 +22,16 @@ use Rattle.entries.specs.InPlace.{inPlace}
 use Rattle.entries.specs.Entry.{entryAt, phiAt, tableOf}
 use Rattle.entries.specs.Rules.{entryOf, Rules}
 use Rattle.entries.proofs.EntryLaws.{placed-below}
-use Rattle.calls.specs.Call.{Revert}
 use Rattle.calls.specs.Parts.{descriptorsOf, snapshotsOf, withName}
 use Rattle.calls.specs.Check.{Passes}
-use Rattle.calls.specs.Ladder.{answerOf}
-use Rattle.calls.specs.Effect.{storesOf}
-use Rattle.calls.specs.Step.{step, isAccepted}
-use Rattle.calls.proofs.StepLaws.{accepted-card}
+use Rattle.calls.specs.Effect.{revertStores}
 use Rattle.claims.proofs.Local.{shared-number}
 use Rattle.claims.proofs.Stored.{block-tail, stored-bytes, tail-part}
 use Rattle.claims.proofs.StoreLists.{stored-other}
 use Rattle.claims.proofs.ChainAfter.{before, behind, sound-is, link-inside, one-stored, revert-split, stores-are, whole, fits, tail, block, same-long, reverted-chain}
 use Rattle.claims.proofs.Undone.{area-kept}
 use Rattle.claims.proofs.ChainBlocks.{fewer-placed, placed-apart, table-own, table-phi, own-inside, few-tables, layout-two, under}
+use Rattle.calls.proofs.Passed.{RevertPassed}
 
 -- the rules of a renamed descriptor
 pub rules-renamed : (c : List ℕ) (ds : List Descriptor) (v : Descriptor) (n : List ℕ) (q : Physical) → Rules c ds v → Rules c ds (linkedOf (renamedOf v n) q)
@@ -102,7 +99,7 @@ pub number-of : (b : List ℕ) (at : ℕ) → u32At (part b at 4) 0 ≡ u32At b 
 number-of b at = let e : at + 0 ≡ at = omega arith in subst (λ (n : ℕ). u32At (part b at 4) 0 ≡ u32At b n) e (u32-part b at 4 0 (omega arith))
 
 -- a revert
-module _ (c name : List ℕ) (pass : Passes c) (e : isAccepted (answerOf (Revert name) c) ≡ true) where
+module _ (c name : List ℕ) (pass : Passes c) (e : RevertPassed c name) where
   abbrev ds : List Descriptor
   ds = descriptorsOf c
 
@@ -125,13 +122,13 @@ module _ (c name : List ℕ) (pass : Passes c) (e : isAccepted (answerOf (Revert
   es = xs ++ (made ∷ [])
 
   abbrev t : List ℕ
-  t = storeAll c (storesOf (Revert name) c)
+  t = storeAll c (revertStores c name)
 
   split : ds ≡ xs ++ (old ∷ ys)
   split = revert-split c name e
 
   long : length c ≡ length t
-  long = same-long c name e (pass .area) (pass .sound)
+  long = same-long c name e
 
   kept : (q : ℕ) → (a ≡ q → ⊥) → blockAt t q ≡ blockAt c q
   kept q h = stored-other (length c) c refl (whole c name e) q (rw (stores-are c name e) (one-stored a (descriptorBlock made (tailAt c a)) q h))
@@ -151,9 +148,9 @@ module _ (c name : List ℕ) (pass : Passes c) (e : isAccepted (answerOf (Revert
 
   same-part : (k : ℕ) → k + 4 ≤ 472 → part t (512 * a + (40 + k)) 4 ≡ part c (512 * a + 40 + k) 4
   same-part k h =
-      let f = fits c name e (pass .area) (pass .sound) in
-      let l = tail c name e (pass .area) (pass .sound) in
-      stored-bytes t a (omega (arith, long, inside)) made (tailAt c a) (block c name e (pass .area) (pass .sound)) f l (40 + k) 4 (omega arith)
+      let f = fits c name e in
+      let l = tail c name e in
+      stored-bytes t a (omega (arith, long, inside)) made (tailAt c a) (block c name e) f l (40 + k) 4 (omega arith)
       ∙ block-tail made (tailAt c a) f l k 4
       ∙ tail-part c a k 4 inside h
 
@@ -224,8 +221,5 @@ module _ (c name : List ℕ) (pass : Passes c) (e : isAccepted (answerOf (Revert
       subst (λ (zs : List Descriptor). (k : ℕ) → k < length zs → Rules t zs (getD zs k noDescriptor)) (sym (descriptors-are t es (reverted-chain c name e)))
       (λ k h. rules-by k h (ltb k (length xs)) refl)
 
-  passes-stored : Passes t
-  passes-stored = record { area = sym (area-kept c t long) ∙ pass .area; sound = is-sound t es (reverted-chain c name e); rules = reverted-rules }
-
-pub passes-revert : (c name : List ℕ) → Passes c → isAccepted (answerOf (Revert name) c) ≡ true → Passes (step (Revert name) c .card)
-passes-revert c name pass e = subst (λ (x : List ℕ). Passes x) (sym (accepted-card (Revert name) c e)) (passes-stored c name pass e)
+  pub passes-revert : Passes t
+  passes-revert = record { area = sym (area-kept c t long) ∙ pass .area; sound = is-sound t es (reverted-chain c name e); rules = reverted-rules }

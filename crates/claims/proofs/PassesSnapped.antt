@@ -24,22 +24,20 @@ use Rattle.entries.specs.InPlace.{isDescriptor, isTable, inPlace}
 use Rattle.entries.specs.Entry.{entryAt, phiAt, tableOf}
 use Rattle.entries.specs.Rules.{entryOf, Rules}
 use Rattle.entries.proofs.EntryLaws.{placed-below}
-use Rattle.calls.specs.Call.{Snap}
 use Rattle.calls.specs.Parts.{descriptorsOf, snapshotsOf}
 use Rattle.calls.specs.Check.{Passes}
-use Rattle.calls.specs.Ladder.{answerOf}
-use Rattle.calls.specs.Effect.{storesOf}
-use Rattle.calls.specs.Step.{step, isAccepted}
+use Rattle.calls.specs.Effect.{snapStores}
 use Rattle.claims.proofs.Local.{shared-number}
 use Rattle.claims.proofs.Stored.{block-tail, stored-bytes, tail-part}
-use Rattle.calls.proofs.StepLaws.{stored-append, accepted-card}
+use Rattle.calls.proofs.StepLaws.{stored-append}
 use Rattle.claims.proofs.StoreLists.{Whole, none, also, isStored, stored-join, stored-length, stored-other}
 use Rattle.claims.proofs.ChainAfter.{sound-is, copies-stored}
-use Rattle.claims.proofs.SnappedChain.{snap-rows, stores-are, whole, d-low, room-bytes, old-fits, new-fits, old-long, new-long, new-inside, d-inside, copies-whole, old-block, new-block, tail-whole, same-long, split, snapped-chain}
+use Rattle.claims.proofs.SnappedChain.{stores-are, whole, d-low, room-bytes, old-fits, new-fits, old-long, new-long, new-inside, d-inside, copies-whole, old-block, new-block, tail-whole, same-long, split, snapped-chain}
 use Rattle.claims.proofs.AlgorithmLaws.{copied-in}
 use Rattle.claims.proofs.Undone.{area-kept}
 use Rattle.claims.proofs.PassesAfter.{number-of, rules-renamed, rules-moved}
 use Rattle.claims.proofs.ChainBlocks.{placed-apart, table-own, table-phi, own-inside, few-tables, under, layout-two}
+use Rattle.calls.proofs.Passed.{SnapPassed}
 
 and-mid : (x y z : Bool) → y ≡ false → (x && y && z) ≡ false
 and-mid true false z e = refl
@@ -155,7 +153,7 @@ unfolding entryAt blockAt
 block-entry s c m n j e h = sym (u32-part s (512 * m) 512 (4 * j) (omega arith)) ∙ ap (λ (b : List ℕ). u32At b (4 * j)) e ∙ u32-part c (512 * n) 512 (4 * j) (omega arith)
 
 -- a snap
-module _ (c name : List ℕ) (pass : Passes c) (e : isAccepted (answerOf (Snap name) c) ≡ true) where
+module _ (c name : List ℕ) (pass : Passes c) (e : SnapPassed c name) where
   abbrev chn : List Descriptor
   chn = descriptorsOf c
 
@@ -181,7 +179,7 @@ module _ (c name : List ℕ) (pass : Passes c) (e : isAccepted (answerOf (Snap n
   then-chain = snaps ++ (old ∷ opened ∷ [])
 
   abbrev t : List ℕ
-  t = storeAll c (storesOf (Snap name) c)
+  t = storeAll c (snapStores c name)
 
   abbrev copies : List Store
   copies = copying c (base + 1) (top + 1) (costOf act - 1)
@@ -189,59 +187,55 @@ module _ (c name : List ℕ) (pass : Passes c) (e : isAccepted (answerOf (Snap n
   abbrev pair : List Store
   pair = store top (descriptorBlock opened (tailAt c base)) ∷ store base (descriptorBlock old (tailAt c base)) ∷ []
 
-  are : storesOf (Snap name) c ≡ copies ++ pair
-  are = let r = snap-rows c name e in stores-are c name e (r .0) (r .1) (r .2) (r .3) (r .5)
+  are : snapStores c name ≡ copies ++ pair
+  are = stores-are c name e
 
   pub cut : chn ≡ snaps ++ (act ∷ [])
-  cut = let r = snap-rows c name e in split c name e (r .0) (r .1) (r .2) (r .3) (r .5)
+  cut = split c name e
 
   long : length c ≡ length t
-  long = let r = snap-rows c name e in same-long c name e (r .0) (r .1) (r .2) (r .3) (r .5)
+  long = same-long c name e
 
   pub low : base < top
-  low = let r = snap-rows c name e in d-low c name e (r .0) (r .1) (r .2) (r .3) (r .5)
+  low = d-low c name e
 
   room : 512 * (top + costOf act) ≤ length c
-  room = let r = snap-rows c name e in room-bytes c name e (r .0) (r .1) (r .2) (r .3) (r .5)
+  room = room-bytes c name e
 
   base-inside : 512 * base + 512 ≤ length c
-  base-inside = let r = snap-rows c name e in d-inside c name e (r .0) (r .1) (r .2) (r .3) (r .5)
+  base-inside = d-inside c name e
 
   top-inside : 512 * top + 512 ≤ length c
-  top-inside = let r = snap-rows c name e in new-inside c name e (r .0) (r .1) (r .2) (r .3) (r .5)
+  top-inside = new-inside c name e
 
   pub old-phi : (i : ℕ) → i < 112 → phiAt t act i ≡ phiAt c act i
   unfolding phiAt
   old-phi =
-      let r = snap-rows c name e in
-      tail-phi t c base base (omega (arith, long, base-inside)) base-inside old (old-block c name e (r .0) (r .1) (r .2) (r .3) (r .5)) (old-fits c name e (r .0) (r .1) (r .2) (r .3) (r .5)) (tail-whole c name e (r .0) (r .1) (r .2) (r .3) (r .5))
+      tail-phi t c base base (omega (arith, long, base-inside)) base-inside old (old-block c name e) (old-fits c name e) (tail-whole c name e)
 
   pub new-phi : (i : ℕ) → i < 112 → phiAt t opened i ≡ phiAt c act i
   unfolding phiAt
   new-phi =
-      let r = snap-rows c name e in
-      tail-phi t c top base (omega (arith, long, top-inside)) base-inside opened (new-block c name e (r .0) (r .1) (r .2) (r .3) (r .5)) (new-fits c name e (r .0) (r .1) (r .2) (r .3) (r .5)) (tail-whole c name e (r .0) (r .1) (r .2) (r .3) (r .5))
+      tail-phi t c top base (omega (arith, long, top-inside)) base-inside opened (new-block c name e) (new-fits c name e) (tail-whole c name e)
 
   pub kept : (q : ℕ) → (base ≡ q → ⊥) → q < top → blockAt t q ≡ blockAt c q
   kept q n h =
-      stored-other (length c) c refl (let r = snap-rows c name e in whole c name e (r .0) (r .1) (r .2) (r .3) (r .5)) q
+      stored-other (length c) c refl (whole c name e) q
       (rw (are, stored-join copies pair q, copies-stored c (base + 1) (top + 1) (costOf act - 1) q (omega (arith, h)))
       (pair-not top base (descriptorBlock opened (tailAt c base)) (descriptorBlock old (tailAt c base)) q (λ k. omega (arith, k, h)) n))
 
   pair-whole : Whole (length c) pair
   pair-whole =
-      let r = snap-rows c name e in
-      also top (descriptorBlock opened (tailAt c base)) (new-long c name e (r .0) (r .1) (r .2) (r .3) (r .5)) top-inside
-      (also base (descriptorBlock old (tailAt c base)) (old-long c name e (r .0) (r .1) (r .2) (r .3) (r .5)) base-inside none)
+      also top (descriptorBlock opened (tailAt c base)) (new-long c name e) top-inside
+      (also base (descriptorBlock old (tailAt c base)) (old-long c name e) base-inside none)
 
   pub copied : act .layout ≡ 1 → (i : ℕ) → i < tableCount (act .volume) → blockAt t (top + 1 + i) ≡ blockAt c (base + 1 + i)
   copied one i h =
-      let r = snap-rows c name e in
       let n = cost-one act one in
       let back : base + 1 + (top + 1 + i - (top + 1)) ≡ base + 1 + i = omega arith in
       rw are
       (ap (λ (x : List ℕ). blockAt x (top + 1 + i)) (stored-append c copies pair)
-      ∙ stored-other (length c) (storeAll c copies) (stored-length (length c) c refl (copies-whole c name e (r .0) (r .1) (r .2) (r .3) (r .5))) pair-whole (top + 1 + i)
+      ∙ stored-other (length c) (storeAll c copies) (stored-length (length c) c refl (copies-whole c name e)) pair-whole (top + 1 + i)
       (pair-not top base (descriptorBlock opened (tailAt c base)) (descriptorBlock old (tailAt c base)) (top + 1 + i) (λ k. omega (arith, k)) (λ k. omega (arith, k, low)))
       ∙ copied-in c c refl (base + 1) (top + 1) (costOf act - 1) (omega (arith, low)) (omega (arith, room, n)) (top + 1 + i) (omega arith) (omega (arith, n, h)) (eqb (top + 1 + i) (top + 1)) refl
       ∙ ap (λ (x : ℕ). blockAt c x) back)
@@ -323,8 +317,5 @@ module _ (c name : List ℕ) (pass : Passes c) (e : isAccepted (answerOf (Snap n
       subst (λ (zs : List Descriptor). (k : ℕ) → k < length zs → Rules t zs (getD zs k noDescriptor)) (sym (descriptors-are t then-chain (snapped-chain c name e)))
       (λ k h. rules-by k h (ltb k (length snaps)) (eqb k (length snaps)) refl refl)
 
-  passes-stored : Passes t
-  passes-stored = record { area = sym (area-kept c t long) ∙ pass .area; sound = is-sound t then-chain (snapped-chain c name e); rules = snapped-rules }
-
-pub passes-snap : (c name : List ℕ) → Passes c → isAccepted (answerOf (Snap name) c) ≡ true → Passes (step (Snap name) c .card)
-passes-snap c name pass e = subst (λ (x : List ℕ). Passes x) (sym (accepted-card (Snap name) c e)) (passes-stored c name pass e)
+  pub passes-snap : Passes t
+  passes-snap = record { area = sym (area-kept c t long) ∙ pass .area; sound = is-sound t then-chain (snapped-chain c name e); rules = snapped-rules }

@@ -22,24 +22,21 @@ use Rattle.entries.specs.InPlace.{isDescriptor, isTable, inPlace}
 use Rattle.entries.specs.Entry.{entryAt, phiAt, tableOf, need}
 use Rattle.entries.specs.Rules.{entryOf, PhiRules, TableRules, Rules}
 use Rattle.entries.proofs.EntryLaws.{placed-below}
-use Rattle.calls.specs.Call.{Write}
 use Rattle.calls.specs.Parts.{areaBad, descriptorsOf, snapshotsOf, foundThrough}
 use Rattle.calls.specs.Check.{Passes}
-use Rattle.calls.specs.Ladder.{answerOf}
-use Rattle.calls.specs.Effect.{storesOf}
-use Rattle.calls.specs.Step.{step, isAccepted}
+use Rattle.calls.specs.Effect.{writeStores}
 use Rattle.claims.specs.History.{betaOf}
 use Rattle.calls.proofs.CardLaws.{chain-is}
-use Rattle.calls.proofs.StepLaws.{accepted-card}
 use Rattle.claims.proofs.Agreement.{agree-region}
 use Rattle.claims.proofs.StoreLists.{isStored, stored-length, stored-other}
-use Rattle.claims.proofs.Frame.{stores-inside}
+use Rattle.claims.proofs.Inside.{write-whole}
 use Rattle.claims.proofs.ChainAfter.{active-split}
 use Rattle.claims.proofs.WrittenChain.{active-rise, active-inside, written-chain}
 use Rattle.claims.proofs.Kept.{writing-above}
 use Rattle.claims.proofs.Local.{shared-number, Below}
 use Rattle.claims.proofs.LocalEntries.{Region, local-entry, local-phi, local-table}
 use Rattle.claims.proofs.ChainBlocks.{table-two, under}
+use Rattle.calls.proofs.Passed.{WritePassed}
 
 -- the blocks of descriptors and of layout 1 tables are the same where the last region is longer
 pub extended-descriptor : (xs : List Descriptor) (d : Descriptor) (k p : ℕ) → isDescriptor (xs ++ (extendedOf d k ∷ [])) p ≡ isDescriptor (xs ++ (d ∷ [])) p
@@ -165,7 +162,7 @@ front-same (x ∷ xs) ys zs zero h = refl
 front-same (x ∷ xs) ys zs (suc j) h = front-same xs ys zs j (omega arith)
 
 -- an accepted write on a card that passes
-module _ (c : List ℕ) (passes : Passes c) (l : ℕ) (block : List ℕ) (ok : isAccepted (answerOf (Write l block) c) ≡ true) where
+module _ (c : List ℕ) (passes : Passes c) (l : ℕ) (block : List ℕ) (ok : WritePassed c l block) where
   abbrev ds : List Descriptor
   ds = descriptorsOf c
 
@@ -179,7 +176,7 @@ module _ (c : List ℕ) (passes : Passes c) (l : ℕ) (block : List ℕ) (ok : i
   x = extendedOf d (need (d .alpha .0) (foundThrough c d l))
 
   abbrev t : List ℕ
-  t = storeAll c (storesOf (Write l block) c)
+  t = storeAll c (writeStores c l block)
 
   sound-c : chain c ≡ Sound ds
   sound-c = chain-is (chain c) (passes .sound)
@@ -197,7 +194,7 @@ module _ (c : List ℕ) (passes : Passes c) (l : ℕ) (block : List ℕ) (ok : i
   count = ap length split ∙ length-append xs (d ∷ [])
 
   long : length c ≡ length t
-  long = sym (stored-length (length c) c refl (stores-inside (Write l block) c ok))
+  long = sym (stored-length (length c) c refl (write-whole c l block ok))
 
   -- every region ends at or below the active beta, those of snapshots at or below the active alpha
   pub write-region : (j : ℕ) → j < length ds → Region (getD ds j noDescriptor) (d .beta .0)
@@ -215,8 +212,8 @@ module _ (c : List ℕ) (passes : Passes c) (l : ℕ) (block : List ℕ) (ok : i
       let r = write-region j (omega (arith, count)) in
       record { some = r .some; upto = snapshot-end j h; own = r .own; few = r .few }
 
-  low-stored : (q : ℕ) → q < d .alpha .0 → isStored (storesOf (Write l block) c) q ≡ false
-  unfolding storesOf
+  low-stored : (q : ℕ) → q < d .alpha .0 → isStored (writeStores c l block) q ≡ false
+  unfolding writeStores
   low-stored q h = writing-above c d (active-rise c ds sound-c) l block q h (foundThrough c d l)
 
   pub write-below : 0 < d .alpha .0 → Below c t (d .alpha .0)
@@ -225,7 +222,7 @@ module _ (c : List ℕ) (passes : Passes c) (l : ℕ) (block : List ℕ) (ok : i
         long = long;
         some = h;
         inside = omega (arith, active-inside c ds sound-c);
-        blocks = λ q k. sym (stored-other (length c) c refl (stores-inside (Write l block) c ok) q (low-stored q k));
+        blocks = λ q k. sym (stored-other (length c) c refl (write-whole c l block ok) q (low-stored q k));
       }
 
   -- the rules of the snapshots
@@ -255,18 +252,15 @@ module _ (c : List ℕ) (passes : Passes c) (l : ℕ) (block : List ℕ) (ok : i
       let q : getD (xs ++ (x ∷ [])) j noDescriptor ≡ x = ap (λ (n : ℕ). getD (xs ++ (x ∷ [])) n noDescriptor) k ∙ getD-append-seam xs x [] noDescriptor in
       subst (λ (y : Descriptor). Rules t (xs ++ (x ∷ [])) y) (sym q) a
 
-  passes-after : Rules t (xs ++ (x ∷ [])) x → Passes t
+  pub passes-write-by : Rules t (xs ++ (x ∷ [])) x → Passes t
   unfolding chainSound
-  passes-after a =
+  passes-write-by a =
       let q = descriptors-are t (xs ++ (x ∷ [])) chain-after in
       record {
         area = area-after;
         sound = ap chainSound chain-after;
         rules = subst (λ (ys : List Descriptor). (j : ℕ) → j < length ys → Rules t ys (getD ys j noDescriptor)) (sym q) (λ j h. rules-by a j h (ltb j (length xs)) refl);
       }
-
-  pub passes-write-by : Rules t (xs ++ (x ∷ [])) x → Passes (step (Write l block) c .card)
-  passes-write-by a = subst Passes (sym (accepted-card (Write l block) c ok)) (passes-after a)
 
 -- the tables' rules where one entry is set to a block at or above beta, and the others stay
 module _ (c t : List ℕ) (ds es : List Descriptor) (d : Descriptor) (k : ℕ) (wider : (p : ℕ) → inPlace ds d p ≡ true → inPlace es (extendedOf d k) p ≡ true) (l q : ℕ) (inside : l < d .volume)

@@ -7,10 +7,8 @@ use Prim.Native.Nat.{ℕ, suc, _+_, _*_, _≤_, _<_}
 use native.Mathlib.Omega.{arith}
 use lib.ListN.{length, take, drop, getD, take-append-drop, length-append, length-drop}
 use lib.Seq.{take-append-seam, getD-append-seam, take-take, take-suc, drop-cons, length-take-le}
-use borrow.Author.Tests.{not-false}
 use Rattle.blocks.specs.Pick.{pick, same}
 use Rattle.blocks.specs.Bytes.{blockAt, store, storeAll}
-use Rattle.blocks.specs.Name.{isName}
 use Rattle.blocks.specs.Descriptor.{physical, noDescriptor, tailAt, descriptorBlock, renamedOf, linkedOf, reopenedOf}
 use Rattle.blocks.specs.Chain.{Sound, chain, chainSound, named, activeOf, indexOf}
 use Rattle.blocks.specs.declared.descriptor.Descriptor.{Descriptor}
@@ -18,30 +16,32 @@ use Rattle.blocks.proofs.BoolLaws.{no}
 use Rattle.blocks.proofs.ListLaws.{same-equal, same-self}
 use Rattle.blocks.proofs.NamedLaws.{named-none, named-cons, index-at}
 use Rattle.blocks.proofs.ChainLaws.{active-snoc, descriptors-are, is-sound}
-use Rattle.calls.specs.Call.{Call, Snap, Revert, Check}
+use Rattle.calls.specs.Call.{Call, Revert, Check}
 use Rattle.calls.specs.Parts.{descriptorsOf, snapshotsOf, withName}
-use Rattle.calls.specs.Ladder.{rowsOf, revertRows, answerOf}
-use Rattle.calls.specs.Effect.{storesOf, reverting}
+use Rattle.calls.specs.Ladder.{answerOf}
+use Rattle.calls.specs.Effect.{storesOf, reverting, snapStores, revertStores}
 use Rattle.calls.specs.Step.{step, after, isAccepted}
-use Rattle.claims.specs.History.{betaOf, Agree, AreBytes, Standing, without}
+use Rattle.claims.specs.History.{betaOf, Agree, AreBytes, Standing, without, isSnapOf}
 use Rattle.claims.specs.Claims.{Unsnapped, LastSnap, Matched, RevertedAt}
-use Rattle.calls.proofs.RowLaws.{rows-passed}
 use Rattle.claims.proofs.Local.{shared-bytes}
 use Rattle.calls.proofs.CardLaws.{chain-is}
 use Rattle.calls.proofs.StepLaws.{accepted-card}
 use Rattle.claims.proofs.Changed.{member-fresh, member-inside}
 use Rattle.claims.proofs.StoreLists.{Whole, stored-length, stored-both, blocks-taken}
-use Rattle.claims.proofs.Frame.{stores-inside}
-use Rattle.claims.proofs.ChainAfter.{before, behind, link-low, revert-rows, revert-split, reverted-chain}
+use Rattle.claims.proofs.Inside.{revert-whole}
+use Rattle.claims.proofs.ChainAfter.{before, behind, link-low, revert-split, reverted-chain}
 use Rattle.claims.proofs.SnappedChain.{snapped-chain}
 use Rattle.claims.proofs.Kept.{Stands, stands-snapshots, stands-active}
 use Rattle.claims.proofs.AgreeStep.{agree-step}
-use Rattle.claims.proofs.Latest.{gone-run, stands-run, snap-of}
+use Rattle.claims.proofs.Latest.{gone-run, stands-run, snap-kind}
 use Rattle.claims.proofs.Runs.{standing-length, standing-take, standing-drop, after-append, after-length, matched-from, without-drop, without-take}
-use Rattle.claims.proofs.Undone.{revert-passes, area-kept, undone, undone-accepted}
+use Rattle.claims.proofs.Undone.{area-kept, undone, undone-passed}
+use Rattle.calls.proofs.Passed.{SnapPassed, RevertPassed, revert-passed, revert-accepted}
+use Rattle.claims.specs.Kinds.{Kind, Snaps, kindOf}
+use Rattle.claims.proofs.Changes.{storesBy, Allowed, to-snap, call-stores, call-allowed}
 
 -- v stands on t: a revert to it leaves the descriptors before it, then v with the active name and a nil next
-module _ (s : List ℕ) (xs : List Descriptor) (v : Descriptor) (n t : List ℕ) (h : Stands s xs v n t) (e : isAccepted (answerOf (Revert (v .name)) t) ≡ true) where
+module _ (s : List ℕ) (xs : List Descriptor) (v : Descriptor) (n t : List ℕ) (h : Stands s xs v n t) (e : RevertPassed t (v .name)) where
   abbrev w : Descriptor
   w = linkedOf (renamedOf v n) (physical 0)
 
@@ -69,14 +69,14 @@ module _ (s : List ℕ) (xs : List Descriptor) (v : Descriptor) (n t : List ℕ)
   made-is : linkedOf (renamedOf (withName (snapshotsOf (descriptorsOf t)) (v .name)) (activeOf (descriptorsOf t) .name)) (physical 0) ≡ w
   made-is = ap (λ (m : List ℕ). linkedOf (renamedOf (withName (snapshotsOf (descriptorsOf t)) (v .name)) m) (physical 0)) name-is ∙ ap (λ (d : Descriptor). linkedOf (renamedOf d n) (physical 0)) with-is
 
-  pub back-chain : chain (storeAll t (storesOf (Revert (v .name)) t)) ≡ Sound (xs ++ (w ∷ []))
+  pub back-chain : chain (storeAll t (revertStores t (v .name))) ≡ Sound (xs ++ (w ∷ []))
   back-chain =
       reverted-chain t (v .name) e
       ∙ ap (λ (ys : List Descriptor). Sound (ys ++ (linkedOf (renamedOf (withName (snapshotsOf (descriptorsOf t)) (v .name)) (activeOf (descriptorsOf t) .name)) (physical 0) ∷ []))) before-is
       ∙ ap (λ (d : Descriptor). Sound (xs ++ (d ∷ []))) made-is
 
-  pub back-stores : storesOf (Revert (v .name)) t ≡ store (v .alpha .0) (descriptorBlock w (tailAt t (v .alpha .0))) ∷ []
-  unfolding storesOf reverting
+  pub back-stores : revertStores t (v .name) ≡ store (v .alpha .0) (descriptorBlock w (tailAt t (v .alpha .0))) ∷ []
+  unfolding revertStores reverting
   back-stores =
       ap (λ (d : Descriptor). store (d .alpha .0) (descriptorBlock (linkedOf (renamedOf d (activeOf (descriptorsOf t) .name)) (physical 0)) (tailAt t (d .alpha .0))) ∷ []) with-is
       ∙ ap (λ (m : List ℕ). store (v .alpha .0) (descriptorBlock (linkedOf (renamedOf v m) (physical 0)) (tailAt t (v .alpha .0))) ∷ []) name-is
@@ -86,8 +86,7 @@ module _ (s : List ℕ) (xs : List Descriptor) (v : Descriptor) (n t : List ℕ)
 
   pub back-low : v .alpha .0 < v .beta .0
   back-low =
-      let r = revert-rows t (v .name) e in
-      link-low t (r .0) (r .1) xs v (h .rest) (descriptors-are t (xs ++ (v ∷ h .rest)) (h .is))
+      link-low t (e .area) (e .sound) xs v (h .rest) (descriptors-are t (xs ++ (v ∷ h .rest)) (h .is))
 
 -- two cards on which v stands agree after a revert to it
 beta-of : (c : List ℕ) (ds : List Descriptor) → chain c ≡ Sound ds → betaOf c ≡ activeOf ds .beta .0
@@ -95,27 +94,27 @@ unfolding betaOf
 beta-of c ds e = ap (λ (xs : List Descriptor). activeOf xs .beta .0) (descriptors-are c ds e)
 
 module _ (s : List ℕ) (xs : List Descriptor) (v : Descriptor) (n t : List ℕ) (at-s : Stands s xs v n s) (at-t : Stands s xs v n t)
-    (in-s : isAccepted (answerOf (Revert (v .name)) s) ≡ true) (in-t : isAccepted (answerOf (Revert (v .name)) t) ≡ true) where
+    (in-s : RevertPassed s (v .name)) (in-t : RevertPassed t (v .name)) where
   abbrev made : Descriptor
   made = linkedOf (renamedOf v n) (physical 0)
 
   same-tail : tailAt s (v .alpha .0) ≡ tailAt t (v .alpha .0)
   same-tail = shared-bytes s t (v .alpha .0) (back-inside s xs v n s at-s in-s) (back-inside s xs v n t at-t in-t) (at-t .blocks (v .alpha .0) (back-low s xs v n t at-t in-t)) 40 472 (omega arith)
 
-  same-stores : storesOf (Revert (v .name)) t ≡ storesOf (Revert (v .name)) s
+  same-stores : revertStores t (v .name) ≡ revertStores s (v .name)
   same-stores =
       back-stores s xs v n t at-t in-t
       ∙ ap (λ (tail : List ℕ). store (v .alpha .0) (descriptorBlock made tail) ∷ []) (sym same-tail)
       ∙ sym (back-stores s xs v n s at-s in-s)
 
   abbrev after-t : List ℕ
-  after-t = storeAll t (storesOf (Revert (v .name)) t)
+  after-t = storeAll t (revertStores t (v .name))
 
   abbrev after-s : List ℕ
-  after-s = storeAll s (storesOf (Revert (v .name)) s)
+  after-s = storeAll s (revertStores s (v .name))
 
-  whole-t : Whole (length t) (storesOf (Revert (v .name)) t)
-  whole-t = stores-inside (Revert (v .name)) t in-t
+  whole-t : Whole (length t) (revertStores t (v .name))
+  whole-t = revert-whole t (v .name) in-t
 
   beta-is : (c : List ℕ) → chain c ≡ Sound (xs ++ (made ∷ [])) → betaOf c ≡ v .beta .0
   beta-is c q = beta-of c (xs ++ (made ∷ [])) q ∙ ap (λ (d : Descriptor). d .beta .0) (active-snoc xs made)
@@ -123,12 +122,12 @@ module _ (s : List ℕ) (xs : List Descriptor) (v : Descriptor) (n t : List ℕ)
   same-block : (p : ℕ) → p < v .beta .0 → blockAt after-t p ≡ blockAt after-s p
   same-block p l = rw (← same-stores) (stored-both (length t) p t s refl (at-t .long) whole-t (sym (at-t .blocks p l)))
 
-  pub back-agree : Agree (storeAll t (storesOf (Revert (v .name)) t)) (storeAll s (storesOf (Revert (v .name)) s))
+  pub back-agree : Agree (storeAll t (revertStores t (v .name))) (storeAll s (revertStores s (v .name)))
   back-agree =
       let ct = back-chain s xs v n t at-t in-t in
       let cs = back-chain s xs v n s at-s in-s in
       record {
-        long = stored-length (length t) t refl whole-t ∙ sym (at-t .long) ∙ sym (stored-length (length s) s refl (stores-inside (Revert (v .name)) s in-s));
+        long = stored-length (length t) t refl whole-t ∙ sym (at-t .long) ∙ sym (stored-length (length s) s refl (revert-whole s (v .name) in-s));
         sound = is-sound after-t (xs ++ (made ∷ [])) ct;
         sound′ = is-sound after-s (xs ++ (made ∷ [])) cs;
         beta = beta-is after-t ct ∙ sym (beta-is after-s cs);
@@ -155,10 +154,14 @@ with-name-is (d ∷ ss) n h = name-by d ss n (same (d .name) n) refl (sym (named
     name-by d ss n true e h f = same-equal (d .name) n e
     name-by d ss n false e h f = f h
 
--- what an accepted revert tells of its card
-revert-called : (t name : List ℕ) → isAccepted (answerOf (Revert name) t) ≡ true → isName name ≡ true
-unfolding rowsOf revertRows
-revert-called t name e = not-false (isName name) (rows-passed (Revert name) t e 1 (omega arith))
+-- the card after an accepted revert
+revert-card : (c name : List ℕ) → isAccepted (answerOf (Revert name) c) ≡ true → step (Revert name) c .card ≡ storeAll c (revertStores c name)
+unfolding storesOf
+revert-card c name e = accepted-card (Revert name) c e
+
+-- the facts of a snap
+snap-facts : {c name : List ℕ} → Allowed c (Snaps name) → SnapPassed c name
+snap-facts (to-snap h) = h
 
 -- the card at the end of a list with a revert that is accepted there
 after-one : (ks : List Call) (k : ℕ) (x : Call) (c : List ℕ) → k < length ks → getD ks k Check ≡ x → after (take (suc k) ks) c ≡ step x (after (take k ks) c) .card
@@ -170,17 +173,17 @@ module _ (s : List ℕ) (ks : List Call) (sound-s : chainSound (chain s) ≡ tru
   abbrev t : List ℕ
   t = after (take k ks) s
 
-  there : isAccepted (answerOf (Revert v) t) ≡ true
-  there = reverted .accepted-there
+  there : RevertPassed t v
+  there = revert-passed t v (reverted .accepted-there)
 
   t-long : length t ≡ length s
   t-long = after-length (take k ks) s
 
   t-named : named (snapshotsOf (descriptorsOf t)) v ≡ true
-  t-named = revert-rows t v there .2
+  t-named = there .there
 
-  t-after : after (take (suc k) ks) s ≡ storeAll t (storesOf (Revert v) t)
-  t-after = after-one ks k (Revert v) s (reverted .inside) (reverted .is) ∙ accepted-card (Revert v) t there
+  t-after : after (take (suc k) ks) s ≡ storeAll t (revertStores t v)
+  t-after = after-one ks k (Revert v) s (reverted .inside) (reverted .is) ∙ revert-card t v (reverted .accepted-there)
 
   not-gone : {A : Type 0} → named (snapshotsOf (descriptorsOf t)) v ≡ false → A
   not-gone g = no (sym g ∙ t-named)
@@ -193,8 +196,11 @@ module _ (s : List ℕ) (ks : List Call) (sound-s : chainSound (chain s) ≡ tru
     pub s-named : named (snapshotsOf (descriptorsOf s)) v ≡ true
     s-named = let z = named (snapshotsOf (descriptorsOf s)) v in named-by z refl
 
+    s-passed : RevertPassed s v
+    s-passed = record { area = area-kept s t (sym t-long) ∙ there .area; sound = sound-s; called = there .called; there = s-named }
+
     pub s-accepted : isAccepted (answerOf (Revert v) s) ≡ true
-    s-accepted = revert-passes s v (area-kept s t (sym t-long) ∙ revert-rows t v there .0) (revert-called t v there) sound-s s-named
+    s-accepted = ap isAccepted (revert-accepted s v s-passed)
 
     abbrev ss : List Descriptor
     ss = snapshotsOf (descriptorsOf s)
@@ -214,26 +220,26 @@ module _ (s : List ℕ) (ks : List Call) (sound-s : chainSound (chain s) ≡ tru
           long = refl;
           rest = behind ss v ++ (activeOf (descriptorsOf s) ∷ []);
           some = omega (arith, length-append (behind ss v) (activeOf (descriptorsOf s) ∷ []));
-          is = chain-is (chain s) sound-s ∙ ap Sound (revert-split s v s-accepted);
+          is = chain-is (chain s) sound-s ∙ ap Sound (revert-split s v s-passed);
           active = ap (λ (x : Descriptor). x .name) (active-snoc (behind ss v) (activeOf (descriptorsOf s)));
           blocks = λ p l. refl;
         }
 
-    back-by : Stands s (before ss v) d n t ⊎ (named (snapshotsOf (descriptorsOf t)) (d .name) ≡ false) → Agree (storeAll t (storesOf (Revert v) t)) (storeAll s (storesOf (Revert v) s))
+    back-by : Stands s (before ss v) d n t ⊎ (named (snapshotsOf (descriptorsOf t)) (d .name) ≡ false) → Agree (storeAll t (revertStores t v)) (storeAll s (revertStores s v))
     back-by (inl h) =
-        subst (λ (m : List ℕ). Agree (storeAll t (storesOf (Revert m) t)) (storeAll s (storesOf (Revert m) s))) d-name
-        (back-agree s (before ss v) d n t start h (subst (λ (m : List ℕ). isAccepted (answerOf (Revert m) s) ≡ true) (sym d-name) s-accepted) (subst (λ (m : List ℕ). isAccepted (answerOf (Revert m) t) ≡ true) (sym d-name) there))
+        subst (λ (m : List ℕ). Agree (storeAll t (revertStores t m)) (storeAll s (revertStores s m))) d-name
+        (back-agree s (before ss v) d n t start h (subst (λ (m : List ℕ). RevertPassed s m) (sym d-name) s-passed) (subst (λ (m : List ℕ). RevertPassed t m) (sym d-name) there))
     back-by (inr g) = not-gone (subst (λ (m : List ℕ). named (snapshotsOf (descriptorsOf t)) m ≡ false) d-name g)
 
-    start-agree : Agree (storeAll t (storesOf (Revert v) t)) (storeAll s (storesOf (Revert v) s))
+    start-agree : Agree (storeAll t (revertStores t v)) (storeAll s (revertStores s v))
     start-agree = back-by (stands-run s (before ss v) d n (take k ks) s start (standing-take s ks k standing) (subst (λ (m : List ℕ). Unsnapped m s (take k ks)) (sym d-name) unsnapped))
 
-    first-after : after (take 1 (drop k ks)) s ≡ storeAll s (storesOf (Revert v) s)
+    first-after : after (take 1 (drop k ks)) s ≡ storeAll s (revertStores s v)
     unfolding after
     first-after =
         ap (λ (js : List Call). after (take 1 js) s) (drop-cons ks k Check (reverted .inside))
         ∙ ap (λ (x : Call). step x s .card) (reverted .is)
-        ∙ accepted-card (Revert v) s s-accepted
+        ∙ revert-card s v s-accepted
 
     pub forgets-start : Matched s ks (suc k) (drop k ks) 1
     forgets-start =
@@ -255,19 +261,30 @@ module _ (s : List ℕ) (ks : List Call) (sound-s : chainSound (chain s) ≡ tru
     c-is : after (take i (take k ks)) s ≡ c
     c-is = ap (λ (js : List Call). after js s) (take-take i k ks (omega (arith, earlier)))
 
-    call-is : getD (take k ks) i Check ≡ Snap v
-    call-is = snap-of v (getD (take k ks) i Check) (l .is)
+    abbrev call : Call
+    call = getD (take k ks) i Check
 
-    snapped : isAccepted (answerOf (Snap v) c) ≡ true
-    snapped =
-        subst (λ (x : List ℕ). isAccepted (answerOf (Snap v) x) ≡ true) c-is
-        (subst (λ (x : Call). isAccepted (answerOf x (after (take i (take k ks)) s)) ≡ true) call-is (l .accepted-there))
+    kind-is : kindOf call ≡ Snaps v
+    unfolding isSnapOf
+    kind-is = snap-kind v (kindOf call) (l .is)
+
+    accepted-c : isAccepted (answerOf call c) ≡ true
+    accepted-c = subst (λ (x : List ℕ). isAccepted (answerOf call x) ≡ true) c-is (l .accepted-there)
+
+    snapped : SnapPassed c v
+    snapped = snap-facts (subst (λ (x : Kind). Allowed c x) kind-is (call-allowed call c accepted-c))
 
     abbrev c′ : List ℕ
-    c′ = storeAll c (storesOf (Snap v) c)
+    c′ = storeAll c (snapStores c v)
 
     c′-is : after (take (suc i) (take k ks)) s ≡ c′
-    c′-is = after-one (take k ks) i (Snap v) s (l .inside) call-is ∙ ap (λ (x : List ℕ). step (Snap v) x .card) c-is ∙ accepted-card (Snap v) c snapped
+    unfolding storesBy
+    c′-is =
+        after-one (take k ks) i call s (l .inside) refl
+        ∙ ap (λ (x : List ℕ). step call x .card) c-is
+        ∙ accepted-card call c accepted-c
+        ∙ ap (storeAll c) (call-stores call c)
+        ∙ ap (λ (x : Kind). storeAll c (storesBy x c)) kind-is
 
     abbrev js : List Call
     js = drop (suc i) (take k ks)
@@ -298,11 +315,11 @@ module _ (s : List ℕ) (ks : List Call) (sound-s : chainSound (chain s) ≡ tru
           blocks = λ p h. refl;
         }
 
-    kept-by : Stands c′ (snapshotsOf (descriptorsOf c)) old (a .name) t ⊎ (named (snapshotsOf (descriptorsOf t)) v ≡ false) → Agree (storeAll t (storesOf (Revert v) t)) (storeAll c′ (storesOf (Revert v) c′))
-    kept-by (inl h) = back-agree c′ (snapshotsOf (descriptorsOf c)) old (a .name) t made-there h (undone-accepted c v snapped) there
+    kept-by : Stands c′ (snapshotsOf (descriptorsOf c)) old (a .name) t ⊎ (named (snapshotsOf (descriptorsOf t)) v ≡ false) → Agree (storeAll t (revertStores t v)) (storeAll c′ (revertStores c′ v))
+    kept-by (inl h) = back-agree c′ (snapshotsOf (descriptorsOf c)) old (a .name) t made-there h (undone-passed c v snapped) there
     kept-by (inr g) = not-gone g
 
-    still : Agree (storeAll t (storesOf (Revert v) t)) (storeAll c′ (storesOf (Revert v) c′))
+    still : Agree (storeAll t (revertStores t v)) (storeAll c′ (revertStores c′ v))
     still =
         kept-by
         (subst (λ (x : List ℕ). Stands c′ (snapshotsOf (descriptorsOf c)) old (a .name) x ⊎ (named (snapshotsOf (descriptorsOf x)) v ≡ false)) t-is
@@ -318,4 +335,4 @@ module _ (s : List ℕ) (ks : List Call) (sound-s : chainSound (chain s) ≡ tru
     forgets-snap bytes =
         let m : i ≤ k = omega (arith, earlier) in
         matched-from agree-step s ks (suc k) (without ks i k) i standing (omega (arith, reverted .inside)) without-long (sym (without-drop ks i k m (reverted .inside)))
-        (rw (t-after, without-take ks i k m (reverted .inside)) (agree-trans (storeAll t (storesOf (Revert v) t)) (storeAll c′ (storesOf (Revert v) c′)) c still (undone c v bytes snapped)))
+        (rw (t-after, without-take ks i k m (reverted .inside)) (agree-trans (storeAll t (revertStores t v)) (storeAll c′ (revertStores c′ v)) c still (undone c v bytes snapped)))

@@ -17,16 +17,17 @@ use Rattle.claims.specs.Claims.{blocksNeeded, RoomClaim}
 use Rattle.claims.proofs.ChainAfter.{reverted-chain}
 use Rattle.claims.proofs.SnappedChain.{snapped-chain}
 use Rattle.claims.proofs.WrittenChain.{written-chain}
+use Rattle.calls.proofs.Passed.{write-passed, snap-passed, revert-passed}
 
 -- the chain after an accepted call
 after-is : (k : Call) (c : List ℕ) → isAccepted (answerOf k c) ≡ true → (ds : List Descriptor) → chain (storeAll c (storesOf k c)) ≡ Sound ds → descriptorsOf (step k c .card) ≡ ds
 after-is k c e ds q = ap descriptorsOf (accepted-card k c e) ∙ descriptors-are (storeAll c (storesOf k c)) ds q
 
 pub room-claim : RoomClaim
-unfolding RoomClaim blocksNeeded
+unfolding RoomClaim blocksNeeded storesOf
 room-claim c =
     record {
-      write = λ l block e. after-is (Write l block) c e _ (written-chain c l block e);
-      snap = λ name e. after-is (Snap name) c e _ (snapped-chain c name e);
-      revert = λ name e. after-is (Revert name) c e _ (reverted-chain c name e);
+      write = λ l block e. after-is (Write l block) c e _ (written-chain c l block (write-passed c l block e));
+      snap = λ name e. after-is (Snap name) c e _ (snapped-chain c name (snap-passed c name e));
+      revert = λ name e. after-is (Revert name) c e _ (reverted-chain c name (revert-passed c name e));
     }

@@ -19,7 +19,7 @@ use Rattle.calls.specs.Effect.{storesOf, lentOf}
 use Rattle.calls.specs.Step.{step, isAccepted}
 use Rattle.claims.specs.History.{betaOf, formattable, formatted}
 use Rattle.claims.specs.Claims.{blocksNeeded, lentAtEntry, RefusalClaim, ReamClaim, NoRoomClaim, TableClaim}
-use Rattle.calls.proofs.RowLaws.{fresh, rows-numbered, fresh-never, given, gives, none, all-passed, number-given}
+use Rattle.calls.proofs.RowLaws.{fresh, holdsOf, rows-numbered, fresh-never, given, gives, none, all-passed, number-given}
 
 pub table-claim : TableClaim
 unfolding TableClaim answerOf
@@ -51,11 +51,11 @@ refusal-claim k c = (
 
 -- 'no room' comes only if the blocks needed exceed those free
 pub no-room-claim : NoRoomClaim
-unfolding NoRoomClaim answerOf rowsOf reamRows readRows writeRows snapRows revertRows listRows checkRows fresh blocksNeeded betaOf
+unfolding NoRoomClaim answerOf rowsOf reamRows readRows writeRows snapRows revertRows listRows checkRows fresh holdsOf blocksNeeded betaOf
 no-room-claim (Ream layout volume name) c e = absurd (fresh-never (rowsOf (Ream layout volume name) c) 11 refl (omega arith) e)
 no-room-claim (Read target name l block) c e = absurd (fresh-never (rowsOf (Read target name l block) c) 11 refl (omega arith) e)
-no-room-claim (Write l block) c e = ltb-true _ _ (number-given (rowsOf (Write l block) c) (rows-numbered (Write l block) c) 5 (omega arith) e)
-no-room-claim (Snap name) c e = ltb-true _ _ (number-given (rowsOf (Snap name) c) (rows-numbered (Snap name) c) 5 (omega arith) e)
+no-room-claim (Write l block) c e = ltb-true _ _ (number-given (rowsOf (Write l block) c) (rows-numbered (Write l block) c) 11 (omega arith) e)
+no-room-claim (Snap name) c e = ltb-true _ _ (number-given (rowsOf (Snap name) c) (rows-numbered (Snap name) c) 11 (omega arith) e)
 no-room-claim (Revert name) c e = absurd (fresh-never (rowsOf (Revert name) c) 11 refl (omega arith) e)
 no-room-claim (Listing records) c e = absurd (fresh-never (rowsOf (Listing records) c) 11 refl (omega arith) e)
 no-room-claim Check c e = absurd (fresh-never (rowsOf Check c) 11 refl (omega arith) e)

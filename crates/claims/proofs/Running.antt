@@ -11,13 +11,13 @@ use Rattle.calls.specs.Parts.{areaBad, snapshotsOf, targetOf, isMisplaced, hold
 use Rattle.entries.specs.Naming.{tableNamings, tablesNamings, phiNamings, namings, among, atFault, firstFault, checkOne}
 use Rattle.calls.specs.Check.{orElse, checkAll, checkCard, isFault, faultHolder}
 use Rattle.calls.specs.Ladder.{firstRow, reamRows, readRows, writeRows, snapRows, revertRows, listRows, checkRows, rowsOf, answerOf}
-use Rattle.calls.specs.Effect.{snapping, reverting, storesOf, listed, lentOf, filledOf}
+use Rattle.calls.specs.Effect.{snapping, reverting, writeStores, snapStores, revertStores, storesOf, listed, lentOf, filledOf}
 use Rattle.calls.specs.Step.{step, after, outcomes}
 use Rattle.claims.specs.History.{betaOf, formatted}
 
 unfoldable pub running : ℕ
 unfolding step after outcomes answerOf rowsOf firstRow reamRows readRows writeRows snapRows revertRows listRows checkRows
-    storesOf snapping reverting listed lentOf filledOf betaOf formatted areaBad activeOf snapshotsOf targetOf isMisplaced holderOf blockFound
+    storesOf writeStores snapStores revertStores snapping reverting listed lentOf filledOf betaOf formatted areaBad activeOf snapshotsOf targetOf isMisplaced holderOf blockFound
     entryAt phiAt tableOf entryFound find tableIsNew need tableWith tailWith setInTable setInNewTable writing isDescriptor isTable inPlace
     formOk regionOk indexOf named sound chainFrom chain chainSound descriptors chainPlace tableCount cost descriptorAt headBytes descriptorBlock reservedOk phiOk
     clearing copying opening nameByte nameLength isName isText padded splice u32At le32 blockCount blockAt storeBlock storeAll same allZero

@@ -1,4 +1,4 @@
--- On two cards that agree, an accepted call makes the same stores, and stores every block that it takes.
+-- On two cards that agree, a write, a snap and a revert make the same stores, and store every block that they take.
 use mathlib.Core.Path.{_≡_, refl, sym}
 use mathlib.Core.Logic.{_⊎_, inl, inr}
 use mathlib.Core.Bool.{Bool, true, false, not, _&&_, _||_}
@@ -6,11 +6,11 @@ use mathlib.Core.List.{List, [], _∷_, _++_}
 use Prim.Native.Nat.{ℕ, zero, suc, _+_, _-_, _≤_, _<_}
 use native.Mathlib.Omega.{arith}
 use lib.Dec.{eqb, ltb, leb}
-use borrow.Author.Tests.{eq-eqb, eqb-false, ltb-true, ltb-false, leb-false, not-false}
+use borrow.Author.Tests.{eq-eqb, eqb-false, ltb-true, ltb-false}
 use Rattle.blocks.specs.Pick.{pick}
 use Rattle.blocks.specs.Bytes.{blockAt, Store, store}
 use Rattle.blocks.specs.Descriptor.{costOf, tailAt, descriptorBlock, renamedOf, linkedOf, reopenedOf, copying}
-use Rattle.blocks.specs.Chain.{chain, chainSound, activeOf}
+use Rattle.blocks.specs.Chain.{activeOf}
 use Rattle.blocks.specs.declared.numbers.Physical.{Physical}
 use Rattle.blocks.specs.declared.descriptor.Descriptor.{Descriptor}
 use Rattle.blocks.proofs.BoolLaws.{or-true}
@@ -20,19 +20,15 @@ use Rattle.entries.specs.declared.find.Found.{Found}
 use Rattle.entries.specs.declared.find.Found.the-variants.{Misplaced, Entry}
 use Rattle.entries.proofs.EntryLaws.{found-table}
 use Rattle.calls.specs.declared.answer.Target.the-variants.{Active}
-use Rattle.calls.specs.Call.{Write, Snap, Revert}
-use Rattle.calls.specs.Parts.{areaBad, descriptorsOf, snapshotsOf, withName, foundThrough, isMisplaced}
-use Rattle.calls.specs.Ladder.{rowsOf, writeRows, answerOf}
-use Rattle.calls.specs.Effect.{storesOf, snapping, reverting}
-use Rattle.calls.specs.Step.{isAccepted}
+use Rattle.calls.specs.Parts.{descriptorsOf, snapshotsOf, withName, foundThrough}
+use Rattle.calls.specs.Effect.{snapping, reverting, writeStores, snapStores, revertStores}
 use Rattle.claims.specs.History.{betaOf, Agree}
-use Rattle.calls.proofs.RowLaws.{rows-passed}
 use Rattle.claims.proofs.Local.{shared-bytes}
 use Rattle.claims.proofs.Agreement.{agree-below, agree-chain, found-same, active-target}
 use Rattle.claims.proofs.StoreLists.{isStored, stored-join}
-use Rattle.claims.proofs.Frame.{active-through}
-use Rattle.claims.proofs.ChainAfter.{before, behind, active-last, link-low, link-long, revert-rows, revert-split, end-below}
-use Rattle.claims.proofs.SnappedChain.{snap-rows}
+use Rattle.claims.proofs.Inside.{active-through}
+use Rattle.claims.proofs.ChainAfter.{before, behind, active-last, link-low, link-long, revert-split, end-below}
+use Rattle.calls.proofs.Passed.{WritePassed, SnapPassed, RevertPassed}
 
 -- copies that take the n blocks from p on
 pub copies-cover : (c : List ℕ) (from p n q : ℕ) → p ≤ q → q < p + n → isStored (copying c from p n) q ≡ true
@@ -70,7 +66,7 @@ module _ (s t : List ℕ) (agree : Agree s t) where
   same-copies from p (suc n) h = rw (below-block from (omega arith), same-copies (suc from) (suc p) n (omega arith))
 
   -- a revert
-  module _ (name : List ℕ) (e : isAccepted (answerOf (Revert name) s) ≡ true) where
+  module _ (name : List ℕ) (e : RevertPassed s name) where
     abbrev ss : List Descriptor
     ss = snapshotsOf ds
 
@@ -79,27 +75,26 @@ module _ (s t : List ℕ) (agree : Agree s t) where
 
     pub v-below : (v .alpha .0 < v .beta .0) × (v .beta .0 ≤ d .beta .0)
     v-below =
-        let r = revert-rows s name e in
-        (link-low s (r .0) (r .1) (before ss name) v (behind ss name ++ (d ∷ [])) (revert-split s name e), end-below s (r .0) (r .1) (before ss name) v (behind ss name ++ (d ∷ [])) (revert-split s name e))
+        (link-low s (e .area) (e .sound) (before ss name) v (behind ss name ++ (d ∷ [])) (revert-split s name e), end-below s (e .area) (e .sound) (before ss name) v (behind ss name ++ (d ∷ [])) (revert-split s name e))
 
-    pub same-revert : storesOf (Revert name) s ≡ storesOf (Revert name) t
-    unfolding storesOf reverting
+    pub same-revert : revertStores s name ≡ revertStores t name
+    unfolding revertStores reverting
     same-revert = rw (← (agree-chain s t agree), below-tail (v .alpha .0) (omega (arith, v-below .0, v-below .1)))
 
   -- a snap
-  module _ (name : List ℕ) (e : isAccepted (answerOf (Snap name) s) ≡ true) where
+  module _ (name : List ℕ) (e : SnapPassed s name) where
     d-long : d .alpha .0 + costOf d ≤ d .beta .0
-    d-long = let r = snap-rows s name e in link-long s (r .0) (r .2) (snapshotsOf ds) d [] (active-last s (r .0) (r .2))
+    d-long = link-long s (e .area) (e .sound) (snapshotsOf ds) d [] (active-last s (e .area) (e .sound))
 
     d-least : 1 ≤ costOf d
     d-least = cost-least (d .layout) (d .volume)
 
-    pub same-snap : storesOf (Snap name) s ≡ storesOf (Snap name) t
-    unfolding storesOf snapping
+    pub same-snap : snapStores s name ≡ snapStores t name
+    unfolding snapStores snapping
     same-snap = rw (← (agree-chain s t agree), below-tail (d .alpha .0) (omega (arith, d-long, d-least)), same-copies (d .alpha .0 + 1) (d .beta .0 + 1) (costOf d - 1) (omega (arith, d-long, d-least)))
 
-    snap-by : (p : ℕ) (z : Bool) → eqb (d .beta .0) p ≡ z → d .beta .0 ≤ p → p < d .beta .0 + costOf d → isStored (storesOf (Snap name) s) p ≡ true
-    unfolding storesOf snapping isStored
+    snap-by : (p : ℕ) (z : Bool) → eqb (d .beta .0) p ≡ z → d .beta .0 ≤ p → p < d .beta .0 + costOf d → isStored (snapStores s name) p ≡ true
+    unfolding snapStores snapping isStored
     snap-by p true q h l =
         rw (stored-join (copying s (d .alpha .0 + 1) (d .beta .0 + 1) (costOf d - 1)) (store (d .beta .0) (descriptorBlock (reopenedOf d) (tailAt s (d .alpha .0))) ∷ store (d .alpha .0) (descriptorBlock (linkedOf (renamedOf d name) (d .beta)) (tailAt s (d .alpha .0))) ∷ []) p, q)
         (or-true (isStored (copying s (d .alpha .0 + 1) (d .beta .0 + 1) (costOf d - 1)) p))
@@ -109,31 +104,23 @@ module _ (s t : List ℕ) (agree : Agree s t) where
           copies-cover s (d .alpha .0 + 1) (d .beta .0 + 1) (costOf d - 1) p (omega (arith, eqb-false (d .beta .0) p q)) (omega (arith, d-least)),
         )
 
-    pub snap-covered : (p : ℕ) → p < d .beta .0 + costOf d → (p < d .beta .0) ⊎ (isStored (storesOf (Snap name) s) p ≡ true)
+    pub snap-covered : (p : ℕ) → p < d .beta .0 + costOf d → (p < d .beta .0) ⊎ (isStored (snapStores s name) p ≡ true)
     snap-covered p l = by (ltb p (d .beta .0)) refl
       where
-        by : (z : Bool) → ltb p (d .beta .0) ≡ z → (p < d .beta .0) ⊎ (isStored (storesOf (Snap name) s) p ≡ true)
+        by : (z : Bool) → ltb p (d .beta .0) ≡ z → (p < d .beta .0) ⊎ (isStored (snapStores s name) p ≡ true)
         by true q = inl (ltb-true p (d .beta .0) q)
         by false q = inr (snap-by p (eqb (d .beta .0) p) refl (ltb-false p (d .beta .0) q) l)
 
   -- a write
-  module _ (l : ℕ) (block : List ℕ) (e : isAccepted (answerOf (Write l block) s) ≡ true) where
-    write-rows : (areaBad s ≡ false) × (chainSound (chain s) ≡ true) × (leb (d .volume) l ≡ false) × (isMisplaced (foundThrough s d l) ≡ false)
-    unfolding rowsOf writeRows
-    write-rows =
-        let rows = rows-passed (Write l block) s e in
-        (rows 0 (omega arith), not-false (chainSound (chain s)) (rows 2 (omega arith)), rows 3 (omega arith), rows 4 (omega arith))
-
+  module _ (l : ℕ) (block : List ℕ) (e : WritePassed s l block) where
     pub found-is : find s ds d l ≡ find t ds d l
-    found-is = rw (active-target ds) at (found-same s t agree Active [] l refl (write-rows .2))
+    found-is = rw (active-target ds) at (found-same s t agree Active [] l refl (e .below))
 
     table-below : (m p : Physical) → find s ds d l ≡ Entry m p → m .0 < d .beta .0
-    table-below m p q =
-        let r = write-rows in
-        found-table s _ _ d (active-through s (r .0) (r .1)) l (leb-false (d .volume) l (r .2)) (find s ds d l) refl m p q
+    table-below m p q = found-table s _ _ d (active-through s (e .area) (e .sound)) l (e .below) (find s ds d l) refl m p q
 
     d-low : d .alpha .0 < d .beta .0
-    d-low = let r = write-rows in link-low s (r .0) (r .1) (snapshotsOf ds) d [] (active-last s (r .0) (r .1))
+    d-low = link-low s (e .area) (e .sound) (snapshotsOf ds) d [] (active-last s (e .area) (e .sound))
 
     same-set : (m : ℕ) → m < d .beta .0 → setInTable s d m l ≡ setInTable t d m l
     unfolding setInTable
@@ -148,8 +135,8 @@ module _ (s t : List ℕ) (agree : Agree s t) where
     same-writing (Misplaced h) q = refl
     same-writing (Entry m p) q = let b = table-below m p (sym q) in rw (same-set (m .0) b, same-new (m .0) b)
 
-    pub same-write : storesOf (Write l block) s ≡ storesOf (Write l block) t
-    unfolding storesOf
+    pub same-write : writeStores s l block ≡ writeStores t l block
+    unfolding writeStores
     same-write = rw (← (agree-chain s t agree), ← found-is) (same-writing (find s ds d l) refl)
 
     -- the blocks that it takes
@@ -177,6 +164,6 @@ module _ (s t : List ℕ) (agree : Agree s t) where
     covered-by (Misplaced h) p b = inl (omega arith)
     covered-by (Entry m o) p b = taken-by (m .0) (o .0) p (not (eqb (o .0) 0) && leb (d .alpha .0) (o .0)) (tableIsNew (d .alpha .0) (m .0)) b
 
-    pub write-covered : (p : ℕ) → p < d .beta .0 + need (d .alpha .0) (foundThrough s d l) → (p < d .beta .0) ⊎ (isStored (storesOf (Write l block) s) p ≡ true)
-    unfolding storesOf
+    pub write-covered : (p : ℕ) → p < d .beta .0 + need (d .alpha .0) (foundThrough s d l) → (p < d .beta .0) ⊎ (isStored (writeStores s l block) p ≡ true)
+    unfolding writeStores
     write-covered p b = covered-by (foundThrough s d l) p b

@@ -7,7 +7,7 @@ use Prim.Native.Nat.{ℕ, _+_, _*_, _-_, _≤_, _<_}
 use native.Mathlib.Omega.{arith}
 use lib.ListN.{length, length-append}
 use lib.Seq.{append-snoc}
-use borrow.Author.Tests.{ltb-false, leb-false, not-false, ne-eqb}
+use borrow.Author.Tests.{ne-eqb}
 use Rattle.blocks.specs.Pick.{same}
 use Rattle.blocks.specs.Bytes.{blockCount, blockAt, Store, store, storeAll}
 use Rattle.blocks.specs.Name.{isName}
@@ -20,191 +20,188 @@ use Rattle.blocks.proofs.DescriptorLaws.{Fits, tail-length}
 use Rattle.blocks.proofs.NamedLaws.{named-one}
 use Rattle.blocks.proofs.ChainLaws.{cost-least}
 use Rattle.blocks.proofs.LinkedLaws.{last, more, chain-linked}
-use Rattle.calls.specs.Call.{Snap}
 use Rattle.calls.specs.Parts.{areaBad, descriptorsOf, snapshotsOf}
-use Rattle.calls.specs.Ladder.{rowsOf, snapRows, answerOf}
-use Rattle.calls.specs.Effect.{storesOf, snapping}
-use Rattle.calls.specs.Step.{isAccepted}
-use Rattle.calls.proofs.RowLaws.{rows-passed}
+use Rattle.calls.specs.Effect.{snapping, snapStores}
+use Rattle.calls.proofs.Passed.{SnapPassed}
 use Rattle.claims.proofs.Local.{linked-chain}
 use Rattle.claims.proofs.Relinked.{linked-next, relinked}
 use Rattle.claims.proofs.Stored.{block-long, stored-descriptor, stored-form, region-ok}
 use Rattle.claims.proofs.Changed.{named-append, named-left, member-from, changed-first, changed-ok}
 use Rattle.claims.proofs.StoreLists.{Whole, none, also, whole-append, isStored, stored-join, stored-length, stored-other, stored-last}
-use Rattle.claims.proofs.Frame.{stores-inside, inside-copying}
+use Rattle.claims.proofs.Inside.{snap-whole, inside-copying}
 use Rattle.claims.proofs.ChainAfter.{fits-of, sound-is, active-last, active-name, active-fresh, link-form, link-inside, link-long, link-most, link-low, link-layout, link-volume, link-reserved, link-phi, count-kept, none-stored, one-stored, copies-stored}
 
 same-not : (a b : List ℕ) (z : Bool) → same a b ≡ z → same b a ≡ false → same a b ≡ false
 same-not a b false e h = e
 same-not a b true e h = let q = same-equal a b e in no (sym h ∙ rw q (same-self b))
 
-module _ (c name : List ℕ) (e : isAccepted (answerOf (Snap name) c) ≡ true) where
-  pub snap-rows : (areaBad c ≡ false) × (isName name ≡ true) × (chainSound (chain c) ≡ true) × (named (descriptorsOf c) name ≡ false) × (length (snapshotsOf (descriptorsOf c)) < 255)
-      × (activeOf (descriptorsOf c) .beta .0 + costOf (activeOf (descriptorsOf c)) ≤ blockCount c)
-  unfolding rowsOf snapRows
-  snap-rows =
-      let rows = rows-passed (Snap name) c e in (
-        rows 0 (omega arith),
-        not-false (isName name) (rows 1 (omega arith)),
-        not-false (chainSound (chain c)) (rows 2 (omega arith)),
-        rows 3 (omega arith),
-        leb-false 255 (length (snapshotsOf (descriptorsOf c))) (rows 4 (omega arith)),
-        ltb-false (blockCount c) (activeOf (descriptorsOf c) .beta .0 + costOf (activeOf (descriptorsOf c))) (rows 5 (omega arith)),
+module _ (c name : List ℕ) (e : SnapPassed c name) where
+  area : areaBad c ≡ false
+  area = e .area
+
+  called : isName name ≡ true
+  called = e .called
+
+  ok : chainSound (chain c) ≡ true
+  ok = e .sound
+
+  unused : named (descriptorsOf c) name ≡ false
+  unused = e .unused
+
+  room : activeOf (descriptorsOf c) .beta .0 + costOf (activeOf (descriptorsOf c)) ≤ blockCount c
+  room = e .room
+
+  abbrev xs : List Descriptor
+  xs = snapshotsOf (descriptorsOf c)
+
+  abbrev d : Descriptor
+  d = activeOf (descriptorsOf c)
+
+  -- the snapshot, and the region opened after it
+  abbrev old : Descriptor
+  old = linkedOf (renamedOf d name) (d .beta)
+
+  abbrev new : Descriptor
+  new = reopenedOf d
+
+  abbrev tail : List ℕ
+  tail = tailAt c (d .alpha .0)
+
+  abbrev t : List ℕ
+  t = storeAll c (snapStores c name)
+
+  abbrev copies : List Store
+  copies = copying c (d .alpha .0 + 1) (d .beta .0 + 1) (costOf d - 1)
+
+  pub split : descriptorsOf c ≡ xs ++ (d ∷ [])
+  split = active-last c area ok
+
+  pub stores-are : snapStores c name ≡ copies ++ (store (d .beta .0) (descriptorBlock new tail) ∷ store (d .alpha .0) (descriptorBlock old tail) ∷ [])
+  unfolding snapStores snapping
+  stores-are = refl
+
+  pub whole : Whole (length c) (snapStores c name)
+  whole = snap-whole c name e
+
+  pub d-low : d .alpha .0 < d .beta .0
+  d-low = link-low c area ok xs d [] split
+
+  d-least : 1 ≤ costOf d
+  d-least = cost-least (d .layout) (d .volume)
+
+  d-most : blockCount c ≤ 65536
+  d-most = link-most c area ok xs d [] split
+
+  pub d-inside : 512 * d .alpha .0 + 512 ≤ length c
+  d-inside = link-inside c area ok xs d [] split
+
+  pub room-bytes : 512 * (d .beta .0 + costOf d) ≤ length c
+  unfolding blockCount
+  room-bytes = omega (arith, room)
+
+  pub copies-whole : Whole (length c) copies
+  copies-whole = inside-copying c (d .alpha .0 + 1) (d .beta .0 + 1) (costOf d - 1) (omega (arith, d-low)) (omega (arith, room-bytes, d-least))
+
+  pub next-nil : d .next .0 ≡ 0
+  next-nil = linked-next c (member-from c (descriptorsOf c) xs d [] (sound-is c area ok) split) d refl
+
+  pub old-fits : Fits old
+  old-fits = fits-of old (link-layout c area ok xs d [] split) (link-volume c area ok xs d [] split) (omega (arith, d-low, room, d-most)) (omega (arith, room, d-most)) (omega (arith, room, d-most)) called
+
+  pub new-fits : Fits new
+  new-fits = fits-of new (link-layout c area ok xs d [] split) (link-volume c area ok xs d [] split) (omega (arith, room, d-most)) (omega (arith, room, d-most)) (omega (arith, next-nil)) (active-name c area ok)
+
+  pub tail-whole : length tail ≡ 472
+  tail-whole = tail-length c (d .alpha .0) d-inside
+
+  pub old-long : length (descriptorBlock old tail) ≡ 512
+  old-long = block-long old tail old-fits tail-whole
+
+  pub new-long : length (descriptorBlock new tail) ≡ 512
+  new-long = block-long new tail new-fits tail-whole
+
+  pub new-inside : 512 * d .beta .0 + 512 ≤ length c
+  new-inside = omega (arith, room-bytes, d-least)
+
+  pub old-block : blockAt t (d .alpha .0) ≡ descriptorBlock old tail
+  old-block =
+      rw (stores-are, ← (append-snoc copies (store (d .beta .0) (descriptorBlock new tail)) (store (d .alpha .0) (descriptorBlock old tail) ∷ [])))
+      (stored-last (length c) c refl (whole-append copies-whole (also (d .beta .0) (descriptorBlock new tail) new-long new-inside none)) (d .alpha .0) (descriptorBlock old tail) old-long d-inside none (none-stored (d .alpha .0)))
+
+  pub new-block : blockAt t (d .beta .0) ≡ descriptorBlock new tail
+  new-block =
+      rw stores-are
+      (stored-last (length c) c refl copies-whole (d .beta .0) (descriptorBlock new tail) new-long new-inside (also (d .alpha .0) (descriptorBlock old tail) old-long d-inside none)
+      (one-stored (d .alpha .0) (descriptorBlock old tail) (d .beta .0) (λ k. omega (arith, d-low))))
+
+  pair-stored : (q : ℕ) → q < d .alpha .0 → isStored (store (d .beta .0) (descriptorBlock new tail) ∷ store (d .alpha .0) (descriptorBlock old tail) ∷ []) q ≡ false
+  unfolding isStored
+  pair-stored q h = rw (ne-eqb (d .beta .0) q (omega (arith, d-low)), ne-eqb (d .alpha .0) q (omega arith))
+
+  pub snap-above : (q : ℕ) → q < d .alpha .0 → isStored (snapStores c name) q ≡ false
+  snap-above q h =
+      rw (stores-are, stored-join copies (store (d .beta .0) (descriptorBlock new tail) ∷ store (d .alpha .0) (descriptorBlock old tail) ∷ []) q, copies-stored c (d .alpha .0 + 1) (d .beta .0 + 1) (costOf d - 1) q (omega (arith, d-low)))
+      (pair-stored q h)
+
+  kept : (q : ℕ) → q < d .alpha .0 → blockAt c q ≡ blockAt t q
+  kept q h = sym (stored-other (length c) c refl whole q (snap-above q h))
+
+  pub same-long : length c ≡ length t
+  same-long = sym (stored-length (length c) c refl whole)
+
+  same-count : blockCount c ≡ blockCount t
+  same-count = count-kept c t same-long
+
+  -- names
+  name-new : named xs name ≡ false
+  name-new = named-left xs (d ∷ []) name (rw split at unused)
+
+  other-name : same name (d .name) ≡ false
+  other-name =
+      same-not name (d .name) (same name (d .name)) refl
+      (sym (named-one d name) ∙ or-false-right (named xs name) (named (d ∷ []) name) (sym (named-append xs (d ∷ []) name) ∙ ap (λ (l : List Descriptor). named l name) (sym split) ∙ unused))
+
+  new-fresh : named (xs ++ (old ∷ [])) (d .name) ≡ false
+  new-fresh = named-append xs (old ∷ []) (d .name) ∙ rw (active-fresh c area ok) (named-one old (d .name) ∙ other-name)
+
+  -- the snapshot is sound
+  old-is : descriptorAt t (d .alpha .0) ≡ old
+  old-is = stored-descriptor t (d .alpha .0) (omega (arith, same-long, d-inside)) old tail old-block old-fits tail-whole
+
+  old-ok : sound t xs (d .alpha .0) ≡ true
+  old-ok =
+      changed-ok c (descriptorsOf c) xs d [] (sound-is c area ok) split t same-long kept old tail old-block old-fits tail-whole refl refl refl called
+      (link-reserved c area ok xs d [] split) (link-phi c area ok xs d [] split) (link-long c area ok xs d [] split) (omega (arith, room, same-count)) (inr (refl, omega (arith, room, same-count, d-least))) name-new
+
+  first-is : (old .layout ≡ descriptorAt t 0 .layout) × (old .volume ≡ descriptorAt t 0 .volume)
+  first-is =
+      changed-first c (descriptorsOf c) xs d [] (sound-is c area ok) split t same-long kept old tail old-block old-fits tail-whole refl refl refl called
+      (link-reserved c area ok xs d [] split) (link-phi c area ok xs d [] split) (link-long c area ok xs d [] split) (omega (arith, room, same-count)) (inr (refl, omega (arith, room, same-count, d-least))) name-new
+
+  -- and the region after it
+  in-t : 512 * d .beta .0 + 512 ≤ length t
+  in-t = omega (arith, same-long, new-inside)
+
+  new-is : descriptorAt t (d .beta .0) ≡ new
+  new-is = stored-descriptor t (d .beta .0) in-t new tail new-block new-fits tail-whole
+
+  new-ok : sound t (xs ++ (old ∷ [])) (d .beta .0) ≡ true
+  unfolding sound
+  new-ok =
+      rw (
+        new-is,
+        stored-form t (d .beta .0) in-t new tail new-block new-fits tail-whole d refl refl (active-name c area ok) c (d .alpha .0) (link-form c area ok xs d [] split) (link-reserved c area ok xs d [] split) (link-phi c area ok xs d [] split),
+        region-ok (descriptorAt t 0) (blockCount t) (d .beta .0) new (first-is .0) (first-is .1) refl (omega arith) (omega (arith, room, same-count)) (inl next-nil),
+        new-fresh,
       )
 
-  module _ (area : areaBad c ≡ false) (called : isName name ≡ true) (ok : chainSound (chain c) ≡ true) (unused : named (descriptorsOf c) name ≡ false)
-      (room : activeOf (descriptorsOf c) .beta .0 + costOf (activeOf (descriptorsOf c)) ≤ blockCount c) where
-    abbrev xs : List Descriptor
-    xs = snapshotsOf (descriptorsOf c)
-
-    abbrev d : Descriptor
-    d = activeOf (descriptorsOf c)
-
-    -- the snapshot, and the region opened after it
-    abbrev old : Descriptor
-    old = linkedOf (renamedOf d name) (d .beta)
-
-    abbrev new : Descriptor
-    new = reopenedOf d
-
-    abbrev tail : List ℕ
-    tail = tailAt c (d .alpha .0)
-
-    abbrev t : List ℕ
-    t = storeAll c (storesOf (Snap name) c)
-
-    abbrev copies : List Store
-    copies = copying c (d .alpha .0 + 1) (d .beta .0 + 1) (costOf d - 1)
-
-    pub split : descriptorsOf c ≡ xs ++ (d ∷ [])
-    split = active-last c area ok
-
-    pub stores-are : storesOf (Snap name) c ≡ copies ++ (store (d .beta .0) (descriptorBlock new tail) ∷ store (d .alpha .0) (descriptorBlock old tail) ∷ [])
-    unfolding storesOf snapping
-    stores-are = refl
-
-    pub whole : Whole (length c) (storesOf (Snap name) c)
-    whole = stores-inside (Snap name) c e
-
-    pub d-low : d .alpha .0 < d .beta .0
-    d-low = link-low c area ok xs d [] split
-
-    d-least : 1 ≤ costOf d
-    d-least = cost-least (d .layout) (d .volume)
-
-    d-most : blockCount c ≤ 65536
-    d-most = link-most c area ok xs d [] split
-
-    pub d-inside : 512 * d .alpha .0 + 512 ≤ length c
-    d-inside = link-inside c area ok xs d [] split
-
-    pub room-bytes : 512 * (d .beta .0 + costOf d) ≤ length c
-    unfolding blockCount
-    room-bytes = omega (arith, room)
-
-    pub copies-whole : Whole (length c) copies
-    copies-whole = inside-copying c (d .alpha .0 + 1) (d .beta .0 + 1) (costOf d - 1) (omega (arith, d-low)) (omega (arith, room-bytes, d-least))
-
-    pub next-nil : d .next .0 ≡ 0
-    next-nil = linked-next c (member-from c (descriptorsOf c) xs d [] (sound-is c area ok) split) d refl
-
-    pub old-fits : Fits old
-    old-fits = fits-of old (link-layout c area ok xs d [] split) (link-volume c area ok xs d [] split) (omega (arith, d-low, room, d-most)) (omega (arith, room, d-most)) (omega (arith, room, d-most)) called
-
-    pub new-fits : Fits new
-    new-fits = fits-of new (link-layout c area ok xs d [] split) (link-volume c area ok xs d [] split) (omega (arith, room, d-most)) (omega (arith, room, d-most)) (omega (arith, next-nil)) (active-name c area ok)
-
-    pub tail-whole : length tail ≡ 472
-    tail-whole = tail-length c (d .alpha .0) d-inside
-
-    pub old-long : length (descriptorBlock old tail) ≡ 512
-    old-long = block-long old tail old-fits tail-whole
-
-    pub new-long : length (descriptorBlock new tail) ≡ 512
-    new-long = block-long new tail new-fits tail-whole
-
-    pub new-inside : 512 * d .beta .0 + 512 ≤ length c
-    new-inside = omega (arith, room-bytes, d-least)
-
-    pub old-block : blockAt t (d .alpha .0) ≡ descriptorBlock old tail
-    old-block =
-        rw (stores-are, ← (append-snoc copies (store (d .beta .0) (descriptorBlock new tail)) (store (d .alpha .0) (descriptorBlock old tail) ∷ [])))
-        (stored-last (length c) c refl (whole-append copies-whole (also (d .beta .0) (descriptorBlock new tail) new-long new-inside none)) (d .alpha .0) (descriptorBlock old tail) old-long d-inside none (none-stored (d .alpha .0)))
-
-    pub new-block : blockAt t (d .beta .0) ≡ descriptorBlock new tail
-    new-block =
-        rw stores-are
-        (stored-last (length c) c refl copies-whole (d .beta .0) (descriptorBlock new tail) new-long new-inside (also (d .alpha .0) (descriptorBlock old tail) old-long d-inside none)
-        (one-stored (d .alpha .0) (descriptorBlock old tail) (d .beta .0) (λ k. omega (arith, d-low))))
-
-    pair-stored : (q : ℕ) → q < d .alpha .0 → isStored (store (d .beta .0) (descriptorBlock new tail) ∷ store (d .alpha .0) (descriptorBlock old tail) ∷ []) q ≡ false
-    unfolding isStored
-    pair-stored q h = rw (ne-eqb (d .beta .0) q (omega (arith, d-low)), ne-eqb (d .alpha .0) q (omega arith))
-
-    pub snap-above : (q : ℕ) → q < d .alpha .0 → isStored (storesOf (Snap name) c) q ≡ false
-    snap-above q h =
-        rw (stores-are, stored-join copies (store (d .beta .0) (descriptorBlock new tail) ∷ store (d .alpha .0) (descriptorBlock old tail) ∷ []) q, copies-stored c (d .alpha .0 + 1) (d .beta .0 + 1) (costOf d - 1) q (omega (arith, d-low)))
-        (pair-stored q h)
-
-    kept : (q : ℕ) → q < d .alpha .0 → blockAt c q ≡ blockAt t q
-    kept q h = sym (stored-other (length c) c refl whole q (snap-above q h))
-
-    pub same-long : length c ≡ length t
-    same-long = sym (stored-length (length c) c refl whole)
-
-    same-count : blockCount c ≡ blockCount t
-    same-count = count-kept c t same-long
-
-    -- names
-    name-new : named xs name ≡ false
-    name-new = named-left xs (d ∷ []) name (rw split at unused)
-
-    other-name : same name (d .name) ≡ false
-    other-name =
-        same-not name (d .name) (same name (d .name)) refl
-        (sym (named-one d name) ∙ or-false-right (named xs name) (named (d ∷ []) name) (sym (named-append xs (d ∷ []) name) ∙ ap (λ (l : List Descriptor). named l name) (sym split) ∙ unused))
-
-    new-fresh : named (xs ++ (old ∷ [])) (d .name) ≡ false
-    new-fresh = named-append xs (old ∷ []) (d .name) ∙ rw (active-fresh c area ok) (named-one old (d .name) ∙ other-name)
-
-    -- the snapshot is sound
-    old-is : descriptorAt t (d .alpha .0) ≡ old
-    old-is = stored-descriptor t (d .alpha .0) (omega (arith, same-long, d-inside)) old tail old-block old-fits tail-whole
-
-    old-ok : sound t xs (d .alpha .0) ≡ true
-    old-ok =
-        changed-ok c (descriptorsOf c) xs d [] (sound-is c area ok) split t same-long kept old tail old-block old-fits tail-whole refl refl refl called
-        (link-reserved c area ok xs d [] split) (link-phi c area ok xs d [] split) (link-long c area ok xs d [] split) (omega (arith, room, same-count)) (inr (refl, omega (arith, room, same-count, d-least))) name-new
-
-    first-is : (old .layout ≡ descriptorAt t 0 .layout) × (old .volume ≡ descriptorAt t 0 .volume)
-    first-is =
-        changed-first c (descriptorsOf c) xs d [] (sound-is c area ok) split t same-long kept old tail old-block old-fits tail-whole refl refl refl called
-        (link-reserved c area ok xs d [] split) (link-phi c area ok xs d [] split) (link-long c area ok xs d [] split) (omega (arith, room, same-count)) (inr (refl, omega (arith, room, same-count, d-least))) name-new
-
-    -- and the region after it
-    in-t : 512 * d .beta .0 + 512 ≤ length t
-    in-t = omega (arith, same-long, new-inside)
-
-    new-is : descriptorAt t (d .beta .0) ≡ new
-    new-is = stored-descriptor t (d .beta .0) in-t new tail new-block new-fits tail-whole
-
-    new-ok : sound t (xs ++ (old ∷ [])) (d .beta .0) ≡ true
-    unfolding sound
-    new-ok =
-        rw (
-          new-is,
-          stored-form t (d .beta .0) in-t new tail new-block new-fits tail-whole d refl refl (active-name c area ok) c (d .alpha .0) (link-form c area ok xs d [] split) (link-reserved c area ok xs d [] split) (link-phi c area ok xs d [] split),
-          region-ok (descriptorAt t 0) (blockCount t) (d .beta .0) new (first-is .0) (first-is .1) refl (omega arith) (omega (arith, room, same-count)) (inl next-nil),
-          new-fresh,
-        )
-
-    snapped-by : length xs < 255 → chain t ≡ Sound (xs ++ (old ∷ new ∷ []))
-    snapped-by few =
-        linked-chain t (xs ++ (old ∷ new ∷ []))
-        (relinked c t same-long d [] (old ∷ new ∷ []) (omega (arith, d-inside)) kept (chain-linked c (descriptorsOf c) (sound-is c area ok)) xs split
-        (more (sym old-is) old-ok (λ z. omega (arith, d-low)) (last (sym new-is) new-ok next-nil)))
-        (omega (arith, length-append xs (old ∷ new ∷ [])))
+  snapped-by : length xs < 255 → chain t ≡ Sound (xs ++ (old ∷ new ∷ []))
+  snapped-by few =
+      linked-chain t (xs ++ (old ∷ new ∷ []))
+      (relinked c t same-long d [] (old ∷ new ∷ []) (omega (arith, d-inside)) kept (chain-linked c (descriptorsOf c) (sound-is c area ok)) xs split
+      (more (sym old-is) old-ok (λ z. omega (arith, d-low)) (last (sym new-is) new-ok next-nil)))
+      (omega (arith, length-append xs (old ∷ new ∷ [])))
 
   pub snapped-chain : let d = activeOf (descriptorsOf c) in
-      chain (storeAll c (storesOf (Snap name) c)) ≡ Sound (snapshotsOf (descriptorsOf c) ++ (linkedOf (renamedOf d name) (d .beta) ∷ reopenedOf d ∷ []))
-  snapped-chain = let r = snap-rows in snapped-by (r .0) (r .1) (r .2) (r .3) (r .5) (r .4)
+      chain (storeAll c (snapStores c name)) ≡ Sound (snapshotsOf (descriptorsOf c) ++ (linkedOf (renamedOf d name) (d .beta) ∷ reopenedOf d ∷ []))
+  snapped-chain = snapped-by (e .few)

@@ -21,17 +21,15 @@ use Rattle.blocks.specs.Name.{isName}
 use Rattle.blocks.proofs.NamedLaws.{named-one, index-at}
 use Rattle.blocks.proofs.ChainLaws.{active-snoc, is-sound, descriptors-are}
 use Rattle.blocks.proofs.SoundLaws.{form-mark}
-use Rattle.calls.specs.Call.{Snap, Revert}
 use Rattle.calls.specs.Parts.{areaBad, descriptorsOf, snapshotsOf, withName}
-use Rattle.calls.specs.Ladder.{firstRow, rowsOf, revertRows, answerOf}
-use Rattle.calls.specs.Effect.{storesOf, reverting, snapping}
-use Rattle.calls.specs.Step.{isAccepted}
+use Rattle.calls.specs.Effect.{reverting, snapping, snapStores, revertStores}
 use Rattle.claims.specs.History.{betaOf, Agree, AreBytes}
 use Rattle.claims.proofs.Changed.{named-append, named-left, member-is}
 use Rattle.claims.proofs.StoreLists.{Whole, none, isStored, stored-join, stored-length, stored-other, stored-last, blocks-taken}
-use Rattle.claims.proofs.Frame.{stores-inside}
+use Rattle.claims.proofs.Inside.{snap-whole, revert-whole}
 use Rattle.claims.proofs.ChainAfter.{before, snapshots-snoc, sound-is, active-last, link-form, link-inside, none-stored, one-stored, copies-stored, reverted-chain}
-use Rattle.claims.proofs.SnappedChain.{snap-rows, snapped-chain, next-nil, old-fits, tail-whole, old-block}
+use Rattle.claims.proofs.SnappedChain.{snapped-chain, next-nil, old-fits, tail-whole, old-block}
+use Rattle.calls.proofs.Passed.{SnapPassed, RevertPassed}
 
 -- the last of a list under a name that the others do not have
 module _ (o : Descriptor) (n : List ℕ) (here : same (o .name) n ≡ true) where
@@ -48,15 +46,11 @@ pub area-kept : (s t : List ℕ) → length s ≡ length t → areaBad s ≡ are
 unfolding areaBad blockCount
 area-kept s t e = rw e
 
-pub revert-passes : (c name : List ℕ) → areaBad c ≡ false → isName name ≡ true → chainSound (chain c) ≡ true → named (snapshotsOf (descriptorsOf c)) name ≡ true → isAccepted (answerOf (Revert name) c) ≡ true
-unfolding answerOf rowsOf revertRows firstRow
-revert-passes c name area called ok is = rw (area, called, ok, is)
-
 beta-by : (c : List ℕ) (ds : List Descriptor) → descriptorsOf c ≡ ds → betaOf c ≡ activeOf ds .beta .0
 unfolding betaOf
 beta-by c ds e = ap (λ (xs : List Descriptor). activeOf xs .beta .0) e
 
-module _ (c name : List ℕ) (e : isAccepted (answerOf (Snap name) c) ≡ true) where
+module _ (c name : List ℕ) (e : SnapPassed c name) where
   abbrev xs : List Descriptor
   xs = snapshotsOf (descriptorsOf c)
 
@@ -73,22 +67,22 @@ module _ (c name : List ℕ) (e : isAccepted (answerOf (Snap name) c) ≡ true) 
   tail = tailAt c (d .alpha .0)
 
   abbrev t : List ℕ
-  t = storeAll c (storesOf (Snap name) c)
+  t = storeAll c (snapStores c name)
 
   area : areaBad c ≡ false
-  area = snap-rows c name e .0
+  area = e .area
 
   called : isName name ≡ true
-  called = snap-rows c name e .1
+  called = e .called
 
   ok : chainSound (chain c) ≡ true
-  ok = snap-rows c name e .2
+  ok = e .sound
 
   unused : named (descriptorsOf c) name ≡ false
-  unused = snap-rows c name e .3
+  unused = e .unused
 
   room : d .beta .0 + costOf d ≤ blockCount c
-  room = snap-rows c name e .5
+  room = e .room
 
   split : descriptorsOf c ≡ xs ++ (d ∷ [])
   split = active-last c area ok
@@ -96,8 +90,8 @@ module _ (c name : List ℕ) (e : isAccepted (answerOf (Snap name) c) ≡ true) 
   name-new : named xs name ≡ false
   name-new = named-left xs (d ∷ []) name (rw split at unused)
 
-  whole : Whole (length c) (storesOf (Snap name) c)
-  whole = stores-inside (Snap name) c e
+  whole : Whole (length c) (snapStores c name)
+  whole = snap-whole c name e
 
   t-long : length t ≡ length c
   t-long = stored-length (length c) c refl whole
@@ -114,41 +108,41 @@ module _ (c name : List ℕ) (e : isAccepted (answerOf (Snap name) c) ≡ true) 
   t-named : named (snapshotsOf (descriptorsOf t)) name ≡ true
   t-named = ap (λ (l : List Descriptor). named l name) t-snapshots ∙ named-snoc old name (same-self name) xs
 
-  accepted-then : isAccepted (answerOf (Revert name) t) ≡ true
-  accepted-then = revert-passes t name (area-kept t c t-long ∙ area) called (is-sound t (xs ++ (old ∷ new ∷ [])) (snapped-chain c name e)) t-named
+  there-then : RevertPassed t name
+  there-then = record { area = area-kept t c t-long ∙ area; sound = is-sound t (xs ++ (old ∷ new ∷ [])) (snapped-chain c name e); called = called; there = t-named }
 
   abbrev u : List ℕ
-  u = storeAll t (storesOf (Revert name) t)
+  u = storeAll t (revertStores t name)
 
   -- the revert makes the active descriptor again
   abbrev made : List Descriptor → Descriptor → Descriptor
   made ss a = linkedOf (renamedOf (withName ss name) (a .name)) (physical 0)
 
   d-again : linkedOf (renamedOf old (new .name)) (physical 0) ≡ d
-  d-again = ap (λ (n : ℕ). linkedOf d (physical n)) (sym (next-nil c name e area called ok unused room))
+  d-again = ap (λ (n : ℕ). linkedOf d (physical n)) (sym (next-nil c name e))
 
   v-is : withName (xs ++ (old ∷ [])) name ≡ old
   v-is = with-snoc old name (same-self name) xs name-new
 
   u-chain : chain u ≡ Sound (xs ++ (d ∷ []))
   u-chain =
-      reverted-chain t name accepted-then
+      reverted-chain t name there-then
       ∙ ap (λ (ss : List Descriptor). Sound (before ss name ++ (made ss (activeOf (descriptorsOf t)) ∷ []))) t-snapshots
       ∙ ap (λ (a : Descriptor). Sound (before (xs ++ (old ∷ [])) name ++ (made (xs ++ (old ∷ [])) a ∷ []))) t-active
       ∙ ap (λ (zs : List Descriptor). Sound (zs ++ (made (xs ++ (old ∷ [])) new ∷ []))) (before-snoc old name (same-self name) xs name-new)
       ∙ ap (λ (v : Descriptor). Sound (xs ++ (linkedOf (renamedOf v (new .name)) (physical 0) ∷ []))) v-is
       ∙ ap (λ (w : Descriptor). Sound (xs ++ (w ∷ []))) d-again
 
-  u-stores : storesOf (Revert name) t ≡ store (d .alpha .0) (descriptorBlock d (tailAt t (d .alpha .0))) ∷ []
-  unfolding storesOf reverting
+  u-stores : revertStores t name ≡ store (d .alpha .0) (descriptorBlock d (tailAt t (d .alpha .0))) ∷ []
+  unfolding revertStores reverting
   u-stores =
       ap (λ (ss : List Descriptor). reverting t (withName ss name) (activeOf (descriptorsOf t) .name)) t-snapshots
       ∙ ap (λ (a : Descriptor). reverting t (withName (xs ++ (old ∷ [])) name) (a .name)) t-active
       ∙ ap (λ (v : Descriptor). reverting t v (new .name)) v-is
       ∙ ap (λ (w : Descriptor). store (d .alpha .0) (descriptorBlock w (tailAt t (d .alpha .0))) ∷ []) d-again
 
-  u-whole : Whole (length t) (storesOf (Revert name) t)
-  u-whole = stores-inside (Revert name) t accepted-then
+  u-whole : Whole (length t) (revertStores t name)
+  u-whole = revert-whole t name there-then
 
   u-long : length u ≡ length c
   u-long = stored-length (length t) t refl u-whole ∙ t-long
@@ -160,10 +154,10 @@ module _ (c name : List ℕ) (e : isAccepted (answerOf (Snap name) c) ≡ true) 
   t-tail : tailAt t (d .alpha .0) ≡ tail
   unfolding blockAt descriptorBlock
   t-tail =
-      let f = old-fits c name e area called ok unused room in
-      let w = tail-whole c name e area called ok unused room in
+      let f = old-fits c name e in
+      let w = tail-whole c name e in
       sym (part-part t (512 * d .alpha .0) 512 40 472 (omega arith) (omega (arith, t-long, inside)))
-      ∙ ap (λ (b : List ℕ). part b 40 472) (old-block c name e area called ok unused room)
+      ∙ ap (λ (b : List ℕ). part b 40 472) (old-block c name e)
       ∙ ap (λ (l : List ℕ). take 472 l) (drop-at (headBytes old) tail 40 (head-length old (f .name)))
       ∙ take-all 472 tail (omega (arith, w))
 
@@ -188,8 +182,8 @@ module _ (c name : List ℕ) (e : isAccepted (answerOf (Snap name) c) ≡ true) 
   unfolding isStored
   pair-kept q n h = rw (ne-eqb (d .beta .0) q (omega arith), ne-eqb (d .alpha .0) q n)
 
-  snap-kept : (q : ℕ) → (d .alpha .0 ≡ q → ⊥) → q < d .beta .0 → isStored (storesOf (Snap name) c) q ≡ false
-  unfolding storesOf snapping
+  snap-kept : (q : ℕ) → (d .alpha .0 ≡ q → ⊥) → q < d .beta .0 → isStored (snapStores c name) q ≡ false
+  unfolding snapStores snapping
   snap-kept q n h =
       rw (stored-join (copying c (d .alpha .0 + 1) (d .beta .0 + 1) (costOf d - 1)) (store (d .beta .0) (descriptorBlock new tail) ∷ store (d .alpha .0) (descriptorBlock old tail) ∷ []) q, copies-stored c (d .alpha .0 + 1) (d .beta .0 + 1) (costOf d - 1) q (omega arith))
       (pair-kept q n h)
@@ -216,8 +210,8 @@ module _ (c name : List ℕ) (e : isAccepted (answerOf (Snap name) c) ≡ true) 
         below = subst (λ (n : ℕ). take (512 * n) u ≡ take (512 * n) c) (sym u-beta) (blocks-taken u c (d .beta .0) (λ q h. block-by bytes q h (eqb (d .alpha .0) q) refl));
       }
 
-pub undone-accepted : (c name : List ℕ) → isAccepted (answerOf (Snap name) c) ≡ true → isAccepted (answerOf (Revert name) (storeAll c (storesOf (Snap name) c))) ≡ true
-undone-accepted c name e = accepted-then c name e
+pub undone-passed : (c name : List ℕ) → SnapPassed c name → RevertPassed (storeAll c (snapStores c name)) name
+undone-passed c name e = there-then c name e
 
-pub undone : (c name : List ℕ) → AreBytes c → isAccepted (answerOf (Snap name) c) ≡ true → let t = storeAll c (storesOf (Snap name) c) in Agree (storeAll t (storesOf (Revert name) t)) c
+pub undone : (c name : List ℕ) → AreBytes c → SnapPassed c name → let t = storeAll c (snapStores c name) in Agree (storeAll t (revertStores t name)) c
 undone c name bytes e = agree-then c name e bytes

@@ -7,7 +7,7 @@ use Prim.Native.Nat.{ℕ, _+_, _-_, _*_, _/_, _%_, _^_, _≤_, _<_}
 use native.Mathlib.Omega.{arith}
 use lib.ListN.{length, getD, length-replicate}
 use lib.Dec.{eqb, ltb}
-use borrow.Author.Tests.{ne-eqb, eqb-true, eqb-false, ltb-true, ltb-false, leb-false}
+use borrow.Author.Tests.{ne-eqb, eqb-true, eqb-false, ltb-true, ltb-false}
 use Rattle.blocks.specs.Pick.{pick}
 use Rattle.blocks.specs.Bytes.{u32At, le32, splice, blockCount, blockAt, zeroBlock, Store, store, storeAll}
 use Rattle.blocks.specs.Descriptor.{extendedOf, tableCount, noDescriptor, tailAt, descriptorBlock}
@@ -27,17 +27,13 @@ use Rattle.entries.specs.declared.find.Found.{Found}
 use Rattle.entries.specs.declared.find.Found.the-variants.{Entry}
 use Rattle.entries.proofs.EntryLaws.{placed-below, need-more}
 use Rattle.entries.proofs.SetLaws.{tail-with-length}
-use Rattle.calls.specs.Call.{Write}
 use Rattle.calls.specs.Parts.{descriptorsOf, snapshotsOf, foundThrough}
 use Rattle.calls.specs.Check.{Passes}
-use Rattle.calls.specs.Ladder.{writeRows, rowsOf, answerOf}
-use Rattle.calls.specs.Effect.{storesOf}
-use Rattle.calls.specs.Step.{isAccepted}
+use Rattle.calls.specs.Effect.{writeStores}
 use Rattle.calls.proofs.CardLaws.{card-most, chain-is}
-use Rattle.calls.proofs.RowLaws.{rows-passed}
 use Rattle.claims.proofs.Stored.{stored-bytes, block-tail}
 use Rattle.claims.proofs.StoreLists.{Whole, isStored, stored-length, stored-other}
-use Rattle.claims.proofs.Frame.{stores-inside}
+use Rattle.claims.proofs.Inside.{write-whole}
 use Rattle.claims.proofs.ChainAfter.{active-split, none-stored}
 use Rattle.claims.proofs.WrittenChain.{stored-last, not-stored, ds-some, active-next, active-form, active-rise, active-volume, active-name, placed-not-active, table-own, new-table}
 use Rattle.claims.proofs.Format.{zero-number}
@@ -50,6 +46,7 @@ use Rattle.claims.proofs.PassesSnapped.{block-entry}
 use Rattle.claims.proofs.PassesWrite.{extended-stays, extended-new, write-region, set-table-rules, set-phi-rules}
 use Rattle.claims.proofs.WriteFacts.{WriteFacts}
 use Rattle.claims.proofs.ChainBlocks.{table-phi, few-tables, under, layout-two}
+use Rattle.calls.proofs.Passed.{WritePassed}
 
 -- numbers of four bytes each, after n bytes of a list: one that is put, and the others
 module _ (b : List ℕ) (n i v : ℕ) (inside : n + 4 * i + 4 ≤ length b) where
@@ -294,7 +291,7 @@ unfolding writing setInNewTable
 new-stores c d l block m p e = rw (e, need-new (d .alpha .0) m p e)
 
 -- an accepted write of two blocks on a card that passes
-module _ (c : List ℕ) (passes : Passes c) (l : ℕ) (block : List ℕ) (ok : isAccepted (answerOf (Write l block) c) ≡ true) where
+module _ (c : List ℕ) (passes : Passes c) (l : ℕ) (block : List ℕ) (ok : WritePassed c l block) where
   abbrev chn : List Descriptor
   chn = descriptorsOf c
 
@@ -328,12 +325,10 @@ module _ (c : List ℕ) (passes : Passes c) (l : ℕ) (block : List ℕ) (ok : i
       subst (λ (n : ℕ). inPlace (snaps ++ (extendedOf act 2 ∷ [])) (extendedOf act 2) n ≡ true) e (extended-new snaps act 2 0 (omega arith) regions)
 
   write-inside : l < act .volume
-  unfolding rowsOf writeRows
-  write-inside = leb-false _ _ (rows-passed (Write l block) c ok 3 (omega arith))
+  write-inside = ok .below
 
   write-room : act .beta .0 + need (act .alpha .0) (foundThrough c act l) ≤ blockCount c
-  unfolding rowsOf writeRows
-  write-room = ltb-false _ _ (rows-passed (Write l block) c ok 5 (omega arith))
+  write-room = ok .room
 
   blocks-long : (n : ℕ) → n ≤ blockCount c → 512 * n ≤ length c
   unfolding blockCount
@@ -349,12 +344,12 @@ module _ (c : List ℕ) (passes : Passes c) (l : ℕ) (block : List ℕ) (ok : i
     abbrev ss : List Store
     ss = store (act .beta .0 + 1) block ∷ store (act .beta .0) new-bytes ∷ store (act .alpha .0) head-bytes ∷ []
 
-    stores-are : storesOf (Write l block) c ≡ ss
-    unfolding storesOf
+    stores-are : writeStores c l block ≡ ss
+    unfolding writeStores
     stores-are = ap (λ (f : Found). writing c act f l block) is ∙ new-stores c act l block m p takes
 
     whole : Whole (length c) ss
-    whole = subst (λ (ys : List Store). Whole (length c) ys) stores-are (stores-inside (Write l block) c ok)
+    whole = subst (λ (ys : List Store). Whole (length c) ys) stores-are (write-whole c l block ok)
 
     room-two : act .beta .0 + 2 ≤ blockCount c
     room-two = subst (λ (n : ℕ). act .beta .0 + n ≤ blockCount c) (ap (λ (f : Found). need (act .alpha .0) f) is ∙ takes) write-room
@@ -401,5 +396,5 @@ module _ (c : List ℕ) (passes : Passes c) (l : ℕ) (block : List ℕ) (ok : i
         (λ q h n. stored-other (length c) c refl whole q (not-in q h n)) (found-table c chn act l m p is)
         act-wider act-new (extended-new snaps act 2 1 (omega arith) regions) (placed-not-active chn chn-some) act-rules
 
-    pub new-two : WriteFacts c (storeAll c (storesOf (Write l block) c)) (snaps ++ (extendedOf act 2 ∷ [])) act (extendedOf act 2) l block
+    pub new-two : WriteFacts c (storeAll c (writeStores c l block)) (snaps ++ (extendedOf act 2 ∷ [])) act (extendedOf act 2) l block
     new-two = subst (λ (ys : List Store). WriteFacts c (storeAll c ys) (snaps ++ (extendedOf act 2 ∷ [])) act (extendedOf act 2) l block) (sym stores-are) facts

@@ -8,7 +8,7 @@ use Prim.Native.Nat.{ℕ, _+_, _*_, _-_, _/_, _%_, _≤_, _<_}
 use native.Mathlib.Omega.{arith}
 use lib.ListN.{length, getD}
 use lib.Dec.{eqb, ltb, leb}
-use borrow.Author.Tests.{eq-eqb, ne-eqb, lt-ltb, le-leb, eqb-true, eqb-false, ltb-true, ltb-false, leb-false, not-true}
+use borrow.Author.Tests.{eq-eqb, ne-eqb, lt-ltb, le-leb, eqb-true, eqb-false, ltb-true, ltb-false, not-true}
 use Rattle.blocks.specs.Pick.{pick}
 use Rattle.blocks.specs.Bytes.{u32At, le32, blockCount, blockAt, Store, store, storeAll}
 use Rattle.blocks.specs.Descriptor.{tableCount, noDescriptor, tailAt, descriptorBlock, extendedOf}
@@ -27,17 +27,13 @@ use Rattle.entries.specs.Rules.{entryOf, Rules}
 use Rattle.entries.specs.declared.find.Found.{Found}
 use Rattle.entries.specs.declared.find.Found.the-variants.{Entry}
 use Rattle.entries.proofs.EntryLaws.{placed-below}
-use Rattle.calls.specs.Call.{Write}
 use Rattle.calls.specs.Parts.{descriptorsOf, snapshotsOf, foundThrough}
 use Rattle.calls.specs.Check.{Passes}
-use Rattle.calls.specs.Ladder.{writeRows, rowsOf, answerOf}
-use Rattle.calls.specs.Effect.{storesOf}
-use Rattle.calls.specs.Step.{isAccepted}
+use Rattle.calls.specs.Effect.{writeStores}
 use Rattle.calls.proofs.CardLaws.{card-most, chain-is}
-use Rattle.calls.proofs.RowLaws.{rows-passed}
 use Rattle.claims.proofs.Changed.{layout-small, member-form}
 use Rattle.claims.proofs.StoreLists.{Whole, stored-length, stored-other}
-use Rattle.claims.proofs.Frame.{stores-inside}
+use Rattle.claims.proofs.Inside.{write-whole}
 use Rattle.claims.proofs.ChainAfter.{active-split, fits-of, none-stored, one-stored}
 use Rattle.claims.proofs.LocalEntries.{Region}
 use Rattle.claims.proofs.WrittenChain.{stored-last, not-stored, extended-none, placed-not-active, old-table, need-nothing}
@@ -50,6 +46,7 @@ use Rattle.claims.proofs.PassesWrite.{extended-stays, extended-new, wri
 use Rattle.claims.proofs.LedgerNext.{phi-stored}
 use Rattle.claims.proofs.WriteFacts.{WriteFacts}
 use Rattle.claims.proofs.ChainBlocks.{table-own, table-phi, own-inside, few-tables, under, layout-two}
+use Rattle.calls.proofs.Passed.{WritePassed}
 
 -- the stores of a write that takes no block, and of one that takes one
 writing-none : (c : List ℕ) (d : Descriptor) (m p : Physical) (l : ℕ) (block : List ℕ) → need (d .alpha .0) (Entry m p) ≡ 0 → writing c d (Entry m p) l block ≡ store (p .0) block ∷ []
@@ -376,7 +373,7 @@ module _ (c : List ℕ) (ds : List Descriptor) (chained : chain c ≡ Sound ds) 
             }
 
 -- an accepted write on a card that passes
-module _ (c : List ℕ) (passes : Passes c) (l : ℕ) (block : List ℕ) (ok : isAccepted (answerOf (Write l block) c) ≡ true) where
+module _ (c : List ℕ) (passes : Passes c) (l : ℕ) (block : List ℕ) (ok : WritePassed c l block) where
   abbrev all : List Descriptor
   all = descriptorsOf c
 
@@ -387,7 +384,7 @@ module _ (c : List ℕ) (passes : Passes c) (l : ℕ) (block : List ℕ) (ok : i
   snapshots = snapshotsOf all
 
   abbrev t : List ℕ
-  t = storeAll c (storesOf (Write l block) c)
+  t = storeAll c (writeStores c l block)
 
   sound-c : chain c ≡ Sound all
   sound-c = chain-is (chain c) (passes .sound)
@@ -399,23 +396,21 @@ module _ (c : List ℕ) (passes : Passes c) (l : ℕ) (block : List ℕ) (ok : i
   active-rules = subst (λ (y : Descriptor). Rules c all y) (sym (active-at all some-c)) (passes .rules (length all - 1) (omega (arith, some-c)))
 
   inside : l < active .volume
-  unfolding rowsOf writeRows
-  inside = leb-false (active .volume) l (rows-passed (Write l block) c ok 3 (omega arith))
+  inside = ok .below
 
   enough : active .beta .0 + need (active .alpha .0) (foundThrough c active l) ≤ blockCount c
-  unfolding rowsOf writeRows
-  enough = ltb-false (blockCount c) (active .beta .0 + need (active .alpha .0) (foundThrough c active l)) (rows-passed (Write l block) c ok 5 (omega arith))
+  enough = ok .room
 
-  stores-through : (m p : Physical) → foundThrough c active l ≡ Entry m p → storesOf (Write l block) c ≡ writing c active (Entry m p) l block
-  unfolding storesOf
+  stores-through : (m p : Physical) → foundThrough c active l ≡ Entry m p → writeStores c l block ≡ writing c active (Entry m p) l block
+  unfolding writeStores
   stores-through m p is = ap (λ (f : Found). writing c active f l block) is
 
   -- where it takes no block
   pub own-none : (m p : Physical) → foundThrough c active l ≡ Entry m p → need (active .alpha .0) (Entry m p) ≡ 0
       → WriteFacts c t (snapshots ++ (extendedOf active 0 ∷ [])) active (extendedOf active 0) l block
   own-none m p is e =
-      let are : storesOf (Write l block) c ≡ store (p .0) block ∷ [] = stores-through m p is ∙ writing-none c active m p l block e in
-      let w : Whole (length c) (store (p .0) block ∷ []) = subst (λ (ss : List Store). Whole (length c) ss) are (stores-inside (Write l block) c ok) in
+      let are : writeStores c l block ≡ store (p .0) block ∷ [] = stores-through m p is ∙ writing-none c active m p l block e in
+      let w : Whole (length c) (store (p .0) block ∷ []) = subst (λ (ss : List Store). Whole (length c) ss) are (write-whole c l block ok) in
       let f : WriteFacts c (storeAll c (store (p .0) block ∷ [])) all active active l block = facts-none c all sound-c active-rules l block inside m p is e w in
       let g : WriteFacts c t all active active l block = subst (λ (ss : List Store). WriteFacts c (storeAll c ss) all active active l block) (sym are) f in
       let h : WriteFacts c t (snapshots ++ (active ∷ [])) active active l block = subst (λ (ys : List Descriptor). WriteFacts c t ys active active l block) (active-split all some-c) g in
@@ -423,7 +418,7 @@ module _ (c : List ℕ) (passes : Passes c) (l : ℕ) (block : List ℕ) (ok : i
 
   -- where it takes one
   stores-one : (m p : Physical) → foundThrough c active l ≡ Entry m p → need (active .alpha .0) (Entry m p) ≡ 1
-      → storesOf (Write l block) c
+      → writeStores c l block
       ≡ store (active .beta .0) block
       ∷ store (active .alpha .0) (descriptorBlock (extendedOf active 1) (tailAt c (active .alpha .0)))
       ∷ store (m .0) (tableWith (blockAt c (m .0)) (l % 128) (active .beta .0))
@@ -438,4 +433,4 @@ module _ (c : List ℕ) (passes : Passes c) (l : ℕ) (block : List ℕ) (ok : i
       let room : active .beta .0 + 1 ≤ blockCount c = omega (arith, enough, ap (λ (f : Found). need (active .alpha .0) f) is, e) in
       subst (λ (ss : List Store). WriteFacts c (storeAll c ss) (snapshots ++ (extendedOf active 1 ∷ [])) active (extendedOf active 1) l block) (sym are)
       (facts-one c all sound-c active-rules l block inside m p is (need-one (active .alpha .0) m p e) (card-most c (passes .area)) room (write-region c passes l block ok)
-      (subst (λ (ss : List Store). Whole (length c) ss) are (stores-inside (Write l block) c ok)))
+      (subst (λ (ss : List Store). Whole (length c) ss) are (write-whole c l block ok)))

@@ -7,7 +7,7 @@ use Prim.Native.Nat.{ℕ, _+_, _*_, _/_, _%_, _≤_, _<_}
 use native.Mathlib.Omega.{arith}
 use lib.ListN.{length, length-append}
 use lib.Dec.{eqb, ltb, leb}
-use borrow.Author.Tests.{eq-eqb, ne-eqb, le-ltb, eqb-true, eqb-false, ltb-false, leb-true, leb-false, not-true, not-false}
+use borrow.Author.Tests.{eq-eqb, ne-eqb, le-ltb, eqb-true, eqb-false, ltb-false, leb-true, not-true}
 use Rattle.blocks.specs.Pick.{pick}
 use Rattle.blocks.specs.Bytes.{le32, part, blockCount, blockAt, zeroBlock, Store, store, storeBlock, storeAll}
 use Rattle.blocks.specs.Name.{isName}
@@ -29,21 +29,18 @@ use Rattle.entries.specs.declared.find.Found.{Found}
 use Rattle.entries.specs.declared.find.Found.the-variants.{Misplaced, Entry}
 use Rattle.entries.proofs.EntryLaws.{find-placed, placed-other, entry-table, need-more}
 use Rattle.entries.proofs.SetLaws.{tail-with-length}
-use Rattle.calls.specs.Call.{Write}
 use Rattle.calls.specs.Parts.{descriptorsOf, snapshotsOf, foundThrough, isMisplaced}
-use Rattle.calls.specs.Ladder.{writeRows, rowsOf, answerOf}
-use Rattle.calls.specs.Effect.{storesOf}
-use Rattle.calls.specs.Step.{isAccepted}
+use Rattle.calls.specs.Effect.{writeStores}
 use Rattle.calls.proofs.CardLaws.{card-most, chain-is}
-use Rattle.calls.proofs.RowLaws.{rows-passed}
 use Rattle.claims.proofs.Local.{linked-chain, shared-descriptor, shared-sound}
 use Rattle.claims.proofs.Relinked.{linked-from, linked-head, relinked, linked-next}
 use Rattle.claims.proofs.Stored.{tail-part, form-kept, form-phi, form-name}
 use Rattle.claims.proofs.Changed.{layout-small, member-form, member-region, member-fresh, member-inside, changed-last}
 use Rattle.claims.proofs.StoreLists.{Whole, also, isStored, stored-length, stored-other}
-use Rattle.claims.proofs.Frame.{stores-inside}
+use Rattle.claims.proofs.Inside.{write-whole}
 use Rattle.claims.proofs.ChainAfter.{active-split, none-stored}
 use Rattle.claims.proofs.ChainBlocks.{table-own as own-table}
+use Rattle.calls.proofs.Passed.{WritePassed}
 
 -- the first of a list of whole-block stores, and the others
 whole-parts : {n : ℕ} {s : Store} {ss : List Store} → Whole n (s ∷ ss) → (length (s .bytes) ≡ 512) × (512 * s .at + 512 ≤ n) × Whole n ss
@@ -374,12 +371,11 @@ found-chain c ds sound-c small l block (Misplaced h) is g below room w = no (sym
 found-chain c ds sound-c small l block (Entry m p) is g below room w = entry-chain c ds sound-c small l block m p is below room w
 
 -- the chain after an accepted write
-pub written-chain : (c : List ℕ) (l : ℕ) (block : List ℕ) → isAccepted (answerOf (Write l block) c) ≡ true
+pub written-chain : (c : List ℕ) (l : ℕ) (block : List ℕ) → WritePassed c l block
     → let d = activeOf (descriptorsOf c) in
-    chain (storeAll c (storesOf (Write l block) c)) ≡ Sound (snapshotsOf (descriptorsOf c) ++ (extendedOf d (need (d .alpha .0) (foundThrough c d l)) ∷ []))
-unfolding storesOf rowsOf writeRows
+    chain (storeAll c (writeStores c l block)) ≡ Sound (snapshotsOf (descriptorsOf c) ++ (extendedOf d (need (d .alpha .0) (foundThrough c d l)) ∷ []))
+unfolding writeStores
 written-chain c l block e =
-    let rows = rows-passed (Write l block) c e in
     let ds : List Descriptor = descriptorsOf c in
-    found-chain c ds (chain-is (chain c) (not-false _ (rows 2 (omega arith)))) (card-most c (rows 0 (omega arith))) l block (foundThrough c (activeOf ds) l) refl
-    (rows 4 (omega arith)) (leb-false _ _ (rows 3 (omega arith))) (ltb-false _ _ (rows 5 (omega arith))) (stores-inside (Write l block) c e)
+    found-chain c ds (chain-is (chain c) (e .sound)) (card-most c (e .area)) l block (foundThrough c (activeOf ds) l) refl
+    (e .in-place) (e .below) (e .room) (write-whole c l block e)

@@ -26,6 +26,7 @@ use Rattle.calls.specs.Check.{Passes}
 use Rattle.calls.specs.Ladder.{row, rowsOf, answerOf}
 use Rattle.claims.specs.Algorithms.{closeRegion, algorithm1, algorithm2, algorithm3, algorithm4, algorithm5, algorithm6}
 use Rattle.calls.specs.Step.{step, after, outcomes, isAccepted}
+use Rattle.claims.specs.Kinds.{Kind, Formats, Leaves, Writes, Snaps, Reverts, kindOf}
 use Rattle.claims.specs.History.{betaOf, Agree, isReam, isFormat, AreBytes, Standing, isSnapOf, Position, Nowhere, At, latestSnap, without, formattable, formatted}
 use Rattle.claims.specs.Ledger.{Ledger, ledgerStep, ledgerNumber, cellRead, ledgerNames, ledgerOf}
 
@@ -42,14 +43,16 @@ NameClaim = (a b : List ℕ) → (same a b ≡ true) ↔ (a ≡ b)
 -- Refusals, formats and room.
 
 -- the blocks that a call takes on a card: a write's need, a snap's c
+unfoldable pub blocksTaken : Kind → List ℕ → ℕ
+blocksTaken (Formats layout volume name) c = 0
+blocksTaken Leaves c = 0
+blocksTaken (Writes l block) c = let d = activeOf (descriptorsOf c) in need (d .alpha .0) (foundThrough c d l)
+blocksTaken (Snaps name) c = costOf (activeOf (descriptorsOf c))
+blocksTaken (Reverts name) c = 0
+
 unfoldable pub blocksNeeded : Call → List ℕ → ℕ
-blocksNeeded (Ream layout volume name) c = 0
-blocksNeeded (Read target name l block) c = 0
-blocksNeeded (Write l block) c = let d = activeOf (descriptorsOf c) in need (d .alpha .0) (foundThrough c d l)
-blocksNeeded (Snap name) c = costOf (activeOf (descriptorsOf c))
-blocksNeeded (Revert name) c = 0
-blocksNeeded (Listing records) c = 0
-blocksNeeded Check c = 0
+unfolding kindOf blocksTaken
+blocksNeeded k c = blocksTaken (kindOf k) c
 
 -- what is lent to a call at its entry, besides the card: the block of a read or of a write, the records of a listing
 unfoldable pub lentAtEntry : Call → Lent
@@ -101,14 +104,16 @@ SoundClaim =
     (chainSound (chain (step k c .card)) ≡ true) × (e .layout ≡ d .layout) × (e .volume ≡ d .volume) × (e .name ≡ d .name)
 
 -- a call that stores nothing; a call that fills what is lent
+unfoldable pub leaves : Kind → Bool
+leaves (Formats layout volume name) = false
+leaves Leaves = true
+leaves (Writes l block) = false
+leaves (Snaps name) = false
+leaves (Reverts name) = false
+
 unfoldable pub storesNothing : Call → Bool
-storesNothing (Ream layout volume name) = false
-storesNothing (Read target name l block) = true
-storesNothing (Write l block) = false
-storesNothing (Snap name) = false
-storesNothing (Revert name) = false
-storesNothing (Listing records) = true
-storesNothing Check = true
+unfolding kindOf leaves
+storesNothing k = leaves (kindOf k)
 
 unfoldable pub fills : Call → Bool
 fills (Ream layout volume name) = false

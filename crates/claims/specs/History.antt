@@ -10,10 +10,11 @@ use Rattle.blocks.specs.Bytes.{blockSize, blockCount, storeAll}
 use Rattle.blocks.specs.Name.{isName}
 use Rattle.blocks.specs.Descriptor.{cost, mostVolume, opening}
 use Rattle.blocks.specs.Chain.{chain, chainSound, activeOf}
-use Rattle.calls.specs.Call.{Call, Ream, Read, Write, Snap, Revert, Listing, Check}
+use Rattle.calls.specs.Call.{Call}
 use Rattle.calls.specs.Parts.{areaBad, descriptorsOf}
 use Rattle.calls.specs.Ladder.{answerOf}
 use Rattle.calls.specs.Step.{step, isAccepted}
+use Rattle.claims.specs.Kinds.{Kind, Formats, Leaves, Writes, Snaps, Reverts, kindOf}
 
 -- beta, the active descriptor's
 unfoldable pub betaOf : List ℕ → ℕ
@@ -28,14 +29,16 @@ pub record Agree (s t : List ℕ) : Type 0 where
   pub below : take (blockSize * betaOf s) s ≡ take (blockSize * betaOf s) t
 
 -- whether a call is a ream
+unfoldable pub formats : Kind → Bool
+formats (Formats layout volume name) = true
+formats Leaves = false
+formats (Writes l block) = false
+formats (Snaps name) = false
+formats (Reverts name) = false
+
 unfoldable pub isReam : Call → Bool
-isReam (Ream layout volume name) = true
-isReam (Read target name l block) = false
-isReam (Write l block) = false
-isReam (Snap name) = false
-isReam (Revert name) = false
-isReam (Listing records) = false
-isReam Check = false
+unfolding kindOf formats
+isReam k = formats (kindOf k)
 
 -- whether it is an accepted format of the card; on cards of one length that depends on nothing else of the card
 unfoldable pub isFormat : Call → List ℕ → Bool
@@ -46,14 +49,16 @@ abbrev pub AreBytes : List ℕ → Type 0
 AreBytes bytes = (i : ℕ) → getD bytes i 0 < 256
 
 -- what a write puts on the card
+unfoldable pub bytesOf : Kind → List ℕ
+bytesOf (Formats layout volume name) = []
+bytesOf Leaves = []
+bytesOf (Writes l block) = block
+bytesOf (Snaps name) = []
+bytesOf (Reverts name) = []
+
 unfoldable pub writtenBy : Call → List ℕ
-writtenBy (Ream layout volume name) = []
-writtenBy (Read target name l block) = []
-writtenBy (Write l block) = block
-writtenBy (Snap name) = []
-writtenBy (Revert name) = []
-writtenBy (Listing records) = []
-writtenBy Check = []
+unfolding kindOf bytesOf
+writtenBy k = bytesOf (kindOf k)
 
 -- the lists of calls that the claims speak of: reads, writes of bytes, snaps, reverts, lists, checks and refused reams, in any order
 pub data Standing (c : List ℕ) : List Call → Type 0 where
@@ -61,14 +66,16 @@ pub data Standing (c : List ℕ) : List Call → Type 0 where
   more : {k : Call} {ks : List Call} → isFormat k c ≡ false → AreBytes (writtenBy k) → Standing c ks → Standing c (k ∷ ks)
 
 -- whether a call is a snap under the name
+unfoldable pub snapsAs : List ℕ → Kind → Bool
+snapsAs name (Formats layout volume n) = false
+snapsAs name Leaves = false
+snapsAs name (Writes l block) = false
+snapsAs name (Snaps n) = same n name
+snapsAs name (Reverts n) = false
+
 unfoldable pub isSnapOf : List ℕ → Call → Bool
-isSnapOf name (Ream layout volume n) = false
-isSnapOf name (Read target n l block) = false
-isSnapOf name (Write l block) = false
-isSnapOf name (Snap n) = same n name
-isSnapOf name (Revert n) = false
-isSnapOf name (Listing records) = false
-isSnapOf name Check = false
+unfolding kindOf snapsAs
+isSnapOf name k = snapsAs name (kindOf k)
 
 -- a position in a list, or none
 pub data Position : Type 0 where

@@ -13,6 +13,7 @@ use Rattle.calls.specs.declared.answer.Target.the-variants.{Active, Snapshot}
 use Rattle.calls.specs.Call.{Call, Ream, Read, Write, Snap, Revert, Listing, Check}
 use Rattle.calls.specs.Parts.{descriptorsOf, snapshotsOf, isSnapshot, foundThrough, blockFound}
 use Rattle.calls.specs.Ladder.{Row, row, firstRow, nameRow, blockRow}
+use Rattle.claims.specs.Kinds.{Kind, Formats, Leaves, Writes, Snaps, Reverts, kindOf}
 
 -- a named volume: the content of each of its logical blocks
 pub record Volume : Type 0 where
@@ -40,14 +41,16 @@ volumesBefore [] name = []
 volumesBefore (v ∷ vs) name = pick (same (v .name) name) [] (v ∷ volumesBefore vs name)
 
 -- what an accepted call makes of the ledger
+unfoldable pub ledgerChange : Kind → Ledger → Ledger
+ledgerChange (Formats layout volume name) g = g
+ledgerChange Leaves g = g
+ledgerChange (Writes l block) g = record { snapshots = g .snapshots; active = record { name = g .active .name; cells = set (g .active .cells) l block } }
+ledgerChange (Snaps name) g = record { snapshots = g .snapshots ++ (record { name = name; cells = g .active .cells } ∷ []); active = g .active }
+ledgerChange (Reverts name) g = record { snapshots = volumesBefore (g .snapshots) name; active = record { name = g .active .name; cells = volumeNamed (g .snapshots) name .cells } }
+
 unfoldable pub ledgerStep : Call → Ledger → Ledger
-ledgerStep (Ream layout volume name) g = g
-ledgerStep (Read target name l block) g = g
-ledgerStep (Write l block) g = record { snapshots = g .snapshots; active = record { name = g .active .name; cells = set (g .active .cells) l block } }
-ledgerStep (Snap name) g = record { snapshots = g .snapshots ++ (record { name = name; cells = g .active .cells } ∷ []); active = g .active }
-ledgerStep (Revert name) g = record { snapshots = volumesBefore (g .snapshots) name; active = record { name = g .active .name; cells = volumeNamed (g .snapshots) name .cells } }
-ledgerStep (Listing records) g = g
-ledgerStep Check g = g
+unfolding kindOf ledgerChange
+ledgerStep k g = ledgerChange (kindOf k) g
 
 -- the rows of 01's table that a ledger can judge: 4, 9, 7, 12, 13, 8, 14
 unfoldable pub ledgerRows : Call → Ledger → List Row

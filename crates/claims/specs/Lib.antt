@@ -1,5 +1,6 @@
 -- What is claimed of the calls, in reading order.
 pub mod Algorithms
+pub mod Kinds
 pub mod History
 pub mod Ledger
 pub mod Claims

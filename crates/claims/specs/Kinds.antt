@@ -1,0 +1,21 @@
+-- What each call is to the card, in document 01's words: the one list of cases over all calls that the claims about cards, lists of calls and the ledger go by.
+use mathlib.Core.List.{List}
+use Prim.Native.Nat.{ℕ}
+use Rattle.calls.specs.Call.{Call, Ream, Read, Write, Snap, Revert, Listing, Check}
+
+-- a call formats the card, leaves it as it is, writes a block, takes a snapshot or goes back to one
+pub data Kind : Type 0 where
+  Formats : (layout volume : ℕ) → (name : List ℕ) → Kind
+  Leaves : Kind
+  Writes : (l : ℕ) → (block : List ℕ) → Kind
+  Snaps : (name : List ℕ) → Kind
+  Reverts : (name : List ℕ) → Kind
+
+unfoldable pub kindOf : Call → Kind
+kindOf (Ream layout volume name) = Formats layout volume name
+kindOf (Read target name l block) = Leaves
+kindOf (Write l block) = Writes l block
+kindOf (Snap name) = Snaps name
+kindOf (Revert name) = Reverts name
+kindOf (Listing records) = Leaves
+kindOf Check = Leaves
