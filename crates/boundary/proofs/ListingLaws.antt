@@ -12,8 +12,9 @@ use Rattle.blocks.proofs.ByteLaws.{number-back}
 use Rattle.calls.specs.declared.answer.Record.{Record}
 use Rattle.calls.specs.Call.{Listing}
 use Rattle.calls.specs.Parts.{descriptorsOf}
-use Rattle.calls.specs.Ladder.{listRows, rowsOf, answerOf}
-use Rattle.calls.specs.Effect.{recordOf, listed, lentOf, filledOf}
+use Rattle.calls.specs.Ladder.{listRows}
+use Rattle.calls.specs.Effect.{recordOf, listed}
+use Rattle.calls.specs.Meaning.{rowsOf, answerOf, lentOf, filledOf}
 use Rattle.calls.specs.Step.{step, isAccepted}
 use Rattle.calls.proofs.StepLaws.{step-answer, step-lent}
 use Rattle.calls.proofs.ListLaws.{list-room}

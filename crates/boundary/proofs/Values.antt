@@ -1,14 +1,8 @@
 -- Values of the definitions of the exported functions: what they compute is what is said.
 use mathlib.Core.Path.{refl}
-use Rattle.blocks.specs.Pick.{same, allZero}
-use Rattle.blocks.specs.Bytes.{u32At, le32, blockCount}
-use Rattle.blocks.specs.Name.{nameByte, nameLength, isName, isText, padded}
-use Rattle.blocks.specs.Descriptor.{tableCount, cost, descriptorAt, headBytes, descriptorBlock, reservedOk, phiOk}
-use Rattle.blocks.specs.Chain.{formOk, regionOk, indexOf, named, sound, chainFrom, chain, chainSound, descriptors, chainPlace}
-use Rattle.calls.specs.Parts.{areaBad}
-use Rattle.calls.specs.Ladder.{firstRow, listRows, rowsOf, answerOf}
-use Rattle.calls.specs.Effect.{listed}
-use Rattle.calls.specs.Step.{step}
+use Rattle.blocks.specs.Bytes.{u32At, le32}
+use Rattle.blocks.specs.Name.{nameByte, nameLength, isText, padded}
+use Rattle.calls.proofs.Running.{stepping}
 use Rattle.boundary.specs.Exported.{nameIn, targetIn, paddingOf}
 use Rattle.boundary.specs.RecordBytes.{recordBytes, recordsBytes, recordIn, roomIn, listingOf}
 use Rattle.boundary.specs.Values.{NameValues, TargetValues, PaddedValues, PaddingValues, RecordValues, ListingValues}
@@ -35,7 +29,5 @@ record-values = (refl, refl)
 
 pub listing-values : ListingValues
 unfolding ListingValues listingOf roomIn recordsBytes recordBytes
-    step answerOf rowsOf firstRow listRows listed areaBad
-    formOk regionOk indexOf named sound chainFrom chain chainSound descriptors chainPlace tableCount cost descriptorAt headBytes descriptorBlock reservedOk phiOk
-    nameByte nameLength isName u32At le32 blockCount same allZero
+    stepping
 listing-values = (refl, refl, refl)

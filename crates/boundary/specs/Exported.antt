@@ -9,11 +9,11 @@ use Rattle.blocks.specs.Name.{nameSize, noName, isText, padded}
 use Rattle.calls.specs.declared.answer.Target.{Target}
 use Rattle.calls.specs.declared.answer.Target.the-variants.{Active, Snapshot}
 use Rattle.calls.specs.Call.{Lent, answer}
-use Rattle.calls.specs.Step.{Done}
+use Rattle.calls.specs.Step.{Done, done}
 
 -- what a call does, given the number that is returned, the place that is stored, and what is lent and the card at exit
-abbrev pub done : ℕ → ℕ → Lent → List ℕ → Done
-done number place lent card = record { outcome = record { answer = answer number place; lent = lent }; card = card }
+abbrev pub exported : ℕ → ℕ → Lent → List ℕ → Done
+exported number place lent card = done (answer number place) lent card
 
 -- the name in lent bytes: bytes that are not sixteen are no name
 unfoldable pub nameIn : List ℕ → List ℕ

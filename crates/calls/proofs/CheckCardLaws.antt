@@ -1,6 +1,6 @@
 -- Laws of the check of a card, as the code asks them.
 use mathlib.Core.Path.{_≡_, refl, sym, ap, _∙_}
-use mathlib.Core.Bool.{Bool, true, false, not}
+use mathlib.Core.Bool.{true, false, not}
 use mathlib.Core.List.{List, [], _∷_}
 use Prim.Native.Nat.{ℕ, zero, suc, _+_, _*_, _-_, _≤_, _<_}
 use native.Mathlib.Numerals.{add-one}
@@ -23,9 +23,11 @@ use Rattle.entries.proofs.OpeningLaws.{openings-length, turn-length, openings-a
 use Rattle.calls.specs.Call.{Check, answer, accepted}
 use Rattle.calls.specs.Parts.{areaBad}
 use Rattle.calls.specs.Check.{orElse, checkAll, checkCard, isFault, faultHolder, takingChain}
-use Rattle.calls.specs.Ladder.{firstRow, checkRows, rowsOf, answerOf}
+use Rattle.calls.specs.Ladder.{admission, firstRow, checkRows}
+use Rattle.calls.specs.Meaning.{rowsOf, answerOf}
 use Rattle.calls.proofs.CardLaws.{card-few, card-some, card-count, card-at, card-active, card-through}
-use Rattle.calls.proofs.RowLaws.{row-given, last-passed, area-passed, chain-given, chain-passed}
+use Rattle.calls.proofs.RowLaws.{admitted, row-given, last-passed, admitted, chain-given, chain-passed}
+use Rattle.calls.specs.declared.answer.Answer.{Answer}
 
 -- the walk over a descriptor and those after it: its verdict is the definition's where that is so of both parts
 settled : (one later : Taken) (x w : Verdict) → one .verdict ≡ x → (one .verdict ≡ Passed → later .verdict ≡ w) → pick (isFault (one .verdict)) one later .verdict ≡ orElse x w
@@ -115,16 +117,16 @@ module _ (c starts : List ℕ) (count : ℕ) (active : Descriptor) (area : areaB
         rw (← cost-is, ← opened) walk,
       )
 
--- the rows of a check that follow the area's, in the order of the code
-module _ (c : List ℕ) (bad : Bool) (area : bad ≡ areaBad c) (card : bad ≡ false) (r : Regions) (walked : r ≡ regionsOf (chain c)) where
+-- the rows of a check that follow admission, in the order of the code
+module _ (c : List ℕ) (a : Answer) (asked : a ≡ firstRow (admission c)) (card : a .number ≡ 0) (r : Regions) (walked : r ≡ regionsOf (chain c)) where
   pub check-6 : not (r .sound) ≡ true → answerOf Check c ≡ answer 6 (r .place .0)
   unfolding answerOf rowsOf checkRows
-  check-6 h = area-passed _ c bad area card ∙ chain-given _ c r walked h
+  check-6 h = admitted c a asked _ card ∙ chain-given _ c r walked h
 
   module _ (whole : not (r .sound) ≡ false) (v : Verdict) (verdict : v ≡ checkCard c) where
-    to-fault : answerOf Check c ≡ firstRow (drop 2 (checkRows c))
+    to-fault : answerOf Check c ≡ firstRow (drop 1 (checkRows c))
     unfolding answerOf rowsOf checkRows
-    to-fault = area-passed _ c bad area card ∙ chain-passed _ c r walked whole
+    to-fault = admitted c a asked _ card ∙ chain-passed _ c r walked whole
 
     pub check-0 : v ≡ Passed → answerOf Check c ≡ accepted
     unfolding checkRows isFault

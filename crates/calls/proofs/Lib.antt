@@ -1,4 +1,5 @@
 -- Laws of the definitions of the calls, which the proofs of the calls and the theorems cite.
+pub mod Running
 pub mod RowLaws
 pub mod Passed
 pub mod StepLaws

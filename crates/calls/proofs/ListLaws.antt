@@ -8,11 +8,11 @@ use native.Mathlib.Omega.{arith}
 use lib.ListN.{length, take, drop, getD, set, length-set, length-replicate}
 use lib.Seq.{drop-cons, take-suc, take-length, length-take-le}
 use lib.Dec.{ltb}
-use borrow.Author.Tests.{lt-ltb, le-ltb, ltb-false, not-true, not-false}
+use borrow.Author.Tests.{lt-ltb, le-ltb, not-true, not-false, eq-eqb, ne-eqb}
 use Rattle.blocks.specs.Pick.{pick}
 use Rattle.blocks.specs.Bytes.{storeAll}
 use Rattle.blocks.specs.Descriptor.{physical, noDescriptor}
-use Rattle.blocks.specs.Chain.{activeOf, Chain, Sound, Unsound, chain, chainSound, startsOf, regionsOf}
+use Rattle.blocks.specs.Chain.{activeOf, Chain, Sound, Unsound, chain, startsOf, regionsOf}
 use Rattle.blocks.specs.declared.descriptor.Descriptor.{Descriptor}
 use Rattle.blocks.specs.declared.chain.Regions.{Regions}
 use Rattle.blocks.proofs.LinkedLaws.{starts-long, region-of, found-inside, found-descriptor}
@@ -21,34 +21,35 @@ use Rattle.calls.specs.declared.answer.Record.{Record}
 use Rattle.calls.specs.declared.list.Filling.{Filling}
 use Rattle.calls.specs.declared.list.Plan.{Plan}
 use Rattle.calls.specs.Call.{Listing, Records, answer}
-use Rattle.calls.specs.Parts.{areaBad, descriptorsOf}
-use Rattle.calls.specs.Ladder.{firstRow, listRows, rowsOf, answerOf}
-use Rattle.calls.specs.Effect.{recordOf, listed, storesOf, lentOf, filledOf}
-use Rattle.calls.specs.Step.{Done, step, isAccepted}
+use Rattle.calls.specs.Parts.{descriptorsOf}
+use Rattle.calls.specs.Ladder.{admission, firstRow, listRows}
+use Rattle.calls.specs.Effect.{recordOf, listed}
+use Rattle.calls.specs.Meaning.{rowsOf, answerOf, storesOf, lentOf, filledOf, givenOf}
+use Rattle.calls.specs.Step.{step, isAccepted, done}
 use Rattle.calls.specs.Listing.{fillingWith, fillingOf, fillingBy, noStarts, planOf, recordBy, filledTo, filled}
 use Rattle.calls.proofs.CardLaws.{card-count, chain-is}
 use Rattle.calls.proofs.Passed.{list-passed}
-use Rattle.calls.proofs.RowLaws.{row-given, last-passed, area-given, area-passed, chain-given, chain-passed}
+use Rattle.calls.proofs.RowLaws.{accepted-admitted, row-given, last-passed, not-admitted, admitted, admitted-card, chain-given, chain-passed}
 
 -- what a listing answers and fills, in the order of the code's tests
-module _ (c : List ℕ) (records : List Record) (bad : Bool) (area : bad ≡ areaBad c) where
-  pub filling-1 : bad ≡ true → fillingWith 1 0 0 ≡ fillingOf c records
+module _ (c : List ℕ) (records : List Record) (a : Answer) (asked : a ≡ firstRow (admission c)) where
+  pub filling-none : (a .number ≡ 0 → ⊥) → record { answer = a; count = 0 } ≡ fillingOf c records
   unfolding fillingOf answerOf rowsOf listRows
-  filling-1 e = rw (area-given _ c bad area e)
+  filling-none e = rw (not-admitted c a asked (listRows c records) e, ne-eqb (a .number) 0 e)
 
-  module _ (card : bad ≡ false) (r : Regions) (walked : r ≡ regionsOf (chain c)) where
+  module _ (card : a .number ≡ 0) (r : Regions) (walked : r ≡ regionsOf (chain c)) where
     filling-6 : not (r .sound) ≡ true → fillingWith 6 (r .place .0) 0 ≡ fillingOf c records
     unfolding fillingOf answerOf rowsOf listRows
-    filling-6 h = rw (area-passed _ c bad area card, chain-given _ c r walked h)
+    filling-6 h = rw (admitted c a asked _ card, chain-given _ c r walked h)
 
     module _ (room : ℕ) (long : length records ≡ room) where
       module _ (whole : not (r .sound) ≡ false) where
         count-is : length (descriptorsOf c) ≡ r .count
-        count-is = sym (card-count c r walked (sym area ∙ card) (not-false (r .sound) whole))
+        count-is = sym (card-count c r walked (admitted-card c a asked card) (not-false (r .sound) whole))
 
-        to-room : answerOf (Listing records) c ≡ firstRow (drop 2 (listRows c records))
+        to-room : answerOf (Listing records) c ≡ firstRow (drop 1 (listRows c records))
         unfolding answerOf rowsOf listRows
-        to-room = area-passed _ c bad area card ∙ chain-passed _ c r walked whole
+        to-room = admitted c a asked _ card ∙ chain-passed _ c r walked whole
 
         filling-room : (t : Bool) → ltb room (r .count) ≡ t → pick t (fillingWith 14 0 0) (fillingWith 0 0 (r .count)) ≡ fillingOf c records
         unfolding fillingOf listRows
@@ -78,15 +79,15 @@ module _ (sound : Bool) (place count room : ℕ) where
     unfolding fillingBy
     found-0 h = rw (not-false sound whole, le-ltb room count h)
 
--- the plan of a listing: where the area is no card, and with what the walk found
-pub plan-1 : (c : List ℕ) (records : List Record) (bad : Bool) → bad ≡ areaBad c → bad ≡ true → record { answer = answer 1 0; count = 0; starts = noStarts } ≡ planOf c records
+-- the plan of a listing: where it is not admitted, and with what the walk found
+pub plan-none : (c : List ℕ) (records : List Record) (a : Answer) → a ≡ firstRow (admission c) → (a .number ≡ 0 → ⊥) → record { answer = a; count = 0; starts = noStarts } ≡ planOf c records
 unfolding planOf
-plan-1 c records bad area e = rw (← (filling-1 c records bad area e), ← area, e)
+plan-none c records a asked e = rw (← (filling-none c records a asked e), ← asked, ne-eqb (a .number) 0 e)
 
-pub plan-told : (c : List ℕ) (records : List Record) (bad : Bool) → bad ≡ areaBad c → bad ≡ false → (r : Regions) → r ≡ regionsOf (chain c) → (f : Filling) → f ≡ fillingOf c records
+pub plan-told : (c : List ℕ) (records : List Record) (a : Answer) → a ≡ firstRow (admission c) → a .number ≡ 0 → (r : Regions) → r ≡ regionsOf (chain c) → (f : Filling) → f ≡ fillingOf c records
     → record { answer = f .answer; count = f .count; starts = r .starts } ≡ planOf c records
 unfolding planOf
-plan-told c records bad area card r walked f told = rw (← area, card, ← walked, ← told)
+plan-told c records a asked card r walked f told = rw (← asked, eq-eqb (a .number) 0 card, ← walked, ← told)
 
 -- filling none, one more, and the length
 module _ (c starts : List ℕ) (records : List Record) (n : ℕ) where
@@ -176,30 +177,27 @@ module _ (c : List ℕ) (records : List Record) where
   -- those of a plan
   plan-starts : isAccepted (answerOf (Listing records) c) ≡ true → planOf c records .starts ≡ startsOf (descriptorsOf c)
   unfolding planOf
-  plan-starts ok = rw (list-passed c records ok .area) (walk-starts ok)
+  plan-starts ok = rw (accepted-admitted c (Listing records) ok) (walk-starts ok)
 
-  some-by : (t : Bool) → 0 < length (pick t noStarts (regionsOf (chain c) .starts))
-  some-by true = omega (arith, length-replicate {A = ℕ} 257 0)
-  some-by false = regions-some (chain c)
+  some-by : (t : Bool) → 0 < length (pick t (regionsOf (chain c) .starts) noStarts)
+  some-by true = regions-some (chain c)
+  some-by false = omega (arith, length-replicate {A = ℕ} 257 0)
 
   plan-some : 0 < length (planOf c records .starts)
   unfolding planOf
-  plan-some = some-by (areaBad c)
+  plan-some = some-by (isAccepted (firstRow (admission c)))
 
   pub plan-ready : (r : Plan) → r ≡ planOf c records → Ready c (r .starts) records (r .count)
   unfolding planOf fillingOf
   plan-ready r e = rw e (ready-by c (planOf c records .starts) records (isAccepted (answerOf (Listing records) c)) refl plan-starts plan-some)
 
 -- a listing as planned and filled is that of the definition
-abbrev done : Answer → List Record → List ℕ → Done
-done a l c = record { outcome = record { answer = a; lent = Records l }; card = c }
-
 step-by : (c starts : List ℕ) (records : List Record) (t : Bool) → isAccepted (answerOf (Listing records) c) ≡ t → (t ≡ true → starts ≡ startsOf (descriptorsOf c))
-    → done (answerOf (Listing records) c) (filled c starts records (pick t (length (descriptorsOf c)) 0)) c ≡ step (Listing records) c
-unfolding step storesOf storeAll lentOf filledOf
+    → done (answerOf (Listing records) c) (Records (filled c starts records (pick t (length (descriptorsOf c)) 0))) c ≡ step (Listing records) c
+unfolding step storesOf storeAll lentOf filledOf givenOf
 step-by c starts records true e is = rw (e, is refl, filled-listed c (startsOf (descriptorsOf c)) (descriptorsOf c) (list-record c records e) records (list-room c records e))
 step-by c starts records false e is = rw (e, ← (filled-all c starts records 0 0 refl), filled-none c starts records 0)
 
-pub plan-done : (c : List ℕ) (records l : List Record) (r : Plan) → r ≡ planOf c records → l ≡ filled c (r .starts) records (r .count) → done (r .answer) l c ≡ step (Listing records) c
+pub plan-done : (c : List ℕ) (records l : List Record) (r : Plan) → r ≡ planOf c records → l ≡ filled c (r .starts) records (r .count) → done (r .answer) (Records l) c ≡ step (Listing records) c
 unfolding planOf fillingOf
 plan-done c records l r e f = rw (f, e) (step-by c (planOf c records .starts) records (isAccepted (answerOf (Listing records) c)) refl (plan-starts c records))

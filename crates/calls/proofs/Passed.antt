@@ -1,7 +1,7 @@
 -- What the tests of each call have shown where it is accepted: one record for each call, taken from its rows by their numbers. The laws about
 -- what a call leaves stand on these facts and not on the call's acceptance.
-use mathlib.Core.Path.{_≡_, refl}
-use mathlib.Core.Bool.{Bool, true, false, not, _&&_, _||_}
+use mathlib.Core.Path.{_≡_}
+use mathlib.Core.Bool.{true, false, not, _&&_}
 use mathlib.Core.List.{List}
 use Prim.Native.Nat.{ℕ, _+_, _≤_, _<_}
 use lib.ListN.{length}
@@ -13,16 +13,13 @@ use Rattle.blocks.specs.Chain.{chain, chainSound, named, activeOf}
 use Rattle.entries.specs.Entry.{need}
 use Rattle.calls.specs.declared.answer.Target.{Target}
 use Rattle.calls.specs.declared.answer.Record.{Record}
-use Rattle.calls.specs.Call.{Ream, Read, Write, Snap, Revert, Listing, accepted}
+use Rattle.calls.specs.Call.{Ream, Read, Write, Snap, Revert, Listing, Check, accepted}
 use Rattle.calls.specs.Parts.{areaBad, descriptorsOf, snapshotsOf, mostSnapshots, isSnapshot, targetOf, foundThrough, isMisplaced}
-use Rattle.calls.specs.Ladder.{firstRow, reamRows, readRows, writeRows, snapRows, revertRows, listRows, rowsOf, answerOf}
+use Rattle.calls.specs.Check.{checkCard, isFault}
+use Rattle.calls.specs.Ladder.{firstRow, admission, reamRows, readRows, writeRows, snapRows, revertRows, listRows, checkRows}
+use Rattle.calls.specs.Meaning.{rowsOf, answerOf}
 use Rattle.calls.specs.Step.{isAccepted}
 use Rattle.calls.proofs.RowLaws.{holdsOf, rows-passed}
-
--- a card with a sound chain
-pub record CardPassed (c : List ℕ) : Type 0 where
-  pub area : areaBad c ≡ false
-  pub sound : chainSound (chain c) ≡ true
 
 -- a format: the name is one, and the first region fits the card
 pub record ReamPassed (c : List ℕ) (layout volume : ℕ) (name : List ℕ) : Type 0 where
@@ -69,43 +66,55 @@ pub record ListPassed (c : List ℕ) (records : List Record) : Type 0 where
   pub sound : chainSound (chain c) ≡ true
   pub room : length (descriptorsOf c) ≤ length records
 
+-- a check: no entry is at fault
+pub record CheckPassed (c : List ℕ) : Type 0 where
+  pub area : areaBad c ≡ false
+  pub sound : chainSound (chain c) ≡ true
+  pub faultless : isFault (checkCard c) ≡ false
+
 pub ream-passed : (c : List ℕ) (layout volume : ℕ) (name : List ℕ) → isAccepted (answerOf (Ream layout volume name) c) ≡ true → ReamPassed c layout volume name
-unfolding rowsOf reamRows holdsOf
+unfolding rowsOf admission reamRows holdsOf
 ream-passed c layout volume name e =
     let row = rows-passed (Ream layout volume name) c e in
     record { area = row 1; called = not-false _ (row 4); room = ltb-false _ _ (row 5) }
 
 pub read-passed : (c : List ℕ) (target : Target) (name : List ℕ) (l : ℕ) (block : List ℕ) → isAccepted (answerOf (Read target name l block) c) ≡ true → ReadPassed c target name l
-unfolding rowsOf readRows holdsOf
+unfolding rowsOf admission readRows holdsOf
 read-passed c target name l block e =
     let row = rows-passed (Read target name l block) c e in
     record { area = row 1; sound = not-false _ (row 6); there = row 7; below = leb-false _ _ (row 8); in-place = row 10 }
 
 pub write-passed : (c : List ℕ) (l : ℕ) (block : List ℕ) → isAccepted (answerOf (Write l block) c) ≡ true → WritePassed c l block
-unfolding rowsOf writeRows holdsOf
+unfolding rowsOf admission writeRows holdsOf
 write-passed c l block e =
     let row = rows-passed (Write l block) c e in
     record { area = row 1; sound = not-false _ (row 6); whole = eqb-true _ _ (not-false _ (row 9)); below = leb-false _ _ (row 8); in-place = row 10; room = ltb-false _ _ (row 11) }
 
 pub snap-passed : (c name : List ℕ) → isAccepted (answerOf (Snap name) c) ≡ true → SnapPassed c name
-unfolding rowsOf snapRows holdsOf
+unfolding rowsOf admission snapRows holdsOf
 snap-passed c name e =
     let row = rows-passed (Snap name) c e in
     record { area = row 1; sound = not-false _ (row 6); called = not-false _ (row 4); unused = row 12; few = leb-false _ _ (row 13); room = ltb-false _ _ (row 11) }
 
 pub revert-passed : (c name : List ℕ) → isAccepted (answerOf (Revert name) c) ≡ true → RevertPassed c name
-unfolding rowsOf revertRows holdsOf
+unfolding rowsOf admission revertRows holdsOf
 revert-passed c name e =
     let row = rows-passed (Revert name) c e in
     record { area = row 1; sound = not-false _ (row 6); called = not-false _ (row 4); there = not-false _ (row 7) }
 
 pub list-passed : (c : List ℕ) (records : List Record) → isAccepted (answerOf (Listing records) c) ≡ true → ListPassed c records
-unfolding rowsOf listRows holdsOf
+unfolding rowsOf admission listRows holdsOf
 list-passed c records e =
     let row = rows-passed (Listing records) c e in
     record { area = row 1; sound = not-false _ (row 6); room = ltb-false _ _ (row 14) }
 
+pub check-passed : (c : List ℕ) → isAccepted (answerOf Check c) ≡ true → CheckPassed c
+unfolding rowsOf admission checkRows holdsOf
+check-passed c e =
+    let row = rows-passed Check c e in
+    record { area = row 1; sound = not-false _ (row 6); faultless = row 10 }
+
 -- the facts of a revert are all that it asks
 pub revert-accepted : (c name : List ℕ) → RevertPassed c name → answerOf (Revert name) c ≡ accepted
-unfolding answerOf rowsOf revertRows firstRow
+unfolding answerOf rowsOf admission revertRows firstRow
 revert-accepted c name h = rw (h .area, h .called, h .sound, h .there)

@@ -27,12 +27,13 @@ use Rattle.calls.specs.declared.answer.Target.{Target}
 use Rattle.calls.specs.declared.answer.Target.the-variants.{Active, Snapshot}
 use Rattle.calls.specs.Call.{Call, Read, Block, answer, accepted}
 use Rattle.calls.specs.Parts.{areaBad, snapshotsOf, isSnapshot, targetOf, targetIndex, isMisplaced, holderOf, blockFound}
-use Rattle.calls.specs.Ladder.{firstRow, readRows, rowsOf, answerOf}
-use Rattle.calls.specs.Effect.{Delivered, delivered, lentOf, filledOf, storesOf}
-use Rattle.calls.specs.Step.{Done, step}
+use Rattle.calls.specs.Ladder.{admission, firstRow, readRows}
+use Rattle.calls.specs.Effect.{Delivered, delivered}
+use Rattle.calls.specs.Meaning.{rowsOf, answerOf, lentOf, filledOf, storesOf, givenOf}
+use Rattle.calls.specs.Step.{Done, step, done}
 use Rattle.calls.proofs.StepLaws.{step-refused, step-accepted}
 use Rattle.calls.proofs.CardLaws.{card-some, card-snapshots, card-snapshot-count, card-snapshot, card-found, card-active, card-through}
-use Rattle.calls.proofs.RowLaws.{row-given, row-passed, area-passed, block-given, block-passed, chain-given, chain-passed, volume-given, volume-passed}
+use Rattle.calls.proofs.RowLaws.{admitted, admitted-card, row-given, row-passed, admitted, block-given, block-passed, chain-given, chain-passed, volume-given, volume-passed}
 
 -- the index of what is read
 module _ (ss : List Descriptor) (name : List ℕ) (n : ℕ) (counted : length ss ≡ n) where
@@ -85,26 +86,26 @@ module _ (c : List ℕ) (f : Found) (out : List ℕ) where
 pub filled-nil : (c out out′ zeros : List ℕ) (p : ℕ) → p ≡ 0 → length out ≡ 512 → zeros ≡ zeroBlock → out′ ≡ splice out 0 zeros → out′ ≡ pick (eqb p 0) zeroBlock (blockAt c p)
 filled-nil c out out′ zeros p e l z s = s ∙ splice-whole out zeros (ap length z ∙ sym l) ∙ rw (eq-eqb p 0 e) z
 
--- the rows of a read that follow the area's, in the order of the code
-module _ (c : List ℕ) (target : Target) (name : List ℕ) (l : ℕ) (block : List ℕ) (bad : Bool) (area : bad ≡ areaBad c) (card : bad ≡ false) (u : Bool) (unnamed : u ≡ (isSnapshot target && not (isName name))) where
+-- the rows of a read that follow admission, in the order of the code
+module _ (c : List ℕ) (target : Target) (name : List ℕ) (l : ℕ) (block : List ℕ) (a : Answer) (asked : a ≡ firstRow (admission c)) (card : a .number ≡ 0) (u : Bool) (unnamed : u ≡ (isSnapshot target && not (isName name))) where
   abbrev call : Call
   call = Read target name l block
 
   pub read-4 : u ≡ true → answerOf call c ≡ answer 4 0
   unfolding answerOf rowsOf readRows
-  read-4 e = area-passed _ c bad area card ∙ row-given _ _ (sym unnamed ∙ e)
+  read-4 e = admitted c a asked _ card ∙ row-given _ _ (sym unnamed ∙ e)
 
   module _ (called : u ≡ false) where
-    to-block : answerOf call c ≡ firstRow (drop 2 (readRows c target name l block))
+    to-block : answerOf call c ≡ firstRow (drop 1 (readRows c target name l block))
     unfolding answerOf rowsOf readRows
-    to-block = area-passed _ c bad area card ∙ row-passed _ _ (sym unnamed ∙ called)
+    to-block = admitted c a asked _ card ∙ row-passed _ _ (sym unnamed ∙ called)
 
     pub read-9 : (length block ≡ 512 → ⊥) → answerOf call c ≡ answer 9 0
     unfolding readRows
     read-9 h = to-block ∙ block-given _ block h
 
     module _ (long : length block ≡ 512) (r : Regions) (walked : r ≡ regionsOf (chain c)) where
-      to-chain : answerOf call c ≡ firstRow (drop 3 (readRows c target name l block))
+      to-chain : answerOf call c ≡ firstRow (drop 2 (readRows c target name l block))
       unfolding readRows
       to-chain = to-block ∙ block-passed _ block long
 
@@ -117,7 +118,7 @@ module _ (c : List ℕ) (target : Target) (name : List ℕ) (l : ℕ) (block : L
         ds = descriptors (chain c)
 
         good : areaBad c ≡ false
-        good = sym area ∙ card
+        good = admitted-card c a asked card
 
         ok : r .sound ≡ true
         ok = not-false (r .sound) whole
@@ -131,7 +132,7 @@ module _ (c : List ℕ) (target : Target) (name : List ℕ) (l : ℕ) (block : L
         missing : (isSnapshot target && not (named (snapshotsOf ds) name)) ≡ eqb k (r .count)
         missing = missing-is (snapshotsOf ds) name target ∙ rw (← index-is, count-is)
 
-        to-snapshot : answerOf call c ≡ firstRow (drop 4 (readRows c target name l block))
+        to-snapshot : answerOf call c ≡ firstRow (drop 3 (readRows c target name l block))
         unfolding readRows
         to-snapshot = to-chain ∙ chain-passed _ c r walked whole
 
@@ -155,7 +156,7 @@ module _ (c : List ℕ) (target : Target) (name : List ℕ) (l : ℕ) (block : L
         index-inside n = place-of target index-is n .0
 
         module _ (some : k ≡ r .count → ⊥) where
-          to-volume : answerOf call c ≡ firstRow (drop 5 (readRows c target name l block))
+          to-volume : answerOf call c ≡ firstRow (drop 4 (readRows c target name l block))
           unfolding readRows
           to-volume = to-snapshot ∙ row-passed _ _ (missing ∙ ne-eqb k (r .count) some)
 
@@ -176,7 +177,7 @@ module _ (c : List ℕ) (target : Target) (name : List ℕ) (l : ℕ) (block : L
             abbrev found : Found
             found = find c ds d l
 
-            to-found : answerOf call c ≡ firstRow (drop 6 (readRows c target name l block))
+            to-found : answerOf call c ≡ firstRow (drop 5 (readRows c target name l block))
             unfolding readRows
             to-found = to-volume ∙ volume-passed _ c r walked good ok l below
 
@@ -186,8 +187,8 @@ module _ (c : List ℕ) (target : Target) (name : List ℕ) (l : ℕ) (block : L
 
             done-by : (t : Bool) → isMisplaced found ≡ t → (a : Answer) (out : List ℕ)
                 → _≡_ {A = Delivered} (record { answer = a; block = out }) (pick t (record { answer = answer 10 (holderOf found); block = block }) (record { answer = accepted; block = blockFound c found }))
-                → _≡_ {A = Done} (record { outcome = record { answer = a; lent = Block out }; card = c }) (step call c)
-            unfolding lentOf filledOf storesOf storeAll
+                → _≡_ {A = Done} (done a (Block out) c) (step call c)
+            unfolding lentOf filledOf storesOf givenOf storeAll
             done-by true e a out h =
                 let a-is : a ≡ answer 10 (holderOf found) = ap (λ (x : Delivered). x .answer) h in
                 let out-is : out ≡ block = ap (λ (x : Delivered). x .block) h in
@@ -195,9 +196,9 @@ module _ (c : List ℕ) (target : Target) (name : List ℕ) (l : ℕ) (block : L
             done-by false e a out h =
                 let a-is : a ≡ accepted = ap (λ (x : Delivered). x .answer) h in
                 let out-is : out ≡ blockFound c found = ap (λ (x : Delivered). x .block) h in
-                rw (a-is, out-is) (step-accepted call c (rest ∙ rw e) (Block (blockFound c found)) (rw target-is) c refl)
+                rw (a-is, out-is) (step-accepted call c (rest ∙ rw e) (Block (blockFound c found)) (rw target-is) c refl refl)
 
             pub read-done : (a : Answer) (out : List ℕ) → _≡_ {A = Delivered} (record { answer = a; block = out }) (delivered c found block)
-                → _≡_ {A = Done} (record { outcome = record { answer = a; lent = Block out }; card = c }) (step call c)
+                → _≡_ {A = Done} (done a (Block out) c) (step call c)
             unfolding delivered
             read-done a out h = done-by (isMisplaced found) refl a out h

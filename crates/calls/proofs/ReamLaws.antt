@@ -14,10 +14,11 @@ use Rattle.blocks.specs.declared.descriptor.Descriptor.{Descriptor}
 use Rattle.blocks.proofs.ByteLaws.{splice-start}
 use Rattle.blocks.proofs.NameLaws.{drop-replicate}
 use Rattle.calls.specs.Call.{Ream, answer, accepted}
-use Rattle.calls.specs.Parts.{areaBad}
-use Rattle.calls.specs.Ladder.{firstRow, reamRows, rowsOf, answerOf}
+use Rattle.calls.specs.Ladder.{admission, firstRow, reamRows}
+use Rattle.calls.specs.Meaning.{rowsOf, answerOf}
 use Rattle.calls.proofs.StepLaws.{stored-append, stored-one}
-use Rattle.calls.proofs.RowLaws.{row-given, row-passed, last-passed, area-passed, name-given, name-passed}
+use Rattle.calls.proofs.RowLaws.{admitted, row-given, row-passed, last-passed, admitted, name-given, name-passed}
+use Rattle.calls.specs.declared.answer.Answer.{Answer}
 
 -- a head put into a block of zeros
 pub head-on-zeros : (d : Descriptor) (b : List ℕ) → length (headBytes d) ≡ 40 → b ≡ splice (replicate 512 0) 0 (headBytes d) → b ≡ descriptorBlock d (replicate 472 0)
@@ -36,11 +37,11 @@ opened c c₁ c₂ layout volume k name b e f g h =
     ∙ sym (stored-append c (clearing 1 (k - 1)) (store 0 b ∷ []))
     ∙ rw (f, e)
 
--- the rows of a ream that follow the area's, in the order of the code
-module _ (c : List ℕ) (layout volume : ℕ) (name : List ℕ) (bad : Bool) (area : bad ≡ areaBad c) (card : bad ≡ false) where
-  to-layout : answerOf (Ream layout volume name) c ≡ firstRow (drop 1 (reamRows c layout volume name))
+-- the rows of a ream that follow admission, in the order of the code
+module _ (c : List ℕ) (layout volume : ℕ) (name : List ℕ) (a : Answer) (asked : a ≡ firstRow (admission c)) (card : a .number ≡ 0) where
+  to-layout : answerOf (Ream layout volume name) c ≡ firstRow (drop 0 (reamRows c layout volume name))
   unfolding answerOf rowsOf reamRows
-  to-layout = area-passed _ c bad area card
+  to-layout = admitted c a asked _ card
 
   pub ream-2-low : layout ≡ 0 → answerOf (Ream layout volume name) c ≡ answer 2 0
   unfolding reamRows
@@ -55,7 +56,7 @@ module _ (c : List ℕ) (layout volume : ℕ) (name : List ℕ) (bad : Bool) (ar
     layout-by true e = rw e
     layout-by false e = rw (e, eq-eqb layout 2 (omega (arith, some, eqb-false layout 1 e)))
 
-    to-volume : answerOf (Ream layout volume name) c ≡ firstRow (drop 2 (reamRows c layout volume name))
+    to-volume : answerOf (Ream layout volume name) c ≡ firstRow (drop 1 (reamRows c layout volume name))
     unfolding reamRows
     to-volume = to-layout ∙ row-passed _ _ (rw (layout-by (eqb layout 1) refl))
 
@@ -68,7 +69,7 @@ module _ (c : List ℕ) (layout volume : ℕ) (name : List ℕ) (bad : Bool) (ar
     ream-3-large h = to-volume ∙ row-given _ _ (rw (ne-eqb volume 0 (omega arith), lt-ltb 14336 volume h))
 
     module _ (least : volume ≡ 0 → ⊥) (most : volume ≤ 14336) (n : Bool) (called : n ≡ isName name) where
-      to-name : answerOf (Ream layout volume name) c ≡ firstRow (drop 3 (reamRows c layout volume name))
+      to-name : answerOf (Ream layout volume name) c ≡ firstRow (drop 2 (reamRows c layout volume name))
       unfolding reamRows
       to-name = to-volume ∙ row-passed _ _ (rw (ne-eqb volume 0 least, le-ltb 14336 volume most))
 
@@ -77,7 +78,7 @@ module _ (c : List ℕ) (layout volume : ℕ) (name : List ℕ) (bad : Bool) (ar
       ream-4 h = to-name ∙ name-given _ name n called h
 
       module _ (is : not n ≡ false) (k : ℕ) (cost-is : k ≡ cost layout volume) where
-        to-cost : answerOf (Ream layout volume name) c ≡ firstRow (drop 4 (reamRows c layout volume name))
+        to-cost : answerOf (Ream layout volume name) c ≡ firstRow (drop 3 (reamRows c layout volume name))
         unfolding reamRows
         to-cost = to-name ∙ name-passed _ name n called is
 

@@ -15,17 +15,19 @@ use Rattle.blocks.specs.declared.descriptor.Descriptor.{Descriptor}
 use Rattle.blocks.specs.declared.chain.Regions.{Regions}
 use Rattle.calls.specs.Call.{Revert, answer, accepted}
 use Rattle.calls.specs.Parts.{areaBad, snapshotsOf, withName}
-use Rattle.calls.specs.Ladder.{firstRow, revertRows, rowsOf, answerOf}
-use Rattle.calls.specs.Effect.{reverting, storesOf, revertStores}
+use Rattle.calls.specs.Ladder.{admission, firstRow, revertRows}
+use Rattle.calls.specs.Effect.{reverting, revertStores}
+use Rattle.calls.specs.Meaning.{rowsOf, answerOf, storesOf}
 use Rattle.calls.proofs.StepLaws.{stored-one}
 use Rattle.calls.proofs.CardLaws.{card-snapshots, card-snapshot-count, card-snapshot, card-alpha, card-at, card-found}
-use Rattle.calls.proofs.RowLaws.{row-given, last-passed, named-passed}
+use Rattle.calls.proofs.RowLaws.{admitted-card, row-given, last-passed, named-passed}
+use Rattle.calls.specs.declared.answer.Answer.{Answer}
 
 -- the row of a revert that follows the chain's, in the order of the code
-module _ (c : List ℕ) (name : List ℕ) (bad : Bool) (area : bad ≡ areaBad c) (card : bad ≡ false) (n : Bool) (called : n ≡ isName name) (is-name : not n ≡ false)
+module _ (c : List ℕ) (name : List ℕ) (a : Answer) (asked : a ≡ firstRow (admission c)) (card : a .number ≡ 0) (n : Bool) (called : n ≡ isName name) (is-name : not n ≡ false)
     (r : Regions) (walked : r ≡ regionsOf (chain c)) (whole : not (r .sound) ≡ false) (k : ℕ) (index : k ≡ indexOf (descriptorsAt c (take (r .count - 1) (r .starts))) name) where
   good : areaBad c ≡ false
-  good = sym area ∙ card
+  good = admitted-card c a asked card
 
   ok : r .sound ≡ true
   ok = not-false (r .sound) whole
@@ -37,9 +39,9 @@ module _ (c : List ℕ) (name : List ℕ) (bad : Bool) (area : bad ≡ areaBad c
   unfolding named
   found-is = rw (← index-is, card-snapshot-count c r walked good ok)
 
-  to-found : answerOf (Revert name) c ≡ firstRow (drop 3 (revertRows c name))
+  to-found : answerOf (Revert name) c ≡ firstRow (drop 2 (revertRows c name))
   unfolding answerOf rowsOf revertRows
-  to-found = named-passed _ c name bad area card n called is-name r walked whole
+  to-found = named-passed _ c name a asked card n called is-name r walked whole
 
   pub revert-7 : k ≡ r .count - 1 → answerOf (Revert name) c ≡ answer 7 0
   unfolding revertRows

@@ -1,7 +1,7 @@
 -- Laws of the rows of a refusal table: which row is given, and which are passed by an accepted call.
 use mathlib.Core.Path.{_≡_, refl, sym, ap, _∙_, subst}
 use mathlib.Core.Bool.{Bool, true, false, not, _&&_}
-use mathlib.Core.List.{List, [], _∷_}
+use mathlib.Core.List.{List, [], _∷_, _++_}
 use Prim.Native.Nat.{ℕ, zero, suc, _≤_, _<_}
 use native.Mathlib.Omega.{arith}
 use lib.ListN.{length, getD}
@@ -15,7 +15,8 @@ use Rattle.blocks.proofs.Tests.{and-left, and-right}
 use Rattle.calls.specs.declared.answer.Answer.{Answer}
 use Rattle.calls.specs.Call.{Call, Ream, Read, Write, Snap, Revert, Listing, Check, answer, accepted}
 use Rattle.calls.specs.Parts.{areaBad}
-use Rattle.calls.specs.Ladder.{Row, row, firstRow, areaRow, nameRow, blockRow, chainRow, volumeRow, reamRows, readRows, writeRows, snapRows, revertRows, listRows, checkRows, rowsOf, answerOf}
+use Rattle.calls.specs.Ladder.{Row, row, firstRow, admission, areaRow, nameRow, blockRow, chainRow, volumeRow, reamRows, readRows, writeRows, snapRows, revertRows, listRows, checkRows}
+use Rattle.calls.specs.Meaning.{meaningOf, rowsOf, answerOf}
 use Rattle.calls.specs.Step.{isAccepted}
 use Rattle.calls.proofs.CardLaws.{card-fault, card-sound, card-found}
 
@@ -35,7 +36,7 @@ holdsOf n (r ∷ rs) = pick (eqb (r .number) n) (r .holds) (holdsOf n rs)
 
 -- so it is in each call's list
 pub rows-numbered : (k : Call) (c : List ℕ) → numbered (rowsOf k c) ≡ true
-unfolding numbered fresh rowsOf reamRows readRows writeRows snapRows revertRows listRows checkRows
+unfolding numbered fresh rowsOf admission reamRows readRows writeRows snapRows revertRows listRows checkRows
 rows-numbered (Ream layout volume name) c = refl
 rows-numbered (Read target name l block) c = refl
 rows-numbered (Write l block) c = refl
@@ -172,15 +173,57 @@ unfolding firstRow holdsOf
 number-given [] is n z e = absurd (z (sym e))
 number-given (r ∷ rs) is n z e = given-by-number r rs n (r .holds) (eqb (r .number) n) refl refl is z (number-given rs (tail-numbered r rs is) n z) e
 
+-- rows before others: the first of them that holds is given, and where none holds the others decide
+append-by : (r : Row) (rest all : Answer) (later : Answer) (h : Bool) → (r .number ≡ 0 → ⊥) → rest ≡ pick (isAccepted all) later all
+    → pick h (answer (r .number) (r .place)) rest ≡ pick (isAccepted (pick h (answer (r .number) (r .place)) all)) later (pick h (answer (r .number) (r .place)) all)
+append-by r rest all later true z e = rw (ne-eqb (r .number) 0 z)
+append-by r rest all later false z e = e
+
+first-append : (xs ys : List Row) → numbered xs ≡ true → firstRow (xs ++ ys) ≡ pick (isAccepted (firstRow xs)) (firstRow ys) (firstRow xs)
+unfolding firstRow
+first-append [] ys is = refl
+first-append (r ∷ xs) ys is = append-by r (firstRow (xs ++ ys)) (firstRow xs) (firstRow ys) (r .holds) (head-set r xs is) (first-append xs ys (tail-numbered r xs is))
+
+-- what is asked before the rows of any call, by the answer to it
+module _ (c : List ℕ) where
+  admission-numbered : numbered (admission c) ≡ true
+  unfolding numbered fresh admission
+  admission-numbered = refl
+
+  module _ (a : Answer) (asked : a ≡ firstRow (admission c)) where
+    pub not-admitted : (rs : List Row) → (a .number ≡ 0 → ⊥) → firstRow (admission c ++ rs) ≡ a
+    not-admitted rs h = first-append (admission c) rs admission-numbered ∙ rw (← asked, ne-eqb (a .number) 0 h)
+
+    pub admitted : (rs : List Row) → a .number ≡ 0 → firstRow (admission c ++ rs) ≡ firstRow rs
+    admitted rs h = first-append (admission c) rs admission-numbered ∙ rw (← asked, eq-eqb (a .number) 0 h)
+
+    -- an admitted call has a card
+    pub admitted-card : a .number ≡ 0 → areaBad c ≡ false
+    unfolding admission holdsOf
+    admitted-card h = number-passed (admission c) admission-numbered (sym (ap (λ (x : Answer). x .number) asked) ∙ h) 1
+
+  -- as has an accepted call
+  admitted-by : (rs : List Row) (b : Bool) → isAccepted (firstRow (admission c)) ≡ b → isAccepted (firstRow (admission c ++ rs)) ≡ true → b ≡ true
+  admitted-by rs true q e = refl
+  admitted-by rs false q e =
+      let same : firstRow (admission c ++ rs) ≡ firstRow (admission c) = first-append (admission c) rs admission-numbered ∙ rw q in
+      sym q ∙ sym (ap isAccepted same) ∙ e
+
+  pub accepted-admitted : (k : Call) → isAccepted (answerOf k c) ≡ true → isAccepted (firstRow (admission c)) ≡ true
+  unfolding answerOf rowsOf
+  accepted-admitted k e = admitted-by (meaningOf k .rows c) (isAccepted (firstRow (admission c))) refl e
+
+  -- the same by the test of the area
+  pub admission-1 : (bad : Bool) → bad ≡ areaBad c → bad ≡ true → answer 1 0 ≡ firstRow (admission c)
+  unfolding admission
+  admission-1 bad area e = sym (row-given (areaRow c) [] (sym area ∙ e))
+
+  pub admission-0 : (bad : Bool) → bad ≡ areaBad c → bad ≡ false → accepted ≡ firstRow (admission c)
+  unfolding admission
+  admission-0 bad area e = sym (last-passed (areaRow c) (sym area ∙ e))
+
 -- the rows that several calls share, each at the head of a list, by the tests of the code
 module _ (rs : List Row) where
-  module _ (c : List ℕ) (bad : Bool) (area : bad ≡ areaBad c) where
-    pub area-given : bad ≡ true → firstRow (areaRow c ∷ rs) ≡ answer 1 0
-    area-given e = row-given (areaRow c) rs (sym area ∙ e)
-
-    pub area-passed : bad ≡ false → firstRow (areaRow c ∷ rs) ≡ firstRow rs
-    area-passed e = row-passed (areaRow c) rs (sym area ∙ e)
-
   module _ (name : List ℕ) (n : Bool) (called : n ≡ isName name) where
     pub name-given : not n ≡ true → firstRow (nameRow name ∷ rs) ≡ answer 4 0
     name-given h = row-given (nameRow name) rs (rw (← called) h)
@@ -209,17 +252,17 @@ module _ (rs : List Row) where
       pub volume-passed : l < r .active .volume → firstRow (volumeRow c l ∷ rs) ≡ firstRow rs
       volume-passed h = row-passed (volumeRow c l) rs (rw (← (card-found c r walked good ok)) (lt-leb (r .active .volume) l h))
 
--- the first rows of a snap and of a revert: area, name, chain
-module _ (rs : List Row) (c : List ℕ) (name : List ℕ) (bad : Bool) (area : bad ≡ areaBad c) (card : bad ≡ false) (n : Bool) (called : n ≡ isName name) where
-  pub named-4 : not n ≡ true → firstRow (areaRow c ∷ nameRow name ∷ rs) ≡ answer 4 0
-  named-4 h = area-passed _ c bad area card ∙ name-given _ name n called h
+-- the first rows of a snap and of a revert, after admission: name, chain
+module _ (rs : List Row) (c : List ℕ) (name : List ℕ) (a : Answer) (asked : a ≡ firstRow (admission c)) (card : a .number ≡ 0) (n : Bool) (called : n ≡ isName name) where
+  pub named-4 : not n ≡ true → firstRow (admission c ++ (nameRow name ∷ rs)) ≡ answer 4 0
+  named-4 h = admitted c a asked _ card ∙ name-given _ name n called h
 
   module _ (is-name : not n ≡ false) (r : Regions) (walked : r ≡ regionsOf (chain c)) where
-    to-chain : firstRow (areaRow c ∷ nameRow name ∷ chainRow c ∷ rs) ≡ firstRow (chainRow c ∷ rs)
-    to-chain = area-passed _ c bad area card ∙ name-passed _ name n called is-name
+    to-chain : firstRow (admission c ++ (nameRow name ∷ chainRow c ∷ rs)) ≡ firstRow (chainRow c ∷ rs)
+    to-chain = admitted c a asked _ card ∙ name-passed _ name n called is-name
 
-    pub named-6 : not (r .sound) ≡ true → firstRow (areaRow c ∷ nameRow name ∷ chainRow c ∷ rs) ≡ answer 6 (r .place .0)
+    pub named-6 : not (r .sound) ≡ true → firstRow (admission c ++ (nameRow name ∷ chainRow c ∷ rs)) ≡ answer 6 (r .place .0)
     named-6 h = to-chain ∙ chain-given _ c r walked h
 
-    pub named-passed : not (r .sound) ≡ false → firstRow (areaRow c ∷ nameRow name ∷ chainRow c ∷ rs) ≡ firstRow rs
+    pub named-passed : not (r .sound) ≡ false → firstRow (admission c ++ (nameRow name ∷ chainRow c ∷ rs)) ≡ firstRow rs
     named-passed h = to-chain ∙ chain-passed _ c r walked h

@@ -17,11 +17,13 @@ use Rattle.blocks.proofs.ByteLaws.{store-other, store-length, length-blockAt}
 use Rattle.blocks.proofs.DescriptorLaws.{head-length, block-length, tail-block, store-tail}
 use Rattle.calls.specs.Call.{Snap, answer, accepted}
 use Rattle.calls.specs.Parts.{areaBad}
-use Rattle.calls.specs.Ladder.{firstRow, snapRows, rowsOf, answerOf}
-use Rattle.calls.specs.Effect.{snapping, storesOf, snapStores}
+use Rattle.calls.specs.Ladder.{admission, firstRow, snapRows}
+use Rattle.calls.specs.Effect.{snapping, snapStores}
+use Rattle.calls.specs.Meaning.{rowsOf, answerOf, storesOf}
 use Rattle.calls.proofs.StepLaws.{stored-append, stored-one}
 use Rattle.calls.proofs.CardLaws.{card-some, card-all, card-snapshot-count, card-found}
-use Rattle.calls.proofs.RowLaws.{row-given, row-passed, last-passed, named-passed}
+use Rattle.calls.proofs.RowLaws.{admitted-card, row-given, row-passed, last-passed, named-passed}
+use Rattle.calls.specs.declared.answer.Answer.{Answer}
 
 -- copies of blocks that stand before where they go
 copying-snoc : (c : List ℕ) (from to n : ℕ) → copying c from to (suc n) ≡ copying c from to n ++ (store (to + n) (blockAt c (from + n)) ∷ [])
@@ -112,10 +114,10 @@ module _ (c c₁ : List ℕ) (d : Descriptor) (k : ℕ) (some : 1 ≤ k) (below 
       (ap (descriptorBlock e) (ap (λ (y : List ℕ). tailAt y (d .alpha .0)) q ∙ tail-second o o-is n)) copied q s
 
 -- the rows of a snap that follow the chain's, in the order of the code
-module _ (c : List ℕ) (name : List ℕ) (bad : Bool) (area : bad ≡ areaBad c) (card : bad ≡ false) (n : Bool) (called : n ≡ isName name) (is-name : not n ≡ false)
+module _ (c : List ℕ) (name : List ℕ) (a : Answer) (asked : a ≡ firstRow (admission c)) (card : a .number ≡ 0) (n : Bool) (called : n ≡ isName name) (is-name : not n ≡ false)
     (r : Regions) (walked : r ≡ regionsOf (chain c)) (whole : not (r .sound) ≡ false) (u : Bool) (used : u ≡ named (descriptorsAt c (take (r .count) (r .starts))) name) where
   good : areaBad c ≡ false
-  good = sym area ∙ card
+  good = admitted-card c a asked card
 
   ok : r .sound ≡ true
   ok = not-false (r .sound) whole
@@ -123,16 +125,16 @@ module _ (c : List ℕ) (name : List ℕ) (bad : Bool) (area : bad ≡ areaBad c
   used-is : named (descriptors (chain c)) name ≡ u
   used-is = ap (λ (ds : List Descriptor). named ds name) (sym (card-all c r walked good ok)) ∙ sym used
 
-  to-name : answerOf (Snap name) c ≡ firstRow (drop 3 (snapRows c name))
+  to-name : answerOf (Snap name) c ≡ firstRow (drop 2 (snapRows c name))
   unfolding answerOf rowsOf snapRows
-  to-name = named-passed _ c name bad area card n called is-name r walked whole
+  to-name = named-passed _ c name a asked card n called is-name r walked whole
 
   pub snap-12 : u ≡ true → answerOf (Snap name) c ≡ answer 12 0
   unfolding snapRows
   snap-12 e = to-name ∙ row-given _ _ (used-is ∙ e)
 
   module _ (unused : u ≡ false) where
-    to-count : answerOf (Snap name) c ≡ firstRow (drop 4 (snapRows c name))
+    to-count : answerOf (Snap name) c ≡ firstRow (drop 3 (snapRows c name))
     unfolding snapRows
     to-count = to-name ∙ row-passed _ _ (used-is ∙ unused)
 
@@ -144,7 +146,7 @@ module _ (c : List ℕ) (name : List ℕ) (bad : Bool) (area : bad ≡ areaBad c
       abbrev d : Descriptor
       d = r .active
 
-      to-room : answerOf (Snap name) c ≡ firstRow (drop 5 (snapRows c name))
+      to-room : answerOf (Snap name) c ≡ firstRow (drop 4 (snapRows c name))
       unfolding snapRows
       to-room = to-count ∙ row-passed _ _ (rw (card-snapshot-count c r walked good ok) (lt-leb 255 (r .count - 1) (omega (arith, card-some c r walked good ok))))
 

@@ -12,28 +12,31 @@ use Rattle.blocks.specs.Pick.{pick}
 use Rattle.blocks.specs.Bytes.{Store, store, storeBlock, storeAll, zeroBlock, blockCount}
 use Rattle.blocks.specs.Descriptor.{clearing}
 use Rattle.calls.specs.declared.answer.Answer.{Answer}
-use Rattle.calls.specs.Call.{Call, Lent, answer, accepted}
+use Rattle.calls.specs.Call.{Call, Lent, NoneGiven, answer, accepted}
 use Rattle.calls.specs.Parts.{areaBad}
-use Rattle.calls.specs.Ladder.{answerOf}
-use Rattle.calls.specs.Effect.{storesOf, lentOf, filledOf}
-use Rattle.calls.specs.Step.{Done, step, isAccepted}
+use Rattle.calls.specs.Ladder.{firstRow, admission}
+use Rattle.calls.specs.Meaning.{meaningOf, rowsOf, answerOf, storesOf, lentOf, filledOf, givenOf}
+use Rattle.calls.specs.Step.{Done, step, done, isAccepted}
+use Rattle.calls.proofs.RowLaws.{not-admitted}
 
 -- what a call does, given its answer
 module _ (k : Call) (c : List ℕ) where
-  abbrev done : Answer → Lent → List ℕ → Done
-  done a l card = record { outcome = record { answer = a; lent = l }; card = card }
-
   pub step-refused : (n p : ℕ) → answerOf k c ≡ answer n p → eqb n 0 ≡ false → done (answer n p) (lentOf k) c ≡ step k c
   unfolding step
   step-refused n p e z = rw (e, z)
 
-  pub step-accepted : answerOf k c ≡ accepted → (l : Lent) → l ≡ filledOf k c → (card : List ℕ) → card ≡ storeAll c (storesOf k c) → done accepted l card ≡ step k c
+  -- the same of a call that is not admitted
+  pub step-barred : (a : Answer) → a ≡ firstRow (admission c) → (a .number ≡ 0 → ⊥) → done a (lentOf k) c ≡ step k c
+  unfolding step answerOf rowsOf
+  step-barred a asked h = rw (not-admitted c a asked (meaningOf k .rows c) h, ne-eqb (a .number) 0 h)
+
+  pub step-accepted : answerOf k c ≡ accepted → (l : Lent) → l ≡ filledOf k c → (card : List ℕ) → card ≡ storeAll c (storesOf k c) → givenOf k c ≡ NoneGiven → done accepted l card ≡ step k c
   unfolding step
-  step-accepted e l f card g = rw (e, f, g)
+  step-accepted e l f card g h = rw (e, f, g, h)
 
   -- the answer is that of the rows, and what was lent is filled where it is accepted
   abbrev by-test : Bool → Done
-  by-test t = pick t (done (answerOf k c) (filledOf k c) (storeAll c (storesOf k c))) (done (answerOf k c) (lentOf k) c)
+  by-test t = pick t (record { outcome = record { answer = answerOf k c; lent = filledOf k c; given = givenOf k c }; card = storeAll c (storesOf k c) }) (done (answerOf k c) (lentOf k) c)
 
   -- the card after an accepted call
   pub accepted-card : isAccepted (answerOf k c) ≡ true → step k c .card ≡ storeAll c (storesOf k c)

@@ -25,12 +25,13 @@ use Rattle.entries.proofs.EntryLaws.{through-beta, through-end, through-volume,
 use Rattle.calls.specs.declared.answer.Answer.{Answer}
 use Rattle.calls.specs.Call.{Call, Write, Block, answer, accepted}
 use Rattle.calls.specs.Parts.{areaBad, isMisplaced, holderOf}
-use Rattle.calls.specs.Ladder.{firstRow, writeRows, rowsOf, answerOf}
-use Rattle.calls.specs.Effect.{Written, written, WriteReady, lentOf, filledOf, writeStores, storesOf}
-use Rattle.calls.specs.Step.{Done, step}
+use Rattle.calls.specs.Ladder.{admission, firstRow, writeRows}
+use Rattle.calls.specs.Effect.{Written, written, WriteReady, writeStores}
+use Rattle.calls.specs.Meaning.{rowsOf, answerOf, lentOf, filledOf, storesOf, givenOf}
+use Rattle.calls.specs.Step.{Done, step, done}
 use Rattle.calls.proofs.StepLaws.{step-refused, step-accepted}
 use Rattle.calls.proofs.CardLaws.{card-some, card-found, card-active, card-through, card-small}
-use Rattle.calls.proofs.RowLaws.{area-passed, block-given, block-passed, chain-given, chain-passed, volume-given, volume-passed}
+use Rattle.calls.proofs.RowLaws.{admitted, admitted-card, admitted, block-given, block-passed, chain-given, chain-passed, volume-given, volume-passed}
 
 -- need, where a set entry is not overwritten, says whether the table block is new
 new-by : (s t : Bool) (n : ℕ) → n ≡ pick s 0 (pick t 2 1) → (n ≡ 0 → ⊥) → t ≡ eqb n 2
@@ -107,19 +108,19 @@ module _ (c : List ℕ) (d : Descriptor) (m p : Physical) (l : ℕ) (block : Lis
           ∙ ap (storeAll (storeBlock c (d .beta .0) block)) kept
           ∙ rw (← need-is, ne-eqb n 0 some, need-new (d .alpha .0) n m p need-is some, ne-eqb n 2 z))
 
--- the rows of a write that follow the area's, in the order of the code
-module _ (c : List ℕ) (l : ℕ) (block : List ℕ) (bad : Bool) (area : bad ≡ areaBad c) (card : bad ≡ false) where
+-- the rows of a write that follow admission, in the order of the code
+module _ (c : List ℕ) (l : ℕ) (block : List ℕ) (a : Answer) (asked : a ≡ firstRow (admission c)) (card : a .number ≡ 0) where
   abbrev call : Call
   call = Write l block
 
   pub write-9 : (length block ≡ 512 → ⊥) → answerOf call c ≡ answer 9 0
   unfolding answerOf rowsOf writeRows
-  write-9 h = area-passed _ c bad area card ∙ block-given _ block h
+  write-9 h = admitted c a asked _ card ∙ block-given _ block h
 
   module _ (long : length block ≡ 512) (r : Regions) (walked : r ≡ regionsOf (chain c)) where
-    to-chain : answerOf call c ≡ firstRow (drop 2 (writeRows c l block))
+    to-chain : answerOf call c ≡ firstRow (drop 1 (writeRows c l block))
     unfolding answerOf rowsOf writeRows
-    to-chain = area-passed _ c bad area card ∙ block-passed _ block long
+    to-chain = admitted c a asked _ card ∙ block-passed _ block long
 
     pub write-6 : not (r .sound) ≡ true → answerOf call c ≡ answer 6 (r .place .0)
     unfolding writeRows
@@ -133,7 +134,7 @@ module _ (c : List ℕ) (l : ℕ) (block : List ℕ) (bad : Bool) (area : bad �
       ds = descriptors (chain c)
 
       good : areaBad c ≡ false
-      good = sym area ∙ card
+      good = admitted-card c a asked card
 
       ok : r .sound ≡ true
       ok = not-false (r .sound) whole
@@ -144,7 +145,7 @@ module _ (c : List ℕ) (l : ℕ) (block : List ℕ) (bad : Bool) (area : bad �
       pub write-through : Through c (r .starts) (r .count) d
       write-through = card-through c r walked good ok (r .count - 1) (omega (arith, card-some c r walked good ok)) d (card-active c r walked good ok)
 
-      to-volume : answerOf call c ≡ firstRow (drop 3 (writeRows c l block))
+      to-volume : answerOf call c ≡ firstRow (drop 2 (writeRows c l block))
       unfolding writeRows
       to-volume = to-chain ∙ chain-passed _ c r walked whole
 
@@ -153,7 +154,7 @@ module _ (c : List ℕ) (l : ℕ) (block : List ℕ) (bad : Bool) (area : bad �
       write-8 h = to-volume ∙ volume-given _ c r walked good ok l h
 
       module _ (below : l < d .volume) (f : Found) (found-is : f ≡ find c ds d l) where
-        to-found : answerOf call c ≡ firstRow (drop 4 (writeRows c l block))
+        to-found : answerOf call c ≡ firstRow (drop 3 (writeRows c l block))
         unfolding writeRows
         to-found = to-volume ∙ volume-passed _ c r walked good ok l below
 
@@ -179,8 +180,8 @@ module _ (c : List ℕ) (l : ℕ) (block : List ℕ) (bad : Bool) (area : bad �
 
         done-by : (t : Bool) → ltb (blockCount c) (d .beta .0 + need (d .alpha .0) f) ≡ t → isMisplaced f ≡ false → (a : Answer) (c′ : List ℕ)
             → _≡_ {A = Written} (record { answer = a; card = c′ }) (pick t (record { answer = answer 11 0; card = c }) (record { answer = accepted; card = storeAll c (writing c d f l block) }))
-            → _≡_ {A = Done} (record { outcome = record { answer = a; lent = Block block }; card = c′ }) (step call c)
-        unfolding lentOf filledOf storesOf writeStores
+            → _≡_ {A = Done} (done a (Block block) c′) (step call c)
+        unfolding lentOf filledOf storesOf givenOf writeStores
         done-by true e g a c′ h =
             let a-is : a ≡ answer 11 0 = ap (λ (x : Written). x .answer) h in
             let c-is : c′ ≡ c = ap (λ (x : Written). x .card) h in
@@ -188,9 +189,9 @@ module _ (c : List ℕ) (l : ℕ) (block : List ℕ) (bad : Bool) (area : bad �
         done-by false e g a c′ h =
             let a-is : a ≡ accepted = ap (λ (x : Written). x .answer) h in
             let c-is : c′ ≡ storeAll c (writing c d f l block) = ap (λ (x : Written). x .card) h in
-            rw a-is (step-accepted call c (rest ∙ rw (g, e)) (Block block) refl c′ (c-is ∙ rw (active-is, found-is)))
+            rw a-is (step-accepted call c (rest ∙ rw (g, e)) (Block block) refl c′ (c-is ∙ rw (active-is, found-is)) refl)
 
         pub write-done : (m p : Physical) → f ≡ Entry m p → (a : Answer) (c′ : List ℕ) → _≡_ {A = Written} (record { answer = a; card = c′ }) (written c d (Entry m p) l block)
-            → _≡_ {A = Done} (record { outcome = record { answer = a; lent = Block block }; card = c′ }) (step call c)
+            → _≡_ {A = Done} (done a (Block block) c′) (step call c)
         unfolding written isMisplaced
         write-done m p e a c′ h = done-by (ltb (blockCount c) (d .beta .0 + need (d .alpha .0) f)) refl (rw e) a c′ (rw e h)

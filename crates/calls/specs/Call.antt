@@ -22,10 +22,15 @@ pub data Lent : Type 0 where
   Block : List ℕ → Lent
   Records : List Record → Lent
 
--- what a call answers: number and place, and the content at exit of what was lent besides the card. No call returns anything else
+-- what a call returns besides number and place: no call returns anything more
+pub data Given : Type 0 where
+  NoneGiven : Given
+
+-- what a call answers: number and place, the content at exit of what was lent besides the card, and whatever else the call returns
 pub record Outcome : Type 0 where
   pub answer : Answer
   pub lent : Lent
+  pub given : Given
 
 abbrev pub answer : ℕ → ℕ → Answer
 answer n p = record { number = n; place = p }

@@ -2,20 +2,20 @@
 use mathlib.Core.Path.{_≡_}
 use mathlib.Core.List.{List, [], _∷_, _++_}
 use Prim.Native.Nat.{ℕ, _+_, _*_, _-_, _≤_, _<_}
-use lib.ListN.{length, drop}
+use lib.ListN.{length}
 use Rattle.blocks.specs.Pick.{pick}
 use lib.Dec.{ltb}
 use Rattle.blocks.specs.Bytes.{blockSize, Store, store, blockCount, storeAll}
 use Rattle.blocks.specs.Name.{noName}
-use Rattle.blocks.specs.Descriptor.{physical, mostVolume, costOf, tailAt, descriptorBlock, renamedOf, linkedOf, reopenedOf, copying, opening}
+use Rattle.blocks.specs.Descriptor.{physical, mostVolume, costOf, tailAt, descriptorBlock, renamedOf, linkedOf, reopenedOf, copying}
 use Rattle.blocks.specs.declared.descriptor.Descriptor.{Descriptor}
 use Rattle.blocks.specs.Chain.{activeOf}
 use Rattle.entries.specs.Entry.{need, writing}
 use Rattle.entries.specs.declared.find.Found.{Found}
 use Rattle.calls.specs.declared.answer.Answer.{Answer}
 use Rattle.calls.specs.declared.answer.Record.{Record}
-use Rattle.calls.specs.Call.{Call, Ream, Read, Write, Snap, Revert, Listing, Check, Lent, None, Block, Records, answer, accepted}
-use Rattle.calls.specs.Parts.{descriptorsOf, snapshotsOf, withName, targetOf, foundThrough, isMisplaced, holderOf, blockFound}
+use Rattle.calls.specs.Call.{answer, accepted}
+use Rattle.calls.specs.Parts.{descriptorsOf, snapshotsOf, withName, foundThrough, isMisplaced, holderOf, blockFound}
 
 -- a snapshot of the active descriptor d: the copy at beta, tables first and rising, then the old descriptor under the visit's name, linked to the copy
 unfoldable pub snapping : List ℕ → Descriptor → List ℕ → List Store
@@ -38,16 +38,6 @@ snapStores c name = snapping c (activeOf (descriptorsOf c)) name
 
 unfoldable pub revertStores : List ℕ → List ℕ → List Store
 revertStores c name = let ds = descriptorsOf c in reverting c (withName (snapshotsOf ds) name) (activeOf ds .name)
-
--- the stores of an accepted call
-unfoldable pub storesOf : Call → List ℕ → List Store
-storesOf (Ream layout volume name) c = opening layout volume name
-storesOf (Read target name l block) c = []
-storesOf (Write l block) c = writeStores c l block
-storesOf (Snap name) c = snapStores c name
-storesOf (Revert name) c = revertStores c name
-storesOf (Listing records) c = []
-storesOf Check c = []
 
 -- a record of zeros
 abbrev pub noRecord : Record
@@ -89,23 +79,3 @@ pub record WriteReady (c : List ℕ) (d : Descriptor) (m p l : ℕ) (block : Lis
   pub entry : (p ≡ 0 → ⊥) → p < d .beta .0
   pub number : l < mostVolume
   pub whole : length block ≡ blockSize
-
--- what is lent to a call, at entry
-unfoldable pub lentOf : Call → Lent
-lentOf (Ream layout volume name) = None
-lentOf (Read target name l block) = Block block
-lentOf (Write l block) = Block block
-lentOf (Snap name) = None
-lentOf (Revert name) = None
-lentOf (Listing records) = Records records
-lentOf Check = None
-
--- the same as an accepted call leaves it: a read fills the block, a listing the first records
-unfoldable pub filledOf : Call → List ℕ → Lent
-filledOf (Ream layout volume name) c = None
-filledOf (Read target name l block) c = Block (blockFound c (foundThrough c (targetOf (descriptorsOf c) target name) l))
-filledOf (Write l block) c = Block block
-filledOf (Snap name) c = None
-filledOf (Revert name) c = None
-filledOf (Listing records) c = let ds = descriptorsOf c in Records (listed ds (drop (length ds) records))
-filledOf Check c = None

@@ -13,7 +13,7 @@ use Rattle.entries.specs.Entry.{need}
 use Rattle.calls.specs.declared.answer.Answer.{Answer}
 use Rattle.calls.specs.declared.answer.Target.{Target}
 use Rattle.calls.specs.declared.answer.Record.{Record}
-use Rattle.calls.specs.Call.{Call, Ream, Read, Write, Snap, Revert, Listing, Check, answer, accepted}
+use Rattle.calls.specs.Call.{answer, accepted}
 use Rattle.calls.specs.Parts.{areaBad, descriptorsOf, snapshotsOf, targetOf, isSnapshot, foundThrough, isMisplaced, holderOf, mostSnapshots}
 use Rattle.calls.specs.Check.{checkCard, isFault, faultHolder}
 
@@ -44,14 +44,18 @@ blockRow block = row (not (eqb (length block) blockSize)) 9 0
 abbrev pub chainRow : List ℕ → Row
 chainRow c = row (not (chainSound (chain c))) 6 (chainPlace (chain c))
 
+-- what is asked before the rows of any call
+unfoldable pub admission : List ℕ → List Row
+admission c = areaRow c ∷ []
+
 -- L is one for all descriptors of a sound chain
 abbrev pub volumeRow : List ℕ → ℕ → Row
 volumeRow c l = row (leb (activeOf (descriptorsOf c) .volume) l) 8 0
 
+-- the rows of each call after those of admission
 unfoldable pub reamRows : List ℕ → ℕ → ℕ → List ℕ → List Row
 reamRows c layout volume name =
-    areaRow c
-    ∷ row (not (eqb layout 1 || eqb layout 2)) 2 0
+    row (not (eqb layout 1 || eqb layout 2)) 2 0
     ∷ row (eqb volume 0 || ltb mostVolume volume) 3 0
     ∷ nameRow name
     ∷ row (ltb (blockCount c) (cost layout volume)) 5 0
@@ -61,8 +65,7 @@ unfoldable pub readRows : List ℕ → Target → List ℕ → ℕ → List ℕ 
 readRows c target name l block =
     let ds = descriptorsOf c in
     let found = foundThrough c (targetOf ds target name) l in
-    areaRow c
-    ∷ row (isSnapshot target && not (isName name)) 4 0
+    row (isSnapshot target && not (isName name)) 4 0
     ∷ blockRow block
     ∷ chainRow c
     ∷ row (isSnapshot target && not (named (snapshotsOf ds) name)) 7 0
@@ -74,8 +77,7 @@ unfoldable pub writeRows : List ℕ → ℕ → List ℕ → List Row
 writeRows c l block =
     let d = activeOf (descriptorsOf c) in
     let found = foundThrough c d l in
-    areaRow c
-    ∷ blockRow block
+    blockRow block
     ∷ chainRow c
     ∷ volumeRow c l
     ∷ row (isMisplaced found) 10 (holderOf found)
@@ -86,8 +88,7 @@ unfoldable pub snapRows : List ℕ → List ℕ → List Row
 snapRows c name =
     let ds = descriptorsOf c in
     let d = activeOf ds in
-    areaRow c
-    ∷ nameRow name
+    nameRow name
     ∷ chainRow c
     ∷ row (named ds name) 12 0
     ∷ row (leb mostSnapshots (length (snapshotsOf ds))) 13 0
@@ -95,24 +96,10 @@ snapRows c name =
     ∷ []
 
 unfoldable pub revertRows : List ℕ → List ℕ → List Row
-revertRows c name = areaRow c ∷ nameRow name ∷ chainRow c ∷ row (not (named (snapshotsOf (descriptorsOf c)) name)) 7 0 ∷ []
+revertRows c name = nameRow name ∷ chainRow c ∷ row (not (named (snapshotsOf (descriptorsOf c)) name)) 7 0 ∷ []
 
 unfoldable pub listRows : List ℕ → List Record → List Row
-listRows c records = areaRow c ∷ chainRow c ∷ row (ltb (length records) (length (descriptorsOf c))) 14 0 ∷ []
+listRows c records = chainRow c ∷ row (ltb (length records) (length (descriptorsOf c))) 14 0 ∷ []
 
 unfoldable pub checkRows : List ℕ → List Row
-checkRows c = areaRow c ∷ chainRow c ∷ row (isFault (checkCard c)) 10 (faultHolder (checkCard c)) ∷ []
-
--- the rows of a call on a card
-unfoldable pub rowsOf : Call → List ℕ → List Row
-rowsOf (Ream layout volume name) c = reamRows c layout volume name
-rowsOf (Read target name l block) c = readRows c target name l block
-rowsOf (Write l block) c = writeRows c l block
-rowsOf (Snap name) c = snapRows c name
-rowsOf (Revert name) c = revertRows c name
-rowsOf (Listing records) c = listRows c records
-rowsOf Check c = checkRows c
-
--- number and place of a call's answer
-unfoldable pub answerOf : Call → List ℕ → Answer
-answerOf k c = firstRow (rowsOf k c)
+checkRows c = chainRow c ∷ row (isFault (checkCard c)) 10 (faultHolder (checkCard c)) ∷ []

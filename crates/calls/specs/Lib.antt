@@ -4,5 +4,6 @@ pub mod Parts
 pub mod Check
 pub mod Ladder
 pub mod Effect
+pub mod Meaning
 pub mod Step
 pub mod Listing

@@ -12,7 +12,8 @@ use Rattle.calls.specs.declared.list.Filling.{Filling}
 use Rattle.calls.specs.declared.list.Plan.{Plan}
 use Rattle.calls.specs.Call.{Listing, answer}
 use Rattle.calls.specs.Parts.{areaBad, descriptorsOf}
-use Rattle.calls.specs.Ladder.{answerOf}
+use Rattle.calls.specs.Ladder.{firstRow, admission}
+use Rattle.calls.specs.Meaning.{answerOf}
 use Rattle.calls.specs.Step.{isAccepted}
 
 -- an answer and a number of records to fill
@@ -33,11 +34,11 @@ fillingBy sound place count room = pick sound (pick (ltb room count) (fillingWit
 abbrev pub noStarts : List ℕ
 noStarts = replicate (mostDescriptors + 1) 0
 
--- these, and where the regions start, by the walk, which gives zeros where the chain is unsound; zeros where the area is no card
+-- these, and where the regions start, by the walk, which gives zeros where the chain is unsound; zeros where the call is not admitted
 unfoldable pub planOf : List ℕ → List Record → Plan
 planOf c records =
     let f = fillingOf c records in
-    record { answer = f .answer; count = f .count; starts = pick (areaBad c) noStarts (regionsOf (chain c) .starts) }
+    record { answer = f .answer; count = f .count; starts = pick (isAccepted (firstRow (admission c))) (regionsOf (chain c) .starts) noStarts }
 
 -- the record of region k of n, by where the regions start: the name is that of the descriptor there
 unfoldable pub recordBy : List ℕ → List ℕ → ℕ → ℕ → Record

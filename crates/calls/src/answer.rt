@@ -6,6 +6,72 @@ pub struct Answer {
     pub place: u32,
 }
 
+// The answers with place 0, by their numbers.
+pub const ACCEPTED: Answer = Answer {
+    number: 0,
+    place: 0,
+};
+
+pub const NO_CARD: Answer = Answer {
+    number: 1,
+    place: 0,
+};
+
+pub const BAD_LAYOUT: Answer = Answer {
+    number: 2,
+    place: 0,
+};
+
+pub const BAD_VOLUME: Answer = Answer {
+    number: 3,
+    place: 0,
+};
+
+pub const BAD_NAME: Answer = Answer {
+    number: 4,
+    place: 0,
+};
+
+pub const CARD_TOO_SMALL: Answer = Answer {
+    number: 5,
+    place: 0,
+};
+
+pub const NO_SNAPSHOT: Answer = Answer {
+    number: 7,
+    place: 0,
+};
+
+pub const PAST_THE_VOLUME: Answer = Answer {
+    number: 8,
+    place: 0,
+};
+
+pub const BAD_BLOCK: Answer = Answer {
+    number: 9,
+    place: 0,
+};
+
+pub const NO_ROOM: Answer = Answer {
+    number: 11,
+    place: 0,
+};
+
+pub const NAME_IN_USE: Answer = Answer {
+    number: 12,
+    place: 0,
+};
+
+pub const TOO_MANY_SNAPSHOTS: Answer = Answer {
+    number: 13,
+    place: 0,
+};
+
+pub const LIST_TOO_SHORT: Answer = Answer {
+    number: 14,
+    place: 0,
+};
+
 // What a read reads: the active store, or the snapshot whose name stands beside.
 pub enum Target {
     Active,

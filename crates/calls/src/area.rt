@@ -1,9 +1,12 @@
-// The test of the area that all calls share.
+// What is asked before the tests of any call.
+use crate::answer;
+use crate::answer::Answer;
 ghost use mathlib.Core.Path.{_≡_};
 ghost use Rattle.calls.specs.Parts.{areaBad};
+ghost use Rattle.calls.specs.Ladder.{firstRow, admission};
 
 // Whether the area is no card, by its length alone.
-pub fn is_bad(card: &[u8]) -> bool
+fn is_bad(card: &[u8]) -> bool
     ensures { λ r. ⌜ r ≡ areaBad (now (card .entry)) ⌝ }
 {
     if card.len() % 512 != 0 {
@@ -14,4 +17,14 @@ pub fn is_bad(card: &[u8]) -> bool
         return true;
     }
     65536 < n
+}
+
+// The answer to what is asked before the tests of any call: that the area is a card.
+pub fn admit(card: &[u8]) -> Answer
+    ensures { λ r. ⌜ r ≡ firstRow (admission (now (card .entry))) ⌝ }
+{
+    if is_bad(card) {
+        return answer::NO_CARD;
+    }
+    answer::ACCEPTED
 }

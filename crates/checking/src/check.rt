@@ -1,6 +1,7 @@
 // The check of a card.
 use blocks::descriptor;
 use blocks::descriptor::Descriptor;
+use calls::answer;
 use calls::answer::Answer;
 use calls::area;
 use entries::check::Verdict;
@@ -16,7 +17,7 @@ ghost use Rattle.entries.specs.Marks.{openingsFlagged};
 ghost use Rattle.calls.specs.Call.{Check, None};
 ghost use Rattle.calls.specs.Parts.{areaBad};
 ghost use Rattle.calls.specs.Check.{checkCard, takingChain};
-ghost use Rattle.calls.specs.Step.{step};
+ghost use Rattle.calls.specs.Step.{step, done};
 
 // The verdict on the descriptors of a sound chain, in chain order. `seen` is zero, with a byte for each block of the card or more.
 fn check_chain(
@@ -77,13 +78,11 @@ fn check_regions(card: &[u8], active: Descriptor, starts: &[u32], count: usize) 
 
 // Checks the card.
 pub fn check(card: &[u8]) -> Answer
-    ensures { λ r. ⌜ record { outcome = record { answer = r; lent = None }; card = now (card .entry) } ≡ step Check (now (card .entry)) ⌝ }
+    ensures { λ r. ⌜ done r None (now (card .entry)) ≡ step Check (now (card .entry)) ⌝ }
 {
-    if area::is_bad(card) {
-        return Answer {
-            number: 1,
-            place: 0,
-        };
+    let admitted = area::admit(card);
+    if admitted.number != 0 {
+        return admitted;
     }
     let found = chain::walk_chain(card);
     let count = found.count;
@@ -93,10 +92,7 @@ pub fn check(card: &[u8]) -> Answer
         return Answer { number: 6, place };
     }
     match check_regions(card, active, &found.starts, count) {
-        Verdict::Passed => Answer {
-            number: 0,
-            place: 0,
-        },
+        Verdict::Passed => answer::ACCEPTED,
         Verdict::Fault(h) => Answer {
             number: 10,
             place: h.0,

@@ -15,11 +15,12 @@ use Rattle.blocks.proofs.ChainLaws.{active-snoc}
 use Rattle.entries.specs.Entry.{find, need}
 use Rattle.calls.specs.Call.{Call}
 use Rattle.calls.specs.Parts.{descriptorsOf, snapshotsOf, withName}
-use Rattle.calls.specs.Ladder.{answerOf}
+use Rattle.calls.specs.Meaning.{answerOf}
 use Rattle.calls.specs.Effect.{writeStores, snapStores, revertStores}
 use Rattle.calls.specs.Step.{step, isAccepted}
 use Rattle.claims.specs.History.{betaOf, Agree, isFormat, formats}
-use Rattle.claims.proofs.Agreement.{agree-below, agree-chain, agree-answer}
+use Rattle.claims.proofs.Agreement.{agree-below, agree-chain}
+use Rattle.claims.proofs.AgreeAnswer.{agree-answer}
 use Rattle.claims.proofs.StoreLists.{Whole, isStored, stored-length, stored-both, stored-anyway, blocks-taken}
 use Rattle.claims.proofs.Inside.{write-whole, snap-whole, revert-whole}
 use Rattle.claims.proofs.ChainAfter.{before, active-append, reverted-chain}
@@ -28,7 +29,9 @@ use Rattle.claims.proofs.SameStores.{v-below, same-revert, same-snap, s
 use Rattle.claims.proofs.WrittenChain.{written-chain}
 use Rattle.calls.proofs.Passed.{WritePassed, SnapPassed, RevertPassed}
 use Rattle.claims.specs.Kinds.{Kind, kindOf}
-use Rattle.claims.proofs.Changes.{storesBy, Allowed, to-format, to-leave, to-write, to-snap, to-revert, call-stores, call-allowed, step-cases}
+use Rattle.claims.proofs.Changes.{storesBy, Allowed, to-format, to-leave, to-write, to-snap, to-revert}
+use Rattle.claims.proofs.Steps.{step-cases}
+use Rattle.claims.proofs.Owed.{owed}
 
 -- the same stores on two cards that agree: they agree again, where every block below the new beta was below the old one or is stored
 module _ (s t : List ℕ) (agree : Agree s t) (ss : List Store) (whole : Whole (length s) ss) (ds : List Descriptor)
@@ -117,8 +120,8 @@ module _ (s t : List ℕ) (agree : Agree s t) where
   step-by : (k : Call) (b : Bool) → isAccepted (answerOf k t) ≡ b → isFormat k s ≡ false → Agree (step k s .card) (step k t .card)
   unfolding step
   step-by k true e f =
-      rw (e, call-stores k t)
-      (step-cases k s (λ (c : List ℕ). Agree c (storeAll t (storesBy (kindOf k) t))) (λ z. no (sym z ∙ ap isAccepted (agree-answer s t agree k) ∙ e)) (λ z n a. after-change n a (call-allowed k t e)) f)
+      rw (e, owed k .stores t)
+      (step-cases k s (λ (c : List ℕ). Agree c (storeAll t (storesBy (kindOf k) t))) (λ z. no (sym z ∙ ap isAccepted (agree-answer s t agree k) ∙ e)) (λ z n a. after-change n a (owed k .allowed t e)) f)
   step-by k false e f = rw e (step-cases k s (λ (c : List ℕ). Agree c t) (λ z. agree) (λ z n a. no (sym e ∙ ap isAccepted (sym (agree-answer s t agree k)) ∙ z)) f)
 
   pub agree-step : (k : Call) → isFormat k s ≡ false → Agree (step k s .card) (step k t .card)

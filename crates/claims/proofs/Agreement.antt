@@ -1,7 +1,7 @@
 -- Two cards that agree, that is with equal bytes below one beta, have one chain, and every call has the same outcome on both.
 use mathlib.Core.Path.{_≡_, refl, sym, ap, _∙_}
 use mathlib.Core.Bool.{Bool, true, false, not, _&&_}
-use mathlib.Core.List.{List, [], _∷_}
+use mathlib.Core.List.{List, [], _∷_, _++_}
 use Prim.Native.Nat.{ℕ, suc, _+_, _*_, _-_, _/_, _≤_, _<_}
 use native.Mathlib.Omega.{arith}
 use lib.ListN.{length, take, getD}
@@ -9,7 +9,7 @@ use lib.Seq.{length-take-le, getD-take}
 use lib.Dec.{ltb}
 use borrow.Author.Tests.{leb-false, not-false}
 use Rattle.blocks.specs.Pick.{pick}
-use Rattle.blocks.specs.Bytes.{part, blockCount, blockAt, storeAll}
+use Rattle.blocks.specs.Bytes.{part, blockCount, blockAt}
 use Rattle.blocks.specs.Descriptor.{noDescriptor, descriptorAt}
 use Rattle.blocks.specs.Chain.{Sound, chain, named, activeOf, indexOf}
 use Rattle.blocks.specs.declared.descriptor.Descriptor.{Descriptor}
@@ -23,18 +23,18 @@ use Rattle.entries.specs.declared.find.Found.{Found}
 use Rattle.calls.specs.declared.answer.Answer.{Answer}
 use Rattle.calls.specs.declared.answer.Target.{Target}
 use Rattle.calls.specs.declared.answer.Target.the-variants.{Active, Snapshot}
-use Rattle.calls.specs.Call.{Call, Ream, Read, Write, Snap, Revert, Listing, Check, Lent, Block, answer}
+use Rattle.calls.specs.Call.{Read, Listing, Block, answer}
 use Rattle.calls.specs.Parts.{areaBad, descriptorsOf, snapshotsOf, isSnapshot, targetOf, isMisplaced, holderOf, blockFound}
 use Rattle.calls.specs.Check.{checkAll, checkCard}
-use Rattle.calls.specs.Ladder.{Row, row, firstRow, reamRows, readRows, writeRows, snapRows, revertRows, listRows, checkRows, rowsOf, answerOf}
-use Rattle.calls.specs.Effect.{storesOf, lentOf, filledOf}
-use Rattle.calls.specs.Step.{Done, step, isAccepted}
+use Rattle.calls.specs.Ladder.{Row, row, firstRow, reamRows, readRows, writeRows, snapRows, revertRows, listRows, checkRows, admission}
+use Rattle.calls.specs.Meaning.{filledOf}
 use Rattle.claims.specs.History.{betaOf, Agree}
 use Rattle.calls.proofs.CardLaws.{snapshots-at, chain-is}
-use Rattle.calls.proofs.Passed.{read-passed}
+use Rattle.calls.proofs.Passed.{ReadPassed}
 use Rattle.claims.proofs.Local.{Below, below-linked, linked-chain}
 use Rattle.claims.proofs.LocalEntries.{Region, local-find, local-block, local-check}
 use Rattle.claims.proofs.ChainBlocks.{own-inside, few-tables}
+use Rattle.calls.specs.declared.answer.Record.{Record}
 
 -- the last region ends at the active beta
 pub end-from : (p : ℕ) (d : Descriptor) (ds : List Descriptor) → regionStart p (d ∷ ds) (length (d ∷ ds)) ≡ activeOf (d ∷ ds) .beta .0
@@ -52,7 +52,7 @@ unfolding blockAt
 taken-block s b p h l = let e : 0 + 512 * p ≡ 512 * p = omega arith in sym (part-part s 0 (512 * b) (512 * p) 512 (omega arith) (omega arith) ∙ ap (λ (n : ℕ). part s n 512) e)
 
 -- rows that are the same as far as they decide
-data SameRows : List Row → List Row → Type 0 where
+pub data SameRows : List Row → List Row → Type 0 where
   same-rows : {xs ys : List Row} → xs ≡ ys → SameRows xs ys
   then : {r : Row} {xs ys : List Row} → (r .holds ≡ false → SameRows xs ys) → SameRows (r ∷ xs) (r ∷ ys)
 
@@ -60,7 +60,12 @@ rows-by : (r : Row) (x y : Answer) (b : Bool) → r .holds ≡ b → (r .holds �
 rows-by r x y true e h = refl
 rows-by r x y false e h = h e
 
-first-same : {xs ys : List Row} → SameRows xs ys → firstRow xs ≡ firstRow ys
+-- so they are after the same rows
+pub prefix-same : (zs : List Row) {xs ys : List Row} → SameRows xs ys → SameRows (zs ++ xs) (zs ++ ys)
+prefix-same [] h = h
+prefix-same (z ∷ zs) h = then (λ e. prefix-same zs h)
+
+pub first-same : {xs ys : List Row} → SameRows xs ys → firstRow xs ≡ firstRow ys
 unfolding firstRow
 first-same (same-rows e) = ap firstRow e
 first-same (then {r = r} {xs = xs} {ys = ys} h) = rows-by r (firstRow xs) (firstRow ys) (r .holds) refl (λ e. first-same (h e))
@@ -84,9 +89,6 @@ module _ (ds : List Descriptor) (some : 0 < length ds) where
 pub active-target : (ds : List Descriptor) → targetOf ds Active [] ≡ activeOf ds
 unfolding targetOf
 active-target ds = refl
-
-abbrev done : Answer → Lent → List ℕ → Done
-done a l card = record { outcome = record { answer = a; lent = l }; card = card }
 
 module _ (s t : List ℕ) (agree : Agree s t) where
   abbrev ds : List Descriptor
@@ -184,51 +186,51 @@ module _ (s t : List ℕ) (agree : Agree s t) where
   unfolding checkCard
   check-card = rw (← agree-chain) (check-rest ds agree-region)
 
-  -- every call has the same answer
-  read-rows : (target : Target) (name : List ℕ) (l : ℕ) (block : List ℕ) → SameRows (readRows s target name l block) (readRows t target name l block)
+  -- the rows of each call are the same, as far as they decide
+  pub agree-admission : admission s ≡ admission t
+  unfolding admission
+  agree-admission = rw agree-area
+
+  pub ream-rows : (layout volume : ℕ) (name : List ℕ) → SameRows (reamRows s layout volume name) (reamRows t layout volume name)
+  unfolding reamRows
+  ream-rows layout volume name = let e : reamRows s layout volume name ≡ reamRows t layout volume name = rw agree-count in same-rows e
+
+  pub read-rows : (target : Target) (name : List ℕ) (l : ℕ) (block : List ℕ) → SameRows (readRows s target name l block) (readRows t target name l block)
   unfolding readRows
   read-rows target name l block =
-      rw (← agree-area, ← agree-chain)
-      (then (λ a. then (λ b. then (λ c. then (λ d. then (λ e. then (λ f. same-rows (ap (λ (x : Found). row (isMisplaced x) 10 (holderOf x) ∷ []) (found-same target name l e (leb-false (activeOf ds .volume) l f))))))))))
+      rw (← agree-chain)
+      (then (λ b. then (λ c. then (λ d. then (λ e. then (λ f. same-rows (ap (λ (x : Found). row (isMisplaced x) 10 (holderOf x) ∷ []) (found-same target name l e (leb-false (activeOf ds .volume) l f)))))))))
 
-  write-rows : (l : ℕ) (block : List ℕ) → SameRows (writeRows s l block) (writeRows t l block)
+  pub write-rows : (l : ℕ) (block : List ℕ) → SameRows (writeRows s l block) (writeRows t l block)
   unfolding writeRows
   write-rows l block =
       let d = activeOf ds in
-      rw (← agree-area, ← agree-chain, ← agree-count)
-      (then (λ a. then (λ b. then (λ c. then (λ e. same-rows (ap
+      rw (← agree-chain, ← agree-count)
+      (then (λ b. then (λ c. then (λ e. same-rows (ap
       (λ (x : Found). row (isMisplaced x) 10 (holderOf x) ∷ row (ltb (blockCount s) (d .beta .0 + need (d .alpha .0) x)) 11 0 ∷ [])
-      (rw (active-target ds) at (found-same Active [] l refl (leb-false (d .volume) l e)))))))))
+      (rw (active-target ds) at (found-same Active [] l refl (leb-false (d .volume) l e))))))))
 
-  pub agree-answer : (k : Call) → answerOf k s ≡ answerOf k t
-  unfolding answerOf rowsOf reamRows snapRows revertRows listRows checkRows
-  agree-answer (Ream layout volume name) = rw (agree-area, agree-count)
-  agree-answer (Read target name l block) = first-same (read-rows target name l block)
-  agree-answer (Write l block) = first-same (write-rows l block)
-  agree-answer (Snap name) = rw (agree-area, agree-chain, agree-count)
-  agree-answer (Revert name) = rw (agree-area, agree-chain)
-  agree-answer (Listing records) = rw (agree-area, agree-chain)
-  agree-answer Check = rw (agree-area, agree-chain, check-card)
+  pub snap-rows : (name : List ℕ) → SameRows (snapRows s name) (snapRows t name)
+  unfolding snapRows
+  snap-rows name = let e : snapRows s name ≡ snapRows t name = rw (agree-chain, agree-count) in same-rows e
 
-  -- and leaves the same in what was lent, where it is accepted
-  agree-filled : (k : Call) → isAccepted (answerOf k s) ≡ true → filledOf k s ≡ filledOf k t
+  pub revert-rows : (name : List ℕ) → SameRows (revertRows s name) (revertRows t name)
+  unfolding revertRows
+  revert-rows name = let e : revertRows s name ≡ revertRows t name = rw agree-chain in same-rows e
+
+  pub list-rows : (records : List Record) → SameRows (listRows s records) (listRows t records)
+  unfolding listRows
+  list-rows records = let e : listRows s records ≡ listRows t records = rw agree-chain in same-rows e
+
+  pub check-rows : SameRows (checkRows s) (checkRows t)
+  unfolding checkRows
+  check-rows = let e : checkRows s ≡ checkRows t = rw (agree-chain, check-card) in same-rows e
+
+  -- so is what a read and a listing leave
+  pub read-filled : (target : Target) (name : List ℕ) (l : ℕ) (block : List ℕ) → ReadPassed s target name l → filledOf (Read target name l block) s ≡ filledOf (Read target name l block) t
   unfolding filledOf
-  agree-filled (Ream layout volume name) e = refl
-  agree-filled (Read target name l block) e = rw (← agree-chain) (ap Block (let h = read-passed s target name l block e in block-same target name l (h .there) (h .below)))
-  agree-filled (Write l block) e = refl
-  agree-filled (Snap name) e = refl
-  agree-filled (Revert name) e = refl
-  agree-filled (Listing records) e = rw agree-chain
-  agree-filled Check e = refl
+  read-filled target name l block h = rw (← agree-chain) (ap Block (block-same target name l (h .there) (h .below)))
 
-  outcome-by : (k : Call) (b : Bool) → (b ≡ true → filledOf k s ≡ filledOf k t) → (x y : List ℕ)
-      → pick b (done (answerOf k t) (filledOf k s) x) (done (answerOf k t) (lentOf k) s) .outcome
-      ≡ pick b (done (answerOf k t) (filledOf k t) y) (done (answerOf k t) (lentOf k) t) .outcome
-  outcome-by k true h x y = rw (h refl)
-  outcome-by k false h x y = refl
-
-  pub agree-outcome : (k : Call) → step k s .outcome ≡ step k t .outcome
-  unfolding step
-  agree-outcome k =
-      rw (agree-answer k)
-      (outcome-by k (isAccepted (answerOf k t)) (λ e. agree-filled k (ap isAccepted (agree-answer k) ∙ e)) (storeAll s (storesOf k s)) (storeAll t (storesOf k t)))
+  pub list-filled : (records : List Record) → filledOf (Listing records) s ≡ filledOf (Listing records) t
+  unfolding filledOf
+  list-filled records = rw agree-chain

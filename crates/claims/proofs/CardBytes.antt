@@ -27,7 +27,8 @@ use Rattle.claims.proofs.ChainAfter.{active-name}
 use Rattle.claims.proofs.Runs.{standing-length, step-length}
 use Rattle.calls.proofs.Passed.{WritePassed, SnapPassed, RevertPassed}
 use Rattle.claims.specs.Kinds.{Kind}
-use Rattle.claims.proofs.Changes.{storesBy, Allowed, to-format, to-leave, to-write, to-snap, to-revert, step-cases}
+use Rattle.claims.proofs.Changes.{storesBy, Allowed, to-format, to-leave, to-write, to-snap, to-revert}
+use Rattle.claims.proofs.Steps.{step-cases}
 
 -- lists of bytes: their parts and joins
 bytes-nil : AreBytes []

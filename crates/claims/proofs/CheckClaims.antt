@@ -8,7 +8,7 @@ use Prim.Native.Nat.{ℕ, zero, suc, _+_, _*_, _/_, _%_, _≤_, _<_}
 use native.Mathlib.Omega.{arith}
 use lib.ListN.{length, take, getD}
 use lib.Dec.{eqb, ltb, leb}
-use borrow.Author.Tests.{eq-eqb, ne-eqb, le-ltb, le-leb, eqb-true, eqb-false, ltb-true, ltb-false, leb-true, not-false}
+use borrow.Author.Tests.{eq-eqb, ne-eqb, le-ltb, le-leb, eqb-true, eqb-false, ltb-true, ltb-false, leb-true}
 use Rattle.blocks.specs.Pick.{pick}
 use Rattle.blocks.specs.Descriptor.{physical, tableCount, noDescriptor}
 use Rattle.blocks.specs.Chain.{chain, chainSound}
@@ -28,11 +28,13 @@ use Rattle.calls.specs.declared.answer.Answer.{Answer}
 use Rattle.calls.specs.Call.{Check, answer, accepted}
 use Rattle.calls.specs.Parts.{areaBad, descriptorsOf}
 use Rattle.calls.specs.Check.{orElse, checkAll, checkCard, isFault, faultHolder, Passes}
-use Rattle.calls.specs.Ladder.{firstRow, checkRows, rowsOf, answerOf}
-use Rattle.claims.specs.Claims.{TableClaim, CheckClaim, valuesOf, noNaming, FirstFault, FaultClaim}
+use Rattle.calls.specs.Ladder.{firstRow, checkRows, admission}
+use Rattle.calls.specs.Meaning.{rowsOf, answerOf}
+use Rattle.claims.specs.Claims.{CheckClaim, valuesOf, noNaming, FirstFault, FaultClaim}
 use Rattle.calls.proofs.CardLaws.{chain-is}
-use Rattle.claims.proofs.Rows.{table-claim}
 use Rattle.claims.proofs.ChainBlocks.{few-tables, table-two, layout-two}
+use Rattle.calls.proofs.Passed.{check-passed}
+use Rattle.calls.specs.Step.{isAccepted}
 
 -- the parts of a fault, as tests: p in place, z nil, k counted, a named before, o against the rule on old tables
 fault-gives : (p z k a o : Bool) → (not p || (not z && (not k || a)) || o) ≡ false → (p ≡ true) × (z ≡ false → (k ≡ true) × (a ≡ false)) × (o ≡ false)
@@ -647,19 +649,18 @@ module _ (c : List ℕ) (sound : chainSound (chain c) ≡ true) where
   rules-check k h r = one-kept c (descriptorsOf c) (getD (descriptorsOf c) k noDescriptor) (region-rules k h .0) (region-rules k h .1) r
 
 -- the rows of check
-accepted-rows : (c : List ℕ) → answerOf Check c ≡ accepted → (areaBad c ≡ false) × (not (chainSound (chain c)) ≡ false) × (isFault (checkCard c) ≡ false)
-unfolding TableClaim rowsOf checkRows
-accepted-rows c e = let f = table-claim Check c .1 .0 e in (f 0 (omega arith), f 1 (omega arith), f 2 (omega arith))
+accepted-rows : (c : List ℕ) → answerOf Check c ≡ accepted → (areaBad c ≡ false) × (chainSound (chain c) ≡ true) × (isFault (checkCard c) ≡ false)
+accepted-rows c e = let h = check-passed c (ap isAccepted e) in (h .area, h .sound, h .faultless)
 
 rows-accepted : (c : List ℕ) → areaBad c ≡ false → not (chainSound (chain c)) ≡ false → isFault (checkCard c) ≡ false → answerOf Check c ≡ accepted
-unfolding answerOf rowsOf checkRows firstRow
+unfolding answerOf rowsOf admission checkRows firstRow
 rows-accepted c a s f = rw (a, s, f)
 
 accepted-passes : (c : List ℕ) → answerOf Check c ≡ accepted → Passes c
 unfolding checkCard
 accepted-passes c e =
     let r = accepted-rows c e in
-    let sound = not-false (chainSound (chain c)) (r .1) in
+    let sound = r .1 in
     record {
       area = r .0;
       sound = sound;
@@ -756,7 +757,7 @@ module _ (c : List ℕ) (ds : List Descriptor) (h : Physical) where
 
 -- the answer of check on a card with a sound chain, by its verdict
 verdict-answer : (c : List ℕ) → areaBad c ≡ false → not (chainSound (chain c)) ≡ false → answerOf Check c ≡ pick (isFault (checkCard c)) (answer 10 (faultHolder (checkCard c))) accepted
-unfolding answerOf rowsOf checkRows firstRow
+unfolding answerOf rowsOf admission checkRows firstRow
 verdict-answer c a s = rw (a, s)
 
 answer-fault : (v : Verdict) (place : ℕ) → pick (isFault v) (answer 10 (faultHolder v)) accepted ≡ answer 10 place → (h : Physical) × (v ≡ Fault h) × (h .0 ≡ place)

@@ -32,6 +32,8 @@ use Rattle.calls.proofs.CardLaws.{card-some, card-found, card-active, card-thro
 use Rattle.calls.proofs.WriteLaws.{put-inside, write-ready}
 use Rattle.calls.proofs.Passed.{ReamPassed, WritePassed, SnapPassed, RevertPassed}
 use Rattle.claims.proofs.StoreLists.{Whole, none, also, whole-append}
+use Rattle.calls.proofs.RowLaws.{admission-0}
+use Rattle.calls.specs.Call.{accepted}
 
 pub inside-clearing : (n p k : ℕ) → 512 * (p + k) ≤ n → Whole n (clearing p k)
 unfolding clearing
@@ -162,7 +164,7 @@ module _ (c : List ℕ) (area : areaBad c ≡ false) (sound : chainSound (chain 
     write-by (Entry m p) is room =
         let low = subst (λ (d : Descriptor). l < d .volume) (sym found-is) below in
         let same = subst (λ (d : Descriptor). Entry m p ≡ find c (descriptorsOf c) d l) (sym found-is) is in
-        let ready = write-ready c l block (areaBad c) refl area long r refl (rw ok) low (Entry m p) same m p refl in
+        let ready = write-ready c l block accepted (admission-0 c (areaBad c) refl area) refl long r refl (rw ok) low (Entry m p) same m p refl in
         entry-inside c active m p l block (subst (λ (d : Descriptor). WriteReady c d (m .0) (p .0) l block) found-is ready) active-name room
 
     write-inside : active .beta .0 + need (active .alpha .0) (foundThrough c active l) ≤ blockCount c → Whole (length c) (writing c active (foundThrough c active l) l block)

@@ -36,7 +36,8 @@ use Rattle.claims.proofs.SnappedChain.{snap-above, snapped-chain}
 use Rattle.claims.proofs.WrittenChain.{written-chain}
 use Rattle.calls.proofs.Passed.{WritePassed, SnapPassed, RevertPassed}
 use Rattle.claims.specs.Kinds.{Kind}
-use Rattle.claims.proofs.Changes.{storesBy, Allowed, to-format, to-leave, to-write, to-snap, to-revert, step-cases}
+use Rattle.claims.proofs.Changes.{storesBy, Allowed, to-format, to-leave, to-write, to-snap, to-revert}
+use Rattle.claims.proofs.Steps.{step-cases}
 
 -- a later region starts where an earlier one ends, or after
 beta-before : {c : List ℕ} {es : List Descriptor} {p : ℕ} {ds : List Descriptor} → Linked c es p ds → (v : Descriptor) (us : List Descriptor) (u : Descriptor) (ws : List Descriptor) → ds ≡ v ∷ (us ++ (u ∷ ws))

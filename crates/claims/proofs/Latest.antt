@@ -18,7 +18,7 @@ use Rattle.blocks.proofs.NamedLaws.{named-one}
 use Rattle.blocks.proofs.ChainLaws.{descriptors-are}
 use Rattle.calls.specs.Call.{Call}
 use Rattle.calls.specs.Parts.{descriptorsOf, snapshotsOf}
-use Rattle.calls.specs.Ladder.{answerOf}
+use Rattle.calls.specs.Meaning.{answerOf}
 use Rattle.calls.specs.Effect.{writeStores, snapStores, revertStores}
 use Rattle.calls.specs.Step.{step, after, isAccepted}
 use Rattle.claims.specs.History.{isFormat, Standing, more, isSnapOf, Position, Nowhere, At, latestFrom, latestSnap, formats, snapsAs}
@@ -31,7 +31,8 @@ use Rattle.claims.proofs.Kept.{Stands, stands-step}
 use Rattle.claims.proofs.Runs.{standing-length, step-length}
 use Rattle.calls.proofs.Passed.{WritePassed, SnapPassed, RevertPassed}
 use Rattle.claims.specs.Kinds.{Kind, Formats, Leaves, Writes, Snaps, Reverts, kindOf}
-use Rattle.claims.proofs.Changes.{storesBy, Allowed, to-format, to-leave, to-write, to-snap, to-revert, step-cases}
+use Rattle.claims.proofs.Changes.{storesBy, Allowed, to-format, to-leave, to-write, to-snap, to-revert}
+use Rattle.claims.proofs.Steps.{step-cases}
 
 -- a call that is no accepted snap of the name makes no snapshot of it
 module _ (n t : List ℕ) (gone : named (snapshotsOf (descriptorsOf t)) n ≡ false) where

@@ -31,7 +31,7 @@ use Rattle.claims.proofs.Agreement.{agree-region}
 use Rattle.claims.proofs.StoreLists.{stored-other}
 use Rattle.claims.proofs.ChainAfter.{before, behind, snapshots-snoc, link-inside, one-stored, revert-split, reverted-chain, fits, block, same-long, whole}
 use Rattle.claims.proofs.SoundStep.{agree-self}
-use Rattle.claims.proofs.LedgerAnswers.{linked-of, beta-upto, group-below, passing-found, volume-named}
+use Rattle.claims.proofs.LedgerFacts.{linked-of, beta-upto, group-below, passing-found, volume-named}
 use Rattle.claims.proofs.Local.{shared-number}
 use Rattle.blocks.proofs.ByteLaws.{u32-part}
 use Rattle.blocks.proofs.DescriptorLaws.{Fits, tail-length}

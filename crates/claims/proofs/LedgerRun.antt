@@ -12,21 +12,23 @@ use Rattle.calls.specs.declared.answer.Target.{Target}
 use Rattle.calls.specs.declared.answer.Record.{Record}
 use Rattle.calls.specs.Call.{Call, Read, Listing, Check, Block, Records}
 use Rattle.calls.specs.Check.{Passes}
-use Rattle.calls.specs.Ladder.{answerOf}
+use Rattle.calls.specs.Meaning.{answerOf}
 use Rattle.calls.specs.Step.{step, after, isAccepted}
 use Rattle.claims.specs.History.{Standing, more, isFormat, formatted, formats}
 use Rattle.claims.specs.Ledger.{Ledger, ledgerStep, ledgerOf, ledgerNames, cellRead, ledgerChange}
 use Rattle.claims.specs.Claims.{ledgerAfter, recordNames, firstLedger, LedgerStep, LedgerClaim, FormatClaim, FormatLedgerClaim}
 use Rattle.claims.proofs.Runs.{standing-length, step-length}
 use Rattle.claims.proofs.Format.{format-claim}
-use Rattle.claims.proofs.LedgerAnswers.{ledger-reads, ledger-lists, ledger-number, ledger-place, ledger-no-room}
+use Rattle.claims.proofs.LedgerFacts.{ledger-reads, ledger-lists}
+use Rattle.claims.proofs.LedgerAnswers.{ledger-number, ledger-place, ledger-no-room}
 use Rattle.claims.proofs.PassesAfter.{passes-revert}
 use Rattle.claims.proofs.PassesSnapped.{passes-snap}
 use Rattle.claims.proofs.LedgerNext.{ledger-revert}
 use Rattle.claims.proofs.LedgerSnap.{ledger-snap}
 use Rattle.claims.proofs.LedgerWrite.{passes-write, ledger-write}
 use Rattle.claims.specs.Kinds.{Kind}
-use Rattle.claims.proofs.Changes.{storesBy, Allowed, to-format, to-leave, to-write, to-snap, to-revert, step-cases}
+use Rattle.claims.proofs.Changes.{storesBy, Allowed, to-format, to-leave, to-write, to-snap, to-revert}
+use Rattle.claims.proofs.Steps.{step-cases}
 
 -- one call on a card that passes
 module _ (c : List ℕ) (passing : Passes c) where

@@ -28,7 +28,7 @@ use Rattle.calls.specs.Check.{Passes}
 use Rattle.calls.specs.Effect.{writeStores}
 use Rattle.claims.proofs.ChainAfter.{active-split, snapshots-snoc}
 use Rattle.claims.proofs.WrittenChain.{written-chain}
-use Rattle.claims.proofs.LedgerAnswers.{group-below, linked-of, some-of}
+use Rattle.claims.proofs.LedgerFacts.{group-below, linked-of, some-of}
 use Rattle.claims.proofs.PassesWrite.{shared-entry, snapshot-region, write-below, passes-write-by}
 use Rattle.claims.proofs.WriteFacts.{WriteFacts}
 use Rattle.claims.proofs.WriteOwn.{own-none, own-one}

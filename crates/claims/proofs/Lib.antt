@@ -14,7 +14,13 @@ pub mod Changed
 pub mod StoreLists
 pub mod Inside
 pub mod Changes
+pub mod Lists
+pub mod LedgerFacts
+pub mod Owed
+pub mod Refusals
+pub mod Steps
 pub mod Frame
+pub mod AgreeAnswer
 pub mod ChainAfter
 pub mod SnappedChain
 pub mod SameStores

@@ -26,12 +26,14 @@ use Rattle.calls.specs.declared.answer.Target.{Target}
 use Rattle.calls.specs.declared.answer.Target.the-variants.{Active}
 use Rattle.calls.specs.Call.{Call, Ream, Read, Write, Snap, Revert, Listing, Check, answer}
 use Rattle.calls.specs.Parts.{areaBad, descriptorsOf, snapshotsOf, isSnapshot, targetOf, foundThrough, isMisplaced, holderOf}
-use Rattle.calls.specs.Ladder.{Row, row, areaRow, nameRow, blockRow, chainRow, volumeRow, firstRow, reamRows, readRows, writeRows, snapRows, revertRows, listRows, checkRows, rowsOf, answerOf}
-use Rattle.claims.specs.Claims.{FirstUnsound, here, past, on, Chained, last, link, comesToChain, ChainClaim, NotInPlace, phi, named-table, own-table, PlaceClaim}
+use Rattle.calls.specs.Ladder.{Row, row, areaRow, nameRow, blockRow, chainRow, volumeRow, firstRow, reamRows, readRows, writeRows, snapRows, revertRows, listRows, checkRows, admission}
+use Rattle.calls.specs.Meaning.{rowsOf, answerOf}
+use Rattle.claims.specs.Claims.{FirstUnsound, here, past, on, Chained, last, link, comesToChain, NotInPlace, phi, named-table, own-table, PlaceClaim}
 use Rattle.calls.proofs.RowLaws.{fresh, fresh-never}
 use Rattle.calls.proofs.CardLaws.{chain-is}
 use Rattle.claims.proofs.Agreement.{target-member}
 use Rattle.claims.proofs.ChainBlocks.{layout-two}
+use Rattle.calls.specs.declared.answer.Record.{Record}
 
 -- no row of a list holds
 unfoldable clear : List Row → Bool
@@ -93,11 +95,11 @@ module _ (c : List ℕ) where
       rw (h, ne-eqb (descriptorAt c p .next .0) 0 n)
       (place-walk fuel (es ++ (descriptorAt c p ∷ [])) (descriptorAt c p .next .0) q (omega (arith, length-append es (descriptorAt c p ∷ []))) rest)
 
-  chain-place : (q : ℕ) → chain c ≡ Unsound q → FirstUnsound c [] 0 q
+  pub chain-place : (q : ℕ) → chain c ≡ Unsound q → FirstUnsound c [] 0 q
   unfolding chain
   chain-place q e = walk-place 256 [] 0 q refl e
 
-  place-chain : (q : ℕ) → FirstUnsound c [] 0 q → chain c ≡ Unsound q
+  pub place-chain : (q : ℕ) → FirstUnsound c [] 0 q → chain c ≡ Unsound q
   unfolding chain
   place-chain q f = place-walk 256 [] 0 q refl f
 
@@ -132,11 +134,11 @@ module _ (c : List ℕ) where
       (sound-walk fuel (es ++ (descriptorAt c p ∷ [])) (descriptorAt c p .next .0) ds′ (omega (arith, length-append es (descriptorAt c p ∷ []))) rest
       ∙ ap Sound (append-snoc es (descriptorAt c p) ds′))
 
-  chain-chained : (ds : List Descriptor) → chain c ≡ Sound ds → Chained c [] 0 ds
+  pub chain-chained : (ds : List Descriptor) → chain c ≡ Sound ds → Chained c [] 0 ds
   unfolding chain
   chain-chained ds e = let r = walk-sound 256 [] 0 ds refl e in rw (r .1) (r .2)
 
-  chained-chain : (ds : List Descriptor) → Chained c [] 0 ds → chain c ≡ Sound ds
+  pub chained-chain : (ds : List Descriptor) → Chained c [] 0 ds → chain c ≡ Sound ds
   unfolding chain
   chained-chain ds h = sound-walk 256 [] 0 ds refl h
 
@@ -184,37 +186,44 @@ module _ (c : List ℕ) (q : ℕ) where
       let r = unsound-row (chain c) q (place-chain c q (s .1)) in
       rw is (row-gives xs ys (not (chainSound (chain c))) 6 (chainPlace (chain c)) q (h ∙ s .0) (r .0) (r .1))
 
-  never-six : (layout volume : ℕ) (name : List ℕ) → answerOf (Ream layout volume name) c ≡ answer 6 q → ⊥
-  unfolding answerOf rowsOf reamRows fresh
-  never-six layout volume name e = fresh-never (reamRows c layout volume name) 6 refl (λ z. omega arith) (ap (λ (a : Answer). a .number) e)
+  abbrev SixExactly : Call → Type 0
+  SixExactly k = (answerOf k c ≡ answer 6 q) ↔ Six k
 
-  chain-answer : (k : Call) → (answerOf k c ≡ answer 6 q) ↔ Six k
-  unfolding rowsOf readRows writeRows snapRows revertRows listRows checkRows fresh clear comesToChain
-  chain-answer (Ream layout volume name) = (λ e. absurd (never-six layout volume name e), λ s. no (s .0))
-  chain-answer (Read target name l block) =
-      let xs = areaRow c ∷ row (isSnapshot target && not (isName name)) 4 0 ∷ blockRow block ∷ [] in (
-        six (Read target name l block) xs _ refl refl refl (clear-three (areaBad c) (isSnapshot target) (isName name) (eqb (length block) 512)),
-        six-given (Read target name l block) xs _ refl (clear-three (areaBad c) (isSnapshot target) (isName name) (eqb (length block) 512)),
-      )
-  chain-answer (Write l block) =
-      let xs = areaRow c ∷ blockRow block ∷ [] in
-      (six (Write l block) xs _ refl refl refl (clear-two (areaBad c) (eqb (length block) 512)), six-given (Write l block) xs _ refl (clear-two (areaBad c) (eqb (length block) 512)))
-  chain-answer (Snap name) =
-      let xs = areaRow c ∷ nameRow name ∷ [] in
-      (six (Snap name) xs _ refl refl refl (clear-two (areaBad c) (isName name)), six-given (Snap name) xs _ refl (clear-two (areaBad c) (isName name)))
-  chain-answer (Revert name) =
-      let xs = areaRow c ∷ nameRow name ∷ [] in
-      (six (Revert name) xs _ refl refl refl (clear-two (areaBad c) (isName name)), six-given (Revert name) xs _ refl (clear-two (areaBad c) (isName name)))
-  chain-answer (Listing records) =
-      let xs = areaRow c ∷ [] in
-      (six (Listing records) xs _ refl refl refl (clear-one (areaBad c)), six-given (Listing records) xs _ refl (clear-one (areaBad c)))
-  chain-answer Check =
-      let xs = areaRow c ∷ [] in
-      (six Check xs _ refl refl refl (clear-one (areaBad c)), six-given Check xs _ refl (clear-one (areaBad c)))
+  six-by : (k : Call) (xs ys : List Row) → rowsOf k c ≡ xs ++ (chainRow c ∷ ys) → fresh 6 xs ≡ true → fresh 6 ys ≡ true → clear xs ≡ comesToChain k c → SixExactly k
+  six-by k xs ys is f g h = (six k xs ys is f g h, six-given k xs ys is h)
 
-pub chain-claim : ChainClaim
-unfolding ChainClaim
-chain-claim c = (λ ds. (chain-chained c ds, chained-chain c ds), λ q. (chain-place c q, place-chain c q), λ k q. chain-answer c q k)
+  pub ream-six : (layout volume : ℕ) (name : List ℕ) → SixExactly (Ream layout volume name)
+  unfolding answerOf rowsOf admission reamRows fresh comesToChain
+  ream-six layout volume name = (
+    λ e. absurd (fresh-never (rowsOf (Ream layout volume name) c) 6 refl (λ z. omega arith) (ap (λ (a : Answer). a .number) e)),
+    λ s. no (s .0),
+  )
+
+  pub read-six : (target : Target) (name : List ℕ) (l : ℕ) (block : List ℕ) → SixExactly (Read target name l block)
+  unfolding rowsOf admission readRows fresh clear comesToChain
+  read-six target name l block =
+      six-by (Read target name l block) (areaRow c ∷ row (isSnapshot target && not (isName name)) 4 0 ∷ blockRow block ∷ []) _ refl refl refl
+      (clear-three (areaBad c) (isSnapshot target) (isName name) (eqb (length block) 512))
+
+  pub write-six : (l : ℕ) (block : List ℕ) → SixExactly (Write l block)
+  unfolding rowsOf admission writeRows fresh clear comesToChain
+  write-six l block = six-by (Write l block) (areaRow c ∷ blockRow block ∷ []) _ refl refl refl (clear-two (areaBad c) (eqb (length block) 512))
+
+  pub snap-six : (name : List ℕ) → SixExactly (Snap name)
+  unfolding rowsOf admission snapRows fresh clear comesToChain
+  snap-six name = six-by (Snap name) (areaRow c ∷ nameRow name ∷ []) _ refl refl refl (clear-two (areaBad c) (isName name))
+
+  pub revert-six : (name : List ℕ) → SixExactly (Revert name)
+  unfolding rowsOf admission revertRows fresh clear comesToChain
+  revert-six name = six-by (Revert name) (areaRow c ∷ nameRow name ∷ []) _ refl refl refl (clear-two (areaBad c) (isName name))
+
+  pub list-six : (records : List Record) → SixExactly (Listing records)
+  unfolding rowsOf admission listRows fresh clear comesToChain
+  list-six records = six-by (Listing records) (areaRow c ∷ []) _ refl refl refl (clear-one (areaBad c))
+
+  pub check-six : SixExactly Check
+  unfolding rowsOf admission checkRows fresh clear comesToChain
+  check-six = six-by Check (areaRow c ∷ []) _ refl refl refl (clear-one (areaBad c))
 
 -- what find gives of an entry that is not in place
 module _ (ds : List Descriptor) (d : Descriptor) (m p h : ℕ) where
@@ -338,7 +347,7 @@ module _ (c : List ℕ) (l : ℕ) (block : List ℕ) (h : ℕ) where
     ReadMisplaced = (comes ≡ true) × (sounds ≡ true) × (there ≡ true) × (l < activeOf all .volume) × NotInPlace c (targetOf all target name) l h
 
     read-out-of-place : answerOf (Read target name l block) c ≡ answer 10 h → ReadMisplaced
-    unfolding answerOf rowsOf readRows fresh
+    unfolding answerOf rowsOf admission readRows fresh
     read-out-of-place e =
         let found = foundThrough c (targetOf all target name) l in
         let r = row-given above [] (isMisplaced found) 10 (holderOf found) h refl refl (λ z. omega arith) e in
@@ -356,7 +365,7 @@ module _ (c : List ℕ) (l : ℕ) (block : List ℕ) (h : ℕ) where
         )
 
     out-of-place-read : ReadMisplaced → answerOf (Read target name l block) c ≡ answer 10 h
-    unfolding answerOf rowsOf readRows
+    unfolding answerOf rowsOf admission readRows
     out-of-place-read s =
         let found = foundThrough c (targetOf all target name) l in
         let r = found-out-of-place c (targetOf all target name) l h (s .4) in
@@ -379,7 +388,7 @@ module _ (c : List ℕ) (l : ℕ) (block : List ℕ) (h : ℕ) where
   WriteMisplaced = (reaches ≡ true) × (sounds ≡ true) × (l < activeOf all .volume) × NotInPlace c (activeOf all) l h
 
   write-out-of-place : answerOf (Write l block) c ≡ answer 10 h → WriteMisplaced
-  unfolding answerOf rowsOf writeRows fresh targetOf
+  unfolding answerOf rowsOf admission writeRows fresh targetOf
   write-out-of-place e =
       let found = foundThrough c (activeOf all) l in
       let r = row-given before _ (isMisplaced found) 10 (holderOf found) h refl refl (λ z. omega arith) e in
@@ -394,7 +403,7 @@ module _ (c : List ℕ) (l : ℕ) (block : List ℕ) (h : ℕ) where
       )
 
   out-of-place-write : WriteMisplaced → answerOf (Write l block) c ≡ answer 10 h
-  unfolding answerOf rowsOf writeRows
+  unfolding answerOf rowsOf admission writeRows
   out-of-place-write s =
       let found = foundThrough c (activeOf all) l in
       let r = found-out-of-place c (activeOf all) l h (s .3) in

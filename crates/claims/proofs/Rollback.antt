@@ -18,8 +18,8 @@ use Rattle.blocks.proofs.NamedLaws.{named-none, named-cons, index-at}
 use Rattle.blocks.proofs.ChainLaws.{active-snoc, descriptors-are, is-sound}
 use Rattle.calls.specs.Call.{Call, Revert, Check}
 use Rattle.calls.specs.Parts.{descriptorsOf, snapshotsOf, withName}
-use Rattle.calls.specs.Ladder.{answerOf}
-use Rattle.calls.specs.Effect.{storesOf, reverting, snapStores, revertStores}
+use Rattle.calls.specs.Effect.{reverting, snapStores, revertStores}
+use Rattle.calls.specs.Meaning.{answerOf, storesOf}
 use Rattle.calls.specs.Step.{step, after, isAccepted}
 use Rattle.claims.specs.History.{betaOf, Agree, AreBytes, Standing, without, isSnapOf}
 use Rattle.claims.specs.Claims.{Unsnapped, LastSnap, Matched, RevertedAt}
@@ -38,7 +38,8 @@ use Rattle.claims.proofs.Runs.{standing-length, standing-take, standing
 use Rattle.claims.proofs.Undone.{area-kept, undone, undone-passed}
 use Rattle.calls.proofs.Passed.{SnapPassed, RevertPassed, revert-passed, revert-accepted}
 use Rattle.claims.specs.Kinds.{Kind, Snaps, kindOf}
-use Rattle.claims.proofs.Changes.{storesBy, Allowed, to-snap, call-stores, call-allowed}
+use Rattle.claims.proofs.Changes.{storesBy, Allowed, to-snap}
+use Rattle.claims.proofs.Owed.{owed}
 
 -- v stands on t: a revert to it leaves the descriptors before it, then v with the active name and a nil next
 module _ (s : List ℕ) (xs : List Descriptor) (v : Descriptor) (n t : List ℕ) (h : Stands s xs v n t) (e : RevertPassed t (v .name)) where
@@ -272,7 +273,7 @@ module _ (s : List ℕ) (ks : List Call) (sound-s : chainSound (chain s) ≡ tru
     accepted-c = subst (λ (x : List ℕ). isAccepted (answerOf call x) ≡ true) c-is (l .accepted-there)
 
     snapped : SnapPassed c v
-    snapped = snap-facts (subst (λ (x : Kind). Allowed c x) kind-is (call-allowed call c accepted-c))
+    snapped = snap-facts (subst (λ (x : Kind). Allowed c x) kind-is (owed call .allowed c accepted-c))
 
     abbrev c′ : List ℕ
     c′ = storeAll c (snapStores c v)
@@ -283,7 +284,7 @@ module _ (s : List ℕ) (ks : List Call) (sound-s : chainSound (chain s) ≡ tru
         after-one (take k ks) i call s (l .inside) refl
         ∙ ap (λ (x : List ℕ). step call x .card) c-is
         ∙ accepted-card call c accepted-c
-        ∙ ap (storeAll c) (call-stores call c)
+        ∙ ap (storeAll c) (owed call .stores c)
         ∙ ap (λ (x : Kind). storeAll c (storesBy x c)) kind-is
 
     abbrev js : List Call

@@ -9,8 +9,7 @@ use Rattle.blocks.specs.declared.descriptor.Descriptor.{Descriptor}
 use Rattle.blocks.proofs.ChainLaws.{descriptors-are}
 use Rattle.calls.specs.Call.{Call, Write, Snap, Revert}
 use Rattle.calls.specs.Parts.{descriptorsOf}
-use Rattle.calls.specs.Ladder.{answerOf}
-use Rattle.calls.specs.Effect.{storesOf}
+use Rattle.calls.specs.Meaning.{answerOf, storesOf}
 use Rattle.calls.specs.Step.{step, isAccepted}
 use Rattle.calls.proofs.StepLaws.{accepted-card}
 use Rattle.claims.specs.Claims.{blocksNeeded, RoomClaim}

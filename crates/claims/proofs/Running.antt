@@ -1,25 +1,8 @@
--- Every definition that a run of calls goes through, so that a statement about given cards is computed: `unfolding running` opens them all.
+-- Every definition that a run of calls goes through and what the claims add, so that a statement about given cards is computed: `unfolding running` opens them all.
 use Prim.Native.Nat.{ℕ}
-use Rattle.blocks.specs.Pick.{same, allZero}
-use Rattle.blocks.specs.Bytes.{splice, u32At, le32, blockCount, blockAt, storeBlock, storeAll}
-use Rattle.blocks.specs.Name.{nameByte, nameLength, isName, isText, padded}
-use Rattle.blocks.specs.Descriptor.{tableCount, cost, descriptorAt, headBytes, descriptorBlock, reservedOk, phiOk, clearing, copying, opening}
-use Rattle.blocks.specs.Chain.{formOk, regionOk, indexOf, named, sound, chainFrom, chain, chainSound, descriptors, chainPlace, activeOf}
-use Rattle.entries.specs.InPlace.{isDescriptor, isTable, inPlace}
-use Rattle.entries.specs.Entry.{entryAt, phiAt, tableOf, entryFound, find, tableIsNew, need, tableWith, tailWith, setInTable, setInNewTable, writing}
-use Rattle.calls.specs.Parts.{areaBad, snapshotsOf, targetOf, isMisplaced, holderOf, blockFound}
-use Rattle.entries.specs.Naming.{tableNamings, tablesNamings, phiNamings, namings, among, atFault, firstFault, checkOne}
-use Rattle.calls.specs.Check.{orElse, checkAll, checkCard, isFault, faultHolder}
-use Rattle.calls.specs.Ladder.{firstRow, reamRows, readRows, writeRows, snapRows, revertRows, listRows, checkRows, rowsOf, answerOf}
-use Rattle.calls.specs.Effect.{snapping, reverting, writeStores, snapStores, revertStores, storesOf, listed, lentOf, filledOf}
-use Rattle.calls.specs.Step.{step, after, outcomes}
+use Rattle.calls.proofs.Running.{stepping}
 use Rattle.claims.specs.History.{betaOf, formatted}
 
 unfoldable pub running : ℕ
-unfolding step after outcomes answerOf rowsOf firstRow reamRows readRows writeRows snapRows revertRows listRows checkRows
-    storesOf writeStores snapStores revertStores snapping reverting listed lentOf filledOf betaOf formatted areaBad activeOf snapshotsOf targetOf isMisplaced holderOf blockFound
-    entryAt phiAt tableOf entryFound find tableIsNew need tableWith tailWith setInTable setInNewTable writing isDescriptor isTable inPlace
-    formOk regionOk indexOf named sound chainFrom chain chainSound descriptors chainPlace tableCount cost descriptorAt headBytes descriptorBlock reservedOk phiOk
-    clearing copying opening nameByte nameLength isName isText padded splice u32At le32 blockCount blockAt storeBlock storeAll same allZero
-    tableNamings tablesNamings phiNamings namings among atFault firstFault checkOne orElse checkAll checkCard isFault faultHolder
+unfolding stepping betaOf formatted
 running = 0

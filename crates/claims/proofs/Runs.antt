@@ -6,26 +6,17 @@ use Prim.Native.Nat.{ℕ, zero, suc, _+_, _≤_, _<_}
 use native.Mathlib.Omega.{arith}
 use lib.ListN.{length, take, drop, take-append-drop}
 use lib.Seq.{length-take-le, take-add, take-at, drop-at}
-use Rattle.blocks.specs.Bytes.{blockCount}
-use Rattle.calls.specs.Call.{Call, Ream, Read, Write, Snap, Revert, Listing, Check, Outcome}
-use Rattle.calls.specs.Parts.{areaBad}
-use Rattle.calls.specs.Ladder.{reamRows, rowsOf, answerOf}
+use Rattle.calls.specs.Call.{Call, Outcome}
 use Rattle.calls.specs.Step.{step, after, outcomes}
-use Rattle.claims.specs.History.{Agree, isReam, isFormat, Standing, none, more, without}
+use Rattle.claims.specs.History.{Agree, isFormat, Standing, none, more, without}
 use Rattle.claims.specs.Claims.{FrameClaim, Matched}
-use Rattle.claims.proofs.Agreement.{agree-outcome}
+use Rattle.claims.proofs.AgreeAnswer.{agree-outcome}
+use Rattle.claims.proofs.Owed.{owed}
 use Rattle.claims.proofs.Frame.{frame-claim}
 
 -- whether a call is an accepted format depends on the card's length alone
 pub format-length : (k : Call) (s t : List ℕ) → length s ≡ length t → isFormat k s ≡ isFormat k t
-unfolding isFormat isReam answerOf rowsOf reamRows areaBad blockCount
-format-length (Ream layout volume name) s t e = rw e
-format-length (Read target name l block) s t e = refl
-format-length (Write l block) s t e = refl
-format-length (Snap name) s t e = refl
-format-length (Revert name) s t e = refl
-format-length (Listing records) s t e = refl
-format-length Check s t e = refl
+format-length k s t e = owed k .format s t e
 
 -- lists in which no format is accepted: on any card of that length, and the parts of such a list
 pub standing-length : (s t : List ℕ) → length s ≡ length t → (ks : List Call) → Standing s ks → Standing t ks

@@ -18,9 +18,10 @@ use Rattle.claims.proofs.ChainAfter.{before, behind, active-last, link-
 use Rattle.claims.proofs.AgreeStep.{agree-step}
 use Rattle.calls.proofs.Passed.{SnapPassed, RevertPassed}
 use Rattle.claims.specs.Kinds.{Kind}
-use Rattle.claims.proofs.Changes.{storesBy, Allowed, to-format, to-leave, to-write, to-snap, to-revert, step-cases}
+use Rattle.claims.proofs.Changes.{storesBy, Allowed, to-format, to-leave, to-write, to-snap, to-revert}
 use Rattle.claims.proofs.SnappedChain.{snapped-chain}
 use Rattle.claims.proofs.WrittenChain.{written-chain}
+use Rattle.claims.proofs.Steps.{step-cases}
 
 -- a card with a sound chain agrees with itself
 pub agree-self : (c : List ℕ) → chainSound (chain c) ≡ true → Agree c c

@@ -39,7 +39,7 @@ use Rattle.claims.proofs.WrittenChain.{stored-last, not-stored, ds-some
 use Rattle.claims.proofs.Format.{zero-number}
 use Rattle.claims.proofs.AlgorithmLaws.{entry-in}
 use Rattle.claims.proofs.FoundEntry.{found-table}
-use Rattle.claims.proofs.LedgerAnswers.{group-below}
+use Rattle.claims.proofs.LedgerFacts.{group-below}
 use Rattle.claims.proofs.LocalEntries.{Region}
 use Rattle.claims.proofs.PassesAfter.{number-of}
 use Rattle.claims.proofs.PassesSnapped.{block-entry}

@@ -40,7 +40,7 @@ use Rattle.claims.proofs.WrittenChain.{stored-last, not-stored, extende
 use Rattle.claims.proofs.WrittenChain.{active-next, active-inside, active-long, active-rise, active-end, active-volume, active-name}
 use Rattle.claims.proofs.AlgorithmLaws.{entry-in}
 use Rattle.claims.proofs.FoundEntry.{found-table, found-entry}
-use Rattle.claims.proofs.LedgerAnswers.{group-below}
+use Rattle.claims.proofs.LedgerFacts.{group-below}
 use Rattle.claims.proofs.PassesSnapped.{block-entry}
 use Rattle.claims.proofs.PassesWrite.{extended-stays, extended-new, write-region, set-table-rules, set-phi-rules, kept-entry, kept-rules}
 use Rattle.claims.proofs.LedgerNext.{phi-stored}

@@ -20,10 +20,11 @@ use Rattle.entries.specs.Naming.{Naming, namings, atFault}
 use Rattle.entries.specs.Rules.{Rules}
 use Rattle.calls.specs.declared.answer.Target.{Target}
 use Rattle.calls.specs.declared.answer.Record.{Record}
-use Rattle.calls.specs.Call.{Call, Ream, Read, Write, Snap, Revert, Listing, Check, Lent, None, Block, Records, answer, accepted}
+use Rattle.calls.specs.Call.{Call, Ream, Read, Write, Snap, Revert, Listing, Check, Lent, None, Block, Records, answer, accepted, NoneGiven}
 use Rattle.calls.specs.Parts.{areaBad, descriptorsOf, snapshotsOf, withName, isSnapshot, targetOf, foundThrough}
 use Rattle.calls.specs.Check.{Passes}
-use Rattle.calls.specs.Ladder.{row, rowsOf, answerOf}
+use Rattle.calls.specs.Ladder.{row}
+use Rattle.calls.specs.Meaning.{rowsOf, answerOf}
 use Rattle.claims.specs.Algorithms.{closeRegion, algorithm1, algorithm2, algorithm3, algorithm4, algorithm5, algorithm6}
 use Rattle.calls.specs.Step.{step, after, outcomes, isAccepted}
 use Rattle.claims.specs.Kinds.{Kind, Formats, Leaves, Writes, Snaps, Reverts, kindOf}
@@ -64,11 +65,11 @@ lentAtEntry (Revert name) = None
 lentAtEntry (Listing records) = Records records
 lentAtEntry Check = None
 
--- A refusal alters no byte of the card or of lent memory, and an accepted call answers 0 with place 0.
+-- A refusal alters no byte of the card or of lent memory and gives nothing, and an accepted call answers 0 with place 0.
 unfoldable pub RefusalClaim : Type 0
 RefusalClaim =
     (k : Call) (c : List ℕ)
-    → (isAccepted (answerOf k c) ≡ false → (step k c .card ≡ c) × (step k c .outcome ≡ record { answer = answerOf k c; lent = lentAtEntry k }))
+    → (isAccepted (answerOf k c) ≡ false → (step k c .card ≡ c) × (step k c .outcome ≡ record { answer = answerOf k c; lent = lentAtEntry k; given = NoneGiven }))
     × (isAccepted (answerOf k c) ≡ true → step k c .outcome .answer ≡ accepted)
 
 -- A ream is accepted exactly where the area can be formatted so, whatever it holds, and leaves the format.

@@ -6,7 +6,7 @@ use Rattle.blocks.specs.Bytes.{blockSize}
 use Rattle.blocks.specs.Name.{noName}
 use Rattle.calls.specs.declared.answer.Target.the-variants.{Active, Snapshot}
 use Rattle.calls.specs.declared.answer.Record.{Record}
-use Rattle.calls.specs.Call.{Call, Read, Write, Snap, Revert, Listing, Lent, None, Block, Records, Outcome, accepted}
+use Rattle.calls.specs.Call.{Call, Read, Write, Snap, Revert, Listing, Lent, None, Block, Records, Outcome, accepted, NoneGiven}
 use Rattle.claims.specs.History.{formatted}
 use Rattle.claims.specs.Bench.{area, fs, mon, lent}
 
@@ -43,7 +43,7 @@ listedAs name alpha beta next = record { name = name; alpha = alpha; beta = beta
 
 -- accepted, with what is lent at exit
 abbrev pub yields : Lent → Outcome
-yields l = record { answer = accepted; lent = l }
+yields l = record { answer = accepted; lent = l; given = NoneGiven }
 
 -- each is accepted; the reads give 7, 9 and, after the revert, 7; the first region ends at beta, the second at beta′
 unfoldable pub exampleOutcomes : ℕ → ℕ → List Outcome

@@ -12,7 +12,7 @@ use Rattle.blocks.specs.Descriptor.{cost, mostVolume, opening}
 use Rattle.blocks.specs.Chain.{chain, chainSound, activeOf}
 use Rattle.calls.specs.Call.{Call}
 use Rattle.calls.specs.Parts.{areaBad, descriptorsOf}
-use Rattle.calls.specs.Ladder.{answerOf}
+use Rattle.calls.specs.Meaning.{answerOf}
 use Rattle.calls.specs.Step.{step, isAccepted}
 use Rattle.claims.specs.Kinds.{Kind, Formats, Leaves, Writes, Snaps, Reverts, kindOf}
 

@@ -20,7 +20,8 @@ use Rattle.calls.specs.declared.answer.Answer.{Answer}
 use Rattle.calls.specs.Call.{Call, Ream, Read, Write, Snap, Revert, Listing, Check}
 use Rattle.calls.specs.Parts.{descriptorsOf}
 use Rattle.calls.specs.Check.{orElse, checkAll, checkCard, isFault, faultHolder}
-use Rattle.calls.specs.Ladder.{row, firstRow, areaRow, chainRow, checkRows, rowsOf, answerOf}
+use Rattle.calls.specs.Ladder.{row, firstRow, admission, chainRow, checkRows}
+use Rattle.calls.specs.Meaning.{rowsOf, answerOf}
 use Rattle.calls.specs.Step.{step}
 use Rattle.calls.proofs.StepLaws.{step-answer}
 use Rattle.claims.specs.Bench.{Shown, Value, Result, expected, computed, showing, blockOf}
@@ -115,9 +116,9 @@ all-once c ds [] = refl
 all-once c ds (d ∷ rest) = rw (namings-once c d, all-once c ds rest)
 
 unfoldable pub answerOnce : List ℕ → Answer
-answerOnce c = let v = allOnce c (descriptorsOf c) (descriptorsOf c) in firstRow (areaRow c ∷ chainRow c ∷ row (isFault v) 10 (faultHolder v) ∷ [])
+answerOnce c = let v = allOnce c (descriptorsOf c) (descriptorsOf c) in firstRow (admission c ++ (chainRow c ∷ row (isFault v) 10 (faultHolder v) ∷ []))
 
-answer-once : (c : List ℕ) → answerOf Check c ≡ answerOnce c
+pub answer-once : (c : List ℕ) → answerOf Check c ≡ answerOnce c
 unfolding answerOf rowsOf checkRows checkCard answerOnce
 answer-once c = rw (all-once c (descriptorsOf c) (descriptorsOf c))
 
@@ -126,32 +127,22 @@ abbrev shownBy : Answer → List ℕ → Call → Shown → Result
 shownBy a c k s = record { answer = a; shown = showing s (step k c) }
 
 -- the same, with the answer of check computed as above, of the other calls as the ladder says
-unfoldable pub resultBy : List ℕ → Shown → Call → Result
-resultBy c s (Ream layout volume name) = shownBy (answerOf (Ream layout volume name) c) c (Ream layout volume name) s
-resultBy c s (Read target name l block) = shownBy (answerOf (Read target name l block) c) c (Read target name l block) s
-resultBy c s (Write l block) = shownBy (answerOf (Write l block) c) c (Write l block) s
-resultBy c s (Snap name) = shownBy (answerOf (Snap name) c) c (Snap name) s
-resultBy c s (Revert name) = shownBy (answerOf (Revert name) c) c (Revert name) s
-resultBy c s (Listing records) = shownBy (answerOf (Listing records) c) c (Listing records) s
-resultBy c s Check = shownBy (answerOnce c) c Check s
-
-result-by : (c : List ℕ) (s : Shown) (k : Call) → shownBy (answerOf k c) c k s ≡ resultBy c s k
-unfolding resultBy
-result-by c s (Ream layout volume name) = refl
-result-by c s (Read target name l block) = refl
-result-by c s (Write l block) = refl
-result-by c s (Snap name) = refl
-result-by c s (Revert name) = refl
-result-by c s (Listing records) = refl
-result-by c s Check = ap (λ (a : Answer). shownBy a c Check s) (answer-once c)
+unfoldable pub resultBy : (c : List ℕ) (s : Shown) (k : Call) → (r : Result) × (shownBy (answerOf k c) c k s ≡ r)
+resultBy c s (Ream layout volume name) = (shownBy (answerOf (Ream layout volume name) c) c (Ream layout volume name) s, refl)
+resultBy c s (Read target name l block) = (shownBy (answerOf (Read target name l block) c) c (Read target name l block) s, refl)
+resultBy c s (Write l block) = (shownBy (answerOf (Write l block) c) c (Write l block) s, refl)
+resultBy c s (Snap name) = (shownBy (answerOf (Snap name) c) c (Snap name) s, refl)
+resultBy c s (Revert name) = (shownBy (answerOf (Revert name) c) c (Revert name) s, refl)
+resultBy c s (Listing records) = (shownBy (answerOf (Listing records) c) c (Listing records) s, refl)
+resultBy c s Check = (shownBy (answerOnce c) c Check s, ap (λ (a : Answer). shownBy a c Check s) (answer-once c))
 
 -- what a row gives, computed so; it is what `computed` gives
 unfoldable pub quick : Value → Result
-quick v = resultBy (v .card) (v .shown) (v .call)
+quick v = resultBy (v .card) (v .shown) (v .call) .0
 
 quick-one : (v : Value) → computed v ≡ quick v
 unfolding computed quick
-quick-one v = ap (λ (a : Answer). shownBy a (v .card) (v .call) (v .shown)) (step-answer (v .call) (v .card)) ∙ result-by (v .card) (v .shown) (v .call)
+quick-one v = ap (λ (a : Answer). shownBy a (v .card) (v .call) (v .shown)) (step-answer (v .call) (v .card)) ∙ resultBy (v .card) (v .shown) (v .call) .1
 
 pub quick-all : (vs : List Value) → map computed vs ≡ map quick vs
 quick-all [] = refl

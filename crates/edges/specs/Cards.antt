@@ -8,7 +8,7 @@ use Rattle.blocks.specs.Bytes.{u32At, le32}
 use Rattle.blocks.specs.Descriptor.{descriptorBlock}
 use Rattle.blocks.specs.declared.descriptor.Descriptor.{Descriptor}
 use Rattle.calls.specs.Call.{Call, Write, Snap, Revert, accepted}
-use Rattle.calls.specs.Step.{Done, step}
+use Rattle.calls.specs.Step.{Done, step, done}
 use Rattle.claims.specs.Claims.{lentAtEntry}
 use Rattle.claims.specs.Bench.{fs, mon, tue, lent}
 use Rattle.edges.specs.Edges.{descriptor, bare, withPhi, table}
@@ -55,7 +55,7 @@ change before call after = record { before = before; call = call; after = after 
 
 -- what is said of it, and what the call does: its answer, the memory lent to it and the card
 unfoldable pub said : Change → Done
-said h = record { outcome = record { answer = accepted; lent = lentAtEntry (h .call) }; card = h .after }
+said h = done accepted (lentAtEntry (h .call)) (h .after)
 
 unfoldable pub left : Change → Done
 left h = step (h .call) (h .before)

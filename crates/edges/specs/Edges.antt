@@ -13,7 +13,7 @@ use Rattle.blocks.specs.Descriptor.{physical, descriptorBlock}
 use Rattle.blocks.specs.declared.descriptor.Descriptor.{Descriptor}
 use Rattle.calls.specs.declared.answer.Target.the-variants.{Active, Snapshot}
 use Rattle.calls.specs.Call.{Call, Ream, Read, Write, Snap, Revert, Listing, Check, answer}
-use Rattle.calls.specs.Ladder.{answerOf}
+use Rattle.calls.specs.Meaning.{answerOf}
 use Rattle.calls.specs.Step.{step}
 use Rattle.claims.specs.Bench.{Only, Beta, Bytes, Value, area, ones, fs, mon, tue, lent}
 use Rattle.claims.specs.Example.{blank}

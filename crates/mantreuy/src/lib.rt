@@ -17,7 +17,7 @@ use writes::write;
 ghost use mathlib.Core.Path.{_≡_};
 ghost use Rattle.calls.specs.Call.{Ream, Read, Write, Snap, Revert, Check, None, Block, answer};
 ghost use Rattle.calls.specs.Step.{step};
-ghost use Rattle.boundary.specs.Exported.{done, nameIn, targetIn, paddingOf};
+ghost use Rattle.boundary.specs.Exported.{exported, nameIn, targetIn, paddingOf};
 ghost use Rattle.boundary.specs.RecordBytes.{listingOf};
 
 // Formats the card.
@@ -29,7 +29,7 @@ pub extern "C" fn mantreuy_ream(
     name: &[u8],
     place: &mut u32,
 ) -> u32
-    ensures { λ r. ⌜ done r (now (place .exit)) None (now (card .exit)) ≡ step (Ream layout volume (nameIn (now (name .entry)))) (now (card .entry)) ⌝ }
+    ensures { λ r. ⌜ exported r (now (place .exit)) None (now (card .exit)) ≡ step (Ream layout volume (nameIn (now (name .entry)))) (now (card .entry)) ⌝ }
 {
     let a = ream::ream(card, layout, volume, argument::name_in(name));
     *place = a.place;
@@ -46,7 +46,7 @@ pub extern "C" fn mantreuy_read(
     out: &mut [u8],
     place: &mut u32,
 ) -> u32
-    ensures { λ r. ⌜ done r (now (place .exit)) (Block (now (out .exit))) (now (card .entry)) ≡ step (Read (targetIn snapshot) (nameIn (now (name .entry))) block (now (out .entry))) (now (card .entry)) ⌝ }
+    ensures { λ r. ⌜ exported r (now (place .exit)) (Block (now (out .exit))) (now (card .entry)) ≡ step (Read (targetIn snapshot) (nameIn (now (name .entry))) block (now (out .entry))) (now (card .entry)) ⌝ }
 {
     let target = argument::target_in(snapshot);
     let a = read::read(card, target, argument::name_in(name), Logical(block), out);
@@ -57,7 +57,7 @@ pub extern "C" fn mantreuy_read(
 // Writes a block of the active store.
 #[no_mangle]
 pub extern "C" fn mantreuy_write(card: &mut [u8], block: u32, bytes: &[u8], place: &mut u32) -> u32
-    ensures { λ r. ⌜ done r (now (place .exit)) (Block (now (bytes .entry))) (now (card .exit)) ≡ step (Write block (now (bytes .entry))) (now (card .entry)) ⌝ }
+    ensures { λ r. ⌜ exported r (now (place .exit)) (Block (now (bytes .entry))) (now (card .exit)) ≡ step (Write block (now (bytes .entry))) (now (card .entry)) ⌝ }
 {
     let a = write::write(card, Logical(block), bytes);
     *place = a.place;
@@ -67,7 +67,7 @@ pub extern "C" fn mantreuy_write(card: &mut [u8], block: u32, bytes: &[u8], plac
 // Freezes the active volume under the name.
 #[no_mangle]
 pub extern "C" fn mantreuy_snap(card: &mut [u8], name: &[u8], place: &mut u32) -> u32
-    ensures { λ r. ⌜ done r (now (place .exit)) None (now (card .exit)) ≡ step (Snap (nameIn (now (name .entry)))) (now (card .entry)) ⌝ }
+    ensures { λ r. ⌜ exported r (now (place .exit)) None (now (card .exit)) ≡ step (Snap (nameIn (now (name .entry)))) (now (card .entry)) ⌝ }
 {
     let a = snap::snap(card, argument::name_in(name));
     *place = a.place;
@@ -77,7 +77,7 @@ pub extern "C" fn mantreuy_snap(card: &mut [u8], name: &[u8], place: &mut u32) -
 // Back to the snapshot that has the name.
 #[no_mangle]
 pub extern "C" fn mantreuy_revert(card: &mut [u8], name: &[u8], place: &mut u32) -> u32
-    ensures { λ r. ⌜ done r (now (place .exit)) None (now (card .exit)) ≡ step (Revert (nameIn (now (name .entry)))) (now (card .entry)) ⌝ }
+    ensures { λ r. ⌜ exported r (now (place .exit)) None (now (card .exit)) ≡ step (Revert (nameIn (now (name .entry)))) (now (card .entry)) ⌝ }
 {
     let a = revert::revert(card, argument::name_in(name));
     *place = a.place;
@@ -89,9 +89,10 @@ pub extern "C" fn mantreuy_revert(card: &mut [u8], name: &[u8], place: &mut u32)
 pub extern "C" fn mantreuy_list(card: &[u8], records: &mut [u8], place: &mut u32) -> u32
     ensures { λ r. ⌜ record { answer = answer r (now (place .exit)); bytes = now (records .exit) } ≡ listingOf (now (card .entry)) (now (records .entry)) ⌝ }
 {
-    if area::is_bad(card) {
-        *place = 0;
-        return 1;
+    let admitted = area::admit(card);
+    if admitted.number != 0 {
+        *place = admitted.place;
+        return admitted.number;
     }
     let found = chain::walk_chain(card);
     let f = list::plan_filling(found.sound, found.place, found.count, records.len() / 28);
@@ -103,7 +104,7 @@ pub extern "C" fn mantreuy_list(card: &[u8], records: &mut [u8], place: &mut u32
 // Checks the card.
 #[no_mangle]
 pub extern "C" fn mantreuy_check(card: &[u8], place: &mut u32) -> u32
-    ensures { λ r. ⌜ done r (now (place .exit)) None (now (card .entry)) ≡ step Check (now (card .entry)) ⌝ }
+    ensures { λ r. ⌜ exported r (now (place .exit)) None (now (card .entry)) ≡ step Check (now (card .entry)) ⌝ }
 {
     let a = check::check(card);
     *place = a.place;

@@ -12,7 +12,7 @@ ghost use mathlib.Core.List.{List};
 ghost use Prim.Native.Nat.{ℕ, _+_, _*_, _≤_, _<_};
 ghost use lib.ListN.{length, getD};
 ghost use Rattle.calls.specs.Call.{Listing, Records};
-ghost use Rattle.calls.specs.Step.{step};
+ghost use Rattle.calls.specs.Step.{step, done};
 ghost use Rattle.calls.specs.Listing.{fillingWith, fillingBy, planOf, recordBy, filled};
 
 // What has this answer and fills so many records.
@@ -42,12 +42,10 @@ pub fn plan_filling(sound: bool, place: Physical, count: usize, room: usize) -> 
 fn make_plan(card: &[u8], room: usize) -> Plan
     ensures { λ r. ⌜ ((records : List Record) → length records ≡ room → r ≡ planOf (now (card .entry)) records) ⌝ }
 {
-    if area::is_bad(card) {
+    let admitted = area::admit(card);
+    if admitted.number != 0 {
         return Plan {
-            answer: Answer {
-                number: 1,
-                place: 0,
-            },
+            answer: admitted,
             count: 0,
             starts: [0u32; 257],
         };
@@ -95,7 +93,7 @@ fn fill(card: &[u8], starts: &[u32], records: &mut [Record], n: usize)
 
 // Lists the chain: the first records are those of its descriptors, in chain order, and the others are unchanged.
 pub fn list(card: &[u8], records: &mut [Record]) -> Answer
-    ensures { λ r. ⌜ record { outcome = record { answer = r; lent = Records (now (records .exit)) }; card = now (card .entry) } ≡ step (Listing (now (records .entry))) (now (card .entry)) ⌝ }
+    ensures { λ r. ⌜ done r (Records (now (records .exit))) (now (card .entry)) ≡ step (Listing (now (records .entry))) (now (card .entry)) ⌝ }
 {
     let p = make_plan(card, records.len());
     let starts = p.starts;
@@ -122,7 +120,7 @@ pub struct Listed {
 
 // The same listing, into an array of 64 records by value.
 pub fn list_64(card: &[u8], records: [Record; 64]) -> Listed
-    ensures { λ r. ⌜ record { outcome = record { answer = r .answer; lent = Records (r .records) }; card = now (card .entry) } ≡ step (Listing records) (now (card .entry)) ⌝ }
+    ensures { λ r. ⌜ done (r .answer) (Records (r .records)) (now (card .entry)) ≡ step (Listing records) (now (card .entry)) ⌝ }
     ensures { λ r. ⌜ (r .count ≡ planOf (now (card .entry)) records .count) × (r .count ≤ 64) ⌝ }
 {
     let p = make_plan(card, 64);

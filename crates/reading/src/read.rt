@@ -4,6 +4,7 @@ use blocks::descriptor::Descriptor;
 use blocks::name;
 use blocks::numbers::Logical;
 use blocks::numbers::Physical;
+use calls::answer;
 use calls::answer::Answer;
 use calls::answer::Target;
 use calls::area;
@@ -24,7 +25,7 @@ ghost use Rattle.entries.specs.Entry.{find as finding};
 ghost use Rattle.calls.specs.Call.{Read, Block};
 ghost use Rattle.calls.specs.Parts.{isSnapshot, targetIndex};
 ghost use Rattle.calls.specs.Effect.{delivered};
-ghost use Rattle.calls.specs.Step.{step};
+ghost use Rattle.calls.specs.Step.{step, done};
 
 // Whether a name is given that is none: the bytes beside the active store are not looked at.
 fn is_unnamed(target: Target, name: [u8; 16]) -> bool
@@ -92,35 +93,24 @@ fn deliver(
         },
         Found::Entry(_, p) => {
             fill_block(card, p, out);
-            Answer {
-                number: 0,
-                place: 0,
-            }
+            answer::ACCEPTED
         }
     }
 }
 
 // Reads a block of the active store, or of the snapshot that has the name.
 pub fn read(card: &[u8], target: Target, name: [u8; 16], l: Logical, out: &mut [u8]) -> Answer
-    ensures { λ r. ⌜ record { outcome = record { answer = r; lent = Block (now (out .exit)) }; card = now (card .entry) } ≡ step (Read target name (l .0) (now (out .entry))) (now (card .entry)) ⌝ }
+    ensures { λ r. ⌜ done r (Block (now (out .exit))) (now (card .entry)) ≡ step (Read target name (l .0) (now (out .entry))) (now (card .entry)) ⌝ }
 {
-    if area::is_bad(card) {
-        return Answer {
-            number: 1,
-            place: 0,
-        };
+    let admitted = area::admit(card);
+    if admitted.number != 0 {
+        return admitted;
     }
     if is_unnamed(target, name) {
-        return Answer {
-            number: 4,
-            place: 0,
-        };
+        return answer::BAD_NAME;
     }
     if out.len() != 512 {
-        return Answer {
-            number: 9,
-            place: 0,
-        };
+        return answer::BAD_BLOCK;
     }
     let found = chain::walk_chain(card);
     let count = found.count;
@@ -131,16 +121,10 @@ pub fn read(card: &[u8], target: Target, name: [u8; 16], l: Logical, out: &mut [
     }
     let k = target_index(card, &found.starts, count, target, name);
     if k == count {
-        return Answer {
-            number: 7,
-            place: 0,
-        };
+        return answer::NO_SNAPSHOT;
     }
     if active.volume <= l.0 {
-        return Answer {
-            number: 8,
-            place: 0,
-        };
+        return answer::PAST_THE_VOLUME;
     }
     let d = chain::descriptor_of(card, active, &found.starts, count, k);
     deliver(card, &found.starts, count, d, l, out)

@@ -15,8 +15,8 @@ use Rattle.calls.specs.declared.answer.Target.{Target}
 use Rattle.calls.specs.declared.answer.Record.{Record}
 use Rattle.calls.specs.Call.{Ream, Read, Write, Snap, Revert, Listing, Check, Lent, None, Block, Records, answer}
 use Rattle.calls.specs.Parts.{descriptorsOf}
-use Rattle.calls.specs.Ladder.{answerOf}
-use Rattle.calls.specs.Step.{Done, step, isAccepted}
+use Rattle.calls.specs.Meaning.{answerOf}
+use Rattle.calls.specs.Step.{Done, step, isAccepted, done}
 use Rattle.calls.specs.Listing.{fillingOf, planOf}
 use Rattle.calls.proofs.StepLaws.{step-answer}
 use Rattle.calls.proofs.ListLaws.{list-room}
@@ -30,9 +30,6 @@ use Rattle.sheet.specs.Sheet.{State, After, cardOf, withCard, isMalforme
 
 abbrev pub state : List ℕ → ℕ → List Record → State
 state area blocks records = record { area = area; blocks = blocks; records = records }
-
-abbrev pub done : Answer → Lent → List ℕ → Done
-done a lent card = record { outcome = record { answer = a; lent = lent }; card = card }
 
 abbrev pub after : Answer → ℕ → Shown → List Record → List ℕ → After
 after a blocks shown records area = record { ran = record { answer = a; blocks = blocks; shown = shown; records = records; ended = false }; area = area }

@@ -4,6 +4,7 @@ use blocks::descriptor;
 use blocks::descriptor::Descriptor;
 use blocks::name;
 use blocks::numbers::Physical;
+use calls::answer;
 use calls::answer::Answer;
 use calls::area;
 ghost use mathlib.Core.Path.{_≡_};
@@ -12,7 +13,7 @@ ghost use lib.ListN.{length, replicate};
 ghost use Rattle.blocks.specs.Bytes.{storeAll};
 ghost use Rattle.blocks.specs.Descriptor.{cost as openingCost, clearing, descriptorBlock, opening};
 ghost use Rattle.calls.specs.Call.{Ream, None};
-ghost use Rattle.calls.specs.Step.{step};
+ghost use Rattle.calls.specs.Step.{step, done};
 
 // The `n` blocks from block `first` are zeros.
 fn clear_blocks(card: &mut [u8], first: u32, n: u32)
@@ -39,56 +40,33 @@ fn fresh_block(d: Descriptor) -> [u8; 512]
 
 // Formats the card.
 pub fn ream(card: &mut [u8], layout: u32, volume: u32, name: [u8; 16]) -> Answer
-    ensures { λ r. ⌜ record { outcome = record { answer = r; lent = None }; card = now (card .exit) } ≡ step (Ream layout volume name) (now (card .entry)) ⌝ }
+    ensures { λ r. ⌜ done r None (now (card .exit)) ≡ step (Ream layout volume name) (now (card .entry)) ⌝ }
 {
-    if area::is_bad(card) {
-        return Answer {
-            number: 1,
-            place: 0,
-        };
+    let admitted = area::admit(card);
+    if admitted.number != 0 {
+        return admitted;
     }
     if layout == 0 {
-        return Answer {
-            number: 2,
-            place: 0,
-        };
+        return answer::BAD_LAYOUT;
     }
     if 2 < layout {
-        return Answer {
-            number: 2,
-            place: 0,
-        };
+        return answer::BAD_LAYOUT;
     }
     if volume == 0 {
-        return Answer {
-            number: 3,
-            place: 0,
-        };
+        return answer::BAD_VOLUME;
     }
     if 14336 < volume {
-        return Answer {
-            number: 3,
-            place: 0,
-        };
+        return answer::BAD_VOLUME;
     }
     if !name::is_name(name) {
-        return Answer {
-            number: 4,
-            place: 0,
-        };
+        return answer::BAD_NAME;
     }
     let cost = descriptor::opening_cost(layout, volume);
     if card.len() / 512 < cost as usize {
-        return Answer {
-            number: 5,
-            place: 0,
-        };
+        return answer::CARD_TOO_SMALL;
     }
     open_card(card, layout, volume, cost, name);
-    Answer {
-        number: 0,
-        place: 0,
-    }
+    answer::ACCEPTED
 }
 
 // Clears the tables, then stores the first descriptor.

@@ -3,6 +3,7 @@ use blocks::descriptor;
 use blocks::descriptor::Descriptor;
 use blocks::name;
 use blocks::numbers::Physical;
+use calls::answer;
 use calls::answer::Answer;
 use calls::area;
 use walking::chain;
@@ -12,7 +13,7 @@ ghost use lib.ListN.{length};
 ghost use Rattle.blocks.specs.Bytes.{storeBlock};
 ghost use Rattle.blocks.specs.Descriptor.{physical, tailAt, descriptorBlock, renamedOf, linkedOf};
 ghost use Rattle.calls.specs.Call.{Revert, None};
-ghost use Rattle.calls.specs.Step.{step};
+ghost use Rattle.calls.specs.Step.{step, done};
 
 // The descriptor `d` in block `p` becomes the active one: it gets the active name, and a nil next.
 fn make_active(card: &mut [u8], p: Physical, d: Descriptor, name: [u8; 16])
@@ -24,19 +25,14 @@ fn make_active(card: &mut [u8], p: Physical, d: Descriptor, name: [u8; 16])
 
 // Rolls the card back to the snapshot that has the name.
 pub fn revert(card: &mut [u8], name: [u8; 16]) -> Answer
-    ensures { λ r. ⌜ record { outcome = record { answer = r; lent = None }; card = now (card .exit) } ≡ step (Revert name) (now (card .entry)) ⌝ }
+    ensures { λ r. ⌜ done r None (now (card .exit)) ≡ step (Revert name) (now (card .entry)) ⌝ }
 {
-    if area::is_bad(card) {
-        return Answer {
-            number: 1,
-            place: 0,
-        };
+    let admitted = area::admit(card);
+    if admitted.number != 0 {
+        return admitted;
     }
     if !name::is_name(name) {
-        return Answer {
-            number: 4,
-            place: 0,
-        };
+        return answer::BAD_NAME;
     }
     let found = chain::walk_chain(card);
     let count = found.count;
@@ -48,17 +44,11 @@ pub fn revert(card: &mut [u8], name: [u8; 16]) -> Answer
     let last = count - 1;
     let k = chain::index_of(card, &found.starts, last, name);
     if k == last {
-        return Answer {
-            number: 7,
-            place: 0,
-        };
+        return answer::NO_SNAPSHOT;
     }
     let p = found.starts[k];
     let d = chain::descriptor_of(card, active, &found.starts, count, k);
     let current = active.name;
     make_active(card, Physical(p), d, current);
-    Answer {
-        number: 0,
-        place: 0,
-    }
+    answer::ACCEPTED
 }

@@ -4,6 +4,7 @@ use blocks::descriptor;
 use blocks::descriptor::Descriptor;
 use blocks::name;
 use blocks::numbers::Physical;
+use calls::answer;
 use calls::answer::Answer;
 use calls::area;
 use walking::chain;
@@ -14,7 +15,7 @@ ghost use Rattle.blocks.specs.Bytes.{storeAll};
 ghost use Rattle.blocks.specs.Descriptor.{costOf, copying};
 ghost use Rattle.calls.specs.Call.{Snap, None};
 ghost use Rattle.calls.specs.Effect.{snapping};
-ghost use Rattle.calls.specs.Step.{step};
+ghost use Rattle.calls.specs.Step.{step, done};
 
 // The `n` blocks from block `to` are copies of those from block `from`, which stand before them.
 fn copy_blocks(card: &mut [u8], from: u32, to: u32, n: u32)
@@ -46,19 +47,14 @@ fn take_snapshot(card: &mut [u8], d: Descriptor, cost: u32, name: [u8; 16])
 
 // Freezes the active volume under the name.
 pub fn snap(card: &mut [u8], name: [u8; 16]) -> Answer
-    ensures { λ r. ⌜ record { outcome = record { answer = r; lent = None }; card = now (card .exit) } ≡ step (Snap name) (now (card .entry)) ⌝ }
+    ensures { λ r. ⌜ done r None (now (card .exit)) ≡ step (Snap name) (now (card .entry)) ⌝ }
 {
-    if area::is_bad(card) {
-        return Answer {
-            number: 1,
-            place: 0,
-        };
+    let admitted = area::admit(card);
+    if admitted.number != 0 {
+        return admitted;
     }
     if !name::is_name(name) {
-        return Answer {
-            number: 4,
-            place: 0,
-        };
+        return answer::BAD_NAME;
     }
     let found = chain::walk_chain(card);
     let count = found.count;
@@ -67,29 +63,17 @@ pub fn snap(card: &mut [u8], name: [u8; 16]) -> Answer
         return Answer { number: 6, place };
     }
     if chain::is_named(card, &found.starts, count, name) {
-        return Answer {
-            number: 12,
-            place: 0,
-        };
+        return answer::NAME_IN_USE;
     }
     if 255 < count {
-        return Answer {
-            number: 13,
-            place: 0,
-        };
+        return answer::TOO_MANY_SNAPSHOTS;
     }
     let d = found.active;
     let cost = descriptor::opening_cost(d.layout, d.volume);
     let end = (d.beta.0 as usize) + (cost as usize);
     if card.len() / 512 < end {
-        return Answer {
-            number: 11,
-            place: 0,
-        };
+        return answer::NO_ROOM;
     }
     take_snapshot(card, d, cost, name);
-    Answer {
-        number: 0,
-        place: 0,
-    }
+    answer::ACCEPTED
 }

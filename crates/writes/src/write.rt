@@ -3,6 +3,7 @@ use blocks::bytes;
 use blocks::descriptor::Descriptor;
 use blocks::numbers::Logical;
 use blocks::numbers::Physical;
+use calls::answer;
 use calls::answer::Answer;
 use calls::area;
 use entries::find::Found;
@@ -12,7 +13,7 @@ use walking::chain;
 ghost use mathlib.Core.Path.{_≡_};
 ghost use Rattle.calls.specs.Call.{Write, Block};
 ghost use Rattle.calls.specs.Effect.{written, WriteReady};
-ghost use Rattle.calls.specs.Step.{step};
+ghost use Rattle.calls.specs.Step.{step, done};
 
 // Writes the block through the entry `p` of table block `m`, if there is room.
 fn put(card: &mut [u8], d: Descriptor, m: Physical, p: Physical, l: Logical, block: &[u8]) -> Answer
@@ -22,50 +23,33 @@ fn put(card: &mut [u8], d: Descriptor, m: Physical, p: Physical, l: Logical, blo
     let need = find::need(d.alpha, Found::Entry(m, p));
     let beta = d.beta.0;
     if card.len() / 512 < (beta as usize) + (need as usize) {
-        return Answer {
-            number: 11,
-            place: 0,
-        };
+        return answer::NO_ROOM;
     }
     if need == 0 {
         bytes::store_block(card, p, block);
-        return Answer {
-            number: 0,
-            place: 0,
-        };
+        return answer::ACCEPTED;
     }
     if need == 2 {
         let after = Physical(beta + 1);
         bytes::store_block(card, after, block);
         set::set_in_new_table(card, d, m, l);
-        return Answer {
-            number: 0,
-            place: 0,
-        };
+        return answer::ACCEPTED;
     }
     bytes::store_block(card, Physical(beta), block);
     set::set_in_table(card, d, m, l);
-    Answer {
-        number: 0,
-        place: 0,
-    }
+    answer::ACCEPTED
 }
 
 // Writes a block of the active store.
 pub fn write(card: &mut [u8], l: Logical, block: &[u8]) -> Answer
-    ensures { λ r. ⌜ record { outcome = record { answer = r; lent = Block (now (block .entry)) }; card = now (card .exit) } ≡ step (Write (l .0) (now (block .entry))) (now (card .entry)) ⌝ }
+    ensures { λ r. ⌜ done r (Block (now (block .entry))) (now (card .exit)) ≡ step (Write (l .0) (now (block .entry))) (now (card .entry)) ⌝ }
 {
-    if area::is_bad(card) {
-        return Answer {
-            number: 1,
-            place: 0,
-        };
+    let admitted = area::admit(card);
+    if admitted.number != 0 {
+        return admitted;
     }
     if block.len() != 512 {
-        return Answer {
-            number: 9,
-            place: 0,
-        };
+        return answer::BAD_BLOCK;
     }
     let found = chain::walk_chain(card);
     let count = found.count;
@@ -75,10 +59,7 @@ pub fn write(card: &mut [u8], l: Logical, block: &[u8]) -> Answer
     }
     let d = found.active;
     if d.volume <= l.0 {
-        return Answer {
-            number: 8,
-            place: 0,
-        };
+        return answer::PAST_THE_VOLUME;
     }
     match find::find(card, &found.starts, count, d, l) {
         Found::Misplaced(h) => Answer {

@@ -1,14 +1,14 @@
--- `mantreuy_list` meets its contract: where the area is no card, and with what the walk found.
+-- `mantreuy_list` meets its contract: where it is not admitted, and with what the walk found.
 use borrow.Author.Needs.{needs}
-use Rattle.boundary.proofs.RecordLaws.{listing-1, filling-fits, listing-done}
+use Rattle.boundary.proofs.RecordLaws.{listing-none, filling-fits, listing-done}
 use Rattle.mantreuy.proofs.mantreuy_list.Statement.{statement}
 use Rattle.mantreuy.proofs.mantreuy_list.Tie as tie
 
-is-bad-requires : tie.Need-is-bad-requires
-is-bad-requires c κs = search needs
+admit-requires : tie.Need-admit-requires
+admit-requires c κs = search needs
 
 returns : tie.Need-returns
-returns c = search listing-1
+returns c = search listing-none
 
 walk-chain-requires : tie.Need-walk-chain-requires
 walk-chain-requires c κs = search needs
@@ -17,13 +17,13 @@ plan-filling-requires : tie.Need-plan-filling-requires
 plan-filling-requires c κs = search needs
 
 fill-bytes-requires : tie.Need-fill-bytes-requires
-fill-bytes-requires c κs = filling-fits _ (c .before .before .before .before .before .before .before .before .before .before .before .args .records .now) _ (c .before .before .before .before .before .before .before .before .is-bad .ensures) (c .before .before .before .before .before .before .before .if1 .left) _ (c .before .before .before .before .before .before .walk-chain .ensures) _ (c .before .before .before .before .plan-filling .ensures)
+fill-bytes-requires c κs = filling-fits _ (c .before .before .before .before .before .before .before .before .before .before .before .before .args .records .now) _ (c .before .before .before .before .before .before .before .before .before .admit .ensures) (c .before .before .before .before .before .before .before .if1 .left) _ (c .before .before .before .before .before .before .walk-chain .ensures) _ (c .before .before .before .before .plan-filling .ensures)
 
 same-length : tie.Need-same-length
 same-length c = search needs
 
 returns-2 : tie.Need-returns-2
-returns-2 c = listing-done _ _ _ (c .before .before .before .before .before .before .before .before .before .before .before .is-bad .ensures) (c .before .before .before .before .before .before .before .before .before .before .if1 .left) _ (c .before .before .before .before .before .before .before .before .before .walk-chain .ensures) _ (c .before .before .before .before .before .before .before .plan-filling .ensures) _ (c .before .before .fill-bytes .ensures)
+returns-2 c = listing-done _ _ _ (c .before .before .before .before .before .before .before .before .before .before .before .before .admit .ensures) (c .before .before .before .before .before .before .before .before .before .before .if1 .left) _ (c .before .before .before .before .before .before .before .before .before .walk-chain .ensures) _ (c .before .before .before .before .before .before .before .plan-filling .ensures) _ (c .before .before .fill-bytes .ensures)
 
 pub mantreuy-list-spec : {M : Type 1} → statement M
-mantreuy-list-spec = tie.close (tie.spec is-bad-requires returns walk-chain-requires plan-filling-requires fill-bytes-requires same-length returns-2)
+mantreuy-list-spec = tie.close (tie.spec admit-requires returns walk-chain-requires plan-filling-requires fill-bytes-requires same-length returns-2)

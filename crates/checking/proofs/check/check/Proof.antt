@@ -1,23 +1,22 @@
 -- `check` meets its contract, row by row.
-use mathlib.Core.Path.{refl, sym, _∙_}
+use mathlib.Core.Path.{refl}
 use borrow.Author.Tests.{not-false}
-use Rattle.calls.specs.Ladder.{checkRows, rowsOf, answerOf}
-use Rattle.calls.specs.Effect.{lentOf, filledOf, storesOf}
+use Rattle.calls.specs.Meaning.{lentOf, filledOf, storesOf, givenOf}
 use Rattle.blocks.specs.Bytes.{storeAll}
-use Rattle.calls.proofs.StepLaws.{step-refused, step-accepted}
+use Rattle.calls.proofs.StepLaws.{step-barred, step-refused, step-accepted}
 use Rattle.calls.proofs.CardLaws.{regions-whole}
-use Rattle.calls.proofs.RowLaws.{area-given}
+use Rattle.calls.proofs.RowLaws.{admitted-card}
 use Rattle.calls.proofs.CheckCardLaws.{check-6, check-0, check-10}
 use borrow.Author.Needs.{needs}
 use Rattle.checking.proofs.check.check.Statement.{statement}
 use Rattle.checking.proofs.check.check.Tie as tie
 
-is-bad-requires : tie.Need-is-bad-requires
-is-bad-requires c κs = search needs
+admit-requires : tie.Need-admit-requires
+admit-requires c κs = search needs
 
 returns : tie.Need-returns
-unfolding lentOf answerOf rowsOf checkRows
-returns c = step-refused _ _ _ _ (search area-given) refl
+unfolding lentOf
+returns c = step-barred _ _ _ (c .before .before .admit .ensures) (c .if1 .taken)
 
 walk-chain-requires : tie.Need-walk-chain-requires
 walk-chain-requires c κs = search needs
@@ -27,7 +26,7 @@ unfolding lentOf
 returns-2 c = step-refused _ _ _ _ (search check-6) refl
 
 check-regions-requires : tie.Need-check-regions-requires
-check-regions-requires c κs = (sym (c .before .before .before .before .before .before .before .is-bad .ensures) ∙ c .before .before .before .before .before .before .if1 .left, regions-whole _ _ (c .before .before .before .before .before .walk-chain .ensures) (not-false (c .before .before .before .before .before .walk-chain .result .sound) (c .before .before .before .if2 .left)) .1)
+check-regions-requires c κs = (admitted-card _ _ (c .before .before .before .before .before .before .before .before .admit .ensures) (c .before .before .before .before .before .before .if1 .left), regions-whole _ _ (c .before .before .before .before .before .walk-chain .ensures) (not-false (c .before .before .before .before .before .walk-chain .result .sound) (c .before .before .before .if2 .left)) .1)
 
 enum-told : tie.Need-enum-told
 enum-told c = search needs
@@ -36,18 +35,18 @@ enum-known-h : tie.Need-enum-known-h
 enum-known-h c = search needs
 
 returns-3 : tie.Need-returns-3
-unfolding filledOf storesOf storeAll
-returns-3 c = step-accepted _ _ (check-0 _ _ (c .before .before .before .before .before .before .before .before .before .before .is-bad .ensures) (c .before .before .before .before .before .before .before .before .before .if1 .left) _ (c .before .before .before .before .before .before .before .before .walk-chain .ensures) (c .before .before .before .before .before .before .if2 .left) _ (c .before .before .check-regions .ensures) (cc)) _ refl _ refl
+unfolding filledOf storesOf storeAll givenOf
+returns-3 c = step-accepted _ _ (check-0 _ _ (c .before .before .before .before .before .before .before .before .before .before .before .admit .ensures) (c .before .before .before .before .before .before .before .before .before .if1 .left) _ (c .before .before .before .before .before .before .before .before .walk-chain .ensures) (c .before .before .before .before .before .before .if2 .left) _ (c .before .before .check-regions .ensures) (cc)) _ refl _ refl refl
 
 returns-4 : tie.Need-returns-4
 unfolding lentOf
-returns-4 c = step-refused _ _ _ _ (check-10 _ _ (c .before .before .before .before .before .before .before .before .before .before .before .is-bad .ensures) (c .before .before .before .before .before .before .before .before .before .before .if1 .left) _ (c .before .before .before .before .before .before .before .before .before .walk-chain .ensures) (c .before .before .before .before .before .before .before .if2 .left) _ (c .before .before .before .check-regions .ensures) _ (cc)) refl
+returns-4 c = step-refused _ _ _ _ (check-10 _ _ (c .before .before .before .before .before .before .before .before .before .before .before .before .admit .ensures) (c .before .before .before .before .before .before .before .before .before .before .if1 .left) _ (c .before .before .before .before .before .before .before .before .before .walk-chain .ensures) (c .before .before .before .before .before .before .before .if2 .left) _ (c .before .before .before .check-regions .ensures) _ (cc)) refl
 
 pub check-spec : {M : Type 1} → statement M
 check-spec =
     tie.close
     (tie.spec
-    is-bad-requires
+    admit-requires
     returns
     walk-chain-requires
     returns-2

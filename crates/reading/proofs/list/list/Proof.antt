@@ -46,7 +46,7 @@ use denote.Triple.Walked.{says, Stays, stay-none-slice, gave-slice, walkOf, goes
 use base.Logic.{emp, via, fst∗}
 use denote.Exit.{yes}
 use Rattle.calls.specs.Call.{Listing, Records}
-use Rattle.calls.specs.Step.{Done, step}
+use Rattle.calls.specs.Step.{Done, step, done as doneOf}
 use Rattle.calls.specs.Listing.{planOf, filled}
 use Rattle.calls.specs.declared.answer.Record.{Record}
 use Rattle.calls.specs.declared.answer.Answer.{Answer}
@@ -162,7 +162,7 @@ module _ {M : Type 1} (𝓤 : URA M) (H : Heap 𝓤) (A : Atoms 𝓤) (W : Given
         nothing ! $ owned ! usize (Is usize) (uint-makes 𝓤 H A W w64) n _ (refl, n-fits) $ fjoin ! $ move ! (3 ∷ 0 ∷ []) $ fjoin ! $ move ! (2 ∷ 0 ∷ []) $ fjoin ! $ move ! (1 ∷ 0 ∷ []) $ fjoin ! $ done !
 
   exits : (l : List Record) (n : Answer) (v : Val) → Is N.the-row n (v ∷ []) → length l ≡ length ys
-      → _≡_ {A = Done} record { outcome = record { answer = n; lent = Records l }; card = now x } (step (Listing ys) (now x))
+      → _≡_ {A = Done} (doneOf n (Records l) (now x)) (step (Listing ys) (now x))
       → ent 𝓤 (⋆ 𝓤 H A ((‵ (flft κ q) ⊛ ‵ (flft κ′ q′) ⊛ ‵ ftrue) ∷ ‵ (finally R γ l) ∷ ‵ Own ∷ [])) (Post v)
   exits l n v n-is len e =
       qed W ((‵ (flft κ q) ⊛ ‵ (flft κ′ q′) ⊛ ‵ ftrue) ∷ ‵ (finally R γ l) ∷ ‵ Own ∷ []) ∵

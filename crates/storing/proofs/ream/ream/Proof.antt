@@ -1,23 +1,21 @@
 -- `ream` meets its contract, row by row.
 use mathlib.Core.Path.{refl}
-use Rattle.calls.specs.Ladder.{reamRows, rowsOf, answerOf}
-use Rattle.calls.specs.Effect.{lentOf, filledOf, storesOf}
-use Rattle.calls.proofs.StepLaws.{step-refused, step-accepted}
-use Rattle.calls.proofs.RowLaws.{area-given}
+use Rattle.calls.specs.Meaning.{lentOf, filledOf, storesOf, givenOf}
+use Rattle.calls.proofs.StepLaws.{step-barred, step-refused, step-accepted}
 use Rattle.calls.proofs.ReamLaws.{ream-2-low, ream-2-high, ream-3-none, ream-3-large, ream-4, ream-5, ream-0}
 use borrow.Author.Needs.{needs}
 use Rattle.storing.proofs.ream.ream.Statement.{statement}
 use Rattle.storing.proofs.ream.ream.Tie as tie
 
-is-bad-requires : tie.Need-is-bad-requires
-is-bad-requires c κs = search needs
+admit-requires : tie.Need-admit-requires
+admit-requires c κs = search needs
 
 same-length : tie.Need-same-length
 same-length c = search needs
 
 returns : tie.Need-returns
-unfolding lentOf answerOf rowsOf reamRows
-returns c = step-refused _ _ _ _ (search area-given) refl
+unfolding lentOf
+returns c = step-barred _ _ _ (c .before .before .admit .ensures) (c .if1 .taken)
 
 same-length-2 : tie.Need-same-length-2
 same-length-2 c = search needs
@@ -77,14 +75,14 @@ same-length-8 : tie.Need-same-length-8
 same-length-8 c = search needs
 
 returns-8 : tie.Need-returns-8
-unfolding filledOf storesOf
-returns-8 c = step-accepted _ _ (search ream-0) _ refl _ (c .before .before .open-card .ensures)
+unfolding filledOf storesOf givenOf
+returns-8 c = step-accepted _ _ (search ream-0) _ refl _ (c .before .before .open-card .ensures) refl
 
 pub ream-spec : {M : Type 1} → statement M
 ream-spec =
     tie.close
     (tie.spec
-    is-bad-requires
+    admit-requires
     same-length
     returns
     same-length-2

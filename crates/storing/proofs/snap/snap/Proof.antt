@@ -1,28 +1,28 @@
 -- `snap` meets its contract, row by row.
-use mathlib.Core.Path.{refl, sym, _∙_}
+use mathlib.Core.Path.{refl}
 use native.Mathlib.Omega.{arith}
 use borrow.Author.Needs.{needs}
 use borrow.Author.Tests.{not-false}
-use Rattle.calls.specs.Ladder.{snapRows, rowsOf, answerOf}
-use Rattle.calls.specs.Effect.{lentOf, filledOf}
+use Rattle.calls.specs.Ladder.{snapRows}
+use Rattle.calls.specs.Meaning.{rowsOf, answerOf, lentOf, filledOf, givenOf}
 use Rattle.blocks.proofs.ChainLaws.{cost-least}
 use Rattle.entries.proofs.EntryLaws.{through-beta}
-use Rattle.calls.proofs.StepLaws.{step-refused, step-accepted}
+use Rattle.calls.proofs.StepLaws.{step-barred, step-refused, step-accepted}
 use Rattle.calls.proofs.CardLaws.{card-some, card-inside, card-long, card-active, card-through, card-small}
-use Rattle.calls.proofs.RowLaws.{area-given, named-4, named-6}
+use Rattle.calls.proofs.RowLaws.{admitted-card, named-4, named-6}
 use Rattle.calls.proofs.SnapLaws.{snap-12, snap-13, snap-11, snap-0, snap-stores}
 use Rattle.storing.proofs.snap.snap.Statement.{statement}
 use Rattle.storing.proofs.snap.snap.Tie as tie
 
-is-bad-requires : tie.Need-is-bad-requires
-is-bad-requires c κs = search needs
+admit-requires : tie.Need-admit-requires
+admit-requires c κs = search needs
 
 same-length : tie.Need-same-length
 same-length c = search needs
 
 returns : tie.Need-returns
-unfolding lentOf answerOf rowsOf snapRows
-returns c = step-refused _ _ _ _ (search area-given) refl
+unfolding lentOf
+returns c = step-barred _ _ _ (c .before .before .admit .ensures) (c .if1 .taken)
 
 is-name-requires : tie.Need-is-name-requires
 is-name-requires c κs = search needs
@@ -47,7 +47,7 @@ returns-3 c = step-refused _ _ _ _ (search named-6) refl
 is-named-requires : tie.Need-is-named-requires
 is-named-requires c κs =
     let w = c .before .before .before .before .before .walk-chain in
-    let good = sym (c .before .before .before .before .before .before .before .before .before .before .is-bad .ensures) ∙ c .before .before .before .before .before .before .before .before .before .if1 .left in
+    let good = admitted-card _ _ (c .before .before .before .before .before .before .before .before .before .before .before .admit .ensures) (c .before .before .before .before .before .before .before .before .before .if1 .left) in
     let ok = not-false (w .result .sound) (c .before .before .before .before .if3 .left) in
     (card-long _ _ (w .ensures) good ok, λ j h. card-inside _ _ (w .ensures) good ok j h)
 
@@ -56,14 +56,14 @@ same-length-4 c = search needs
 
 returns-4 : tie.Need-returns-4
 unfolding lentOf
-returns-4 c = step-refused _ _ _ _ (snap-12 _ _ _ (c .before .before .before .before .before .before .before .before .before .before .before .before .is-bad .ensures) (c .before .before .before .before .before .before .before .before .before .before .before .if1 .left) _ (c .before .before .before .before .before .before .before .before .before .before .is-name .ensures) (c .before .before .before .before .before .before .before .before .before .if2 .left) _ (c .before .before .before .before .before .before .before .walk-chain .ensures) (c .before .before .before .before .before .before .if3 .left) _ (c .before .is-named .ensures) (c .if4 .taken)) refl
+returns-4 c = step-refused _ _ _ _ (snap-12 _ _ _ (c .before .before .before .before .before .before .before .before .before .before .before .before .before .admit .ensures) (c .before .before .before .before .before .before .before .before .before .before .before .if1 .left) _ (c .before .before .before .before .before .before .before .before .before .before .is-name .ensures) (c .before .before .before .before .before .before .before .before .before .if2 .left) _ (c .before .before .before .before .before .before .before .walk-chain .ensures) (c .before .before .before .before .before .before .if3 .left) _ (c .before .is-named .ensures) (c .if4 .taken)) refl
 
 same-length-5 : tie.Need-same-length-5
 same-length-5 c = search needs
 
 returns-5 : tie.Need-returns-5
 unfolding lentOf
-returns-5 c = step-refused _ _ _ _ (snap-13 _ _ _ (c .before .before .before .before .before .before .before .before .before .before .before .before .before .is-bad .ensures) (c .before .before .before .before .before .before .before .before .before .before .before .before .if1 .left) _ (c .before .before .before .before .before .before .before .before .before .before .before .is-name .ensures) (c .before .before .before .before .before .before .before .before .before .before .if2 .left) _ (c .before .before .before .before .before .before .before .before .walk-chain .ensures) (c .before .before .before .before .before .before .before .if3 .left) _ (c .before .before .is-named .ensures) (c .before .if4 .left) (c .if5 .taken)) refl
+returns-5 c = step-refused _ _ _ _ (snap-13 _ _ _ (c .before .before .before .before .before .before .before .before .before .before .before .before .before .before .admit .ensures) (c .before .before .before .before .before .before .before .before .before .before .before .before .if1 .left) _ (c .before .before .before .before .before .before .before .before .before .before .before .is-name .ensures) (c .before .before .before .before .before .before .before .before .before .before .if2 .left) _ (c .before .before .before .before .before .before .before .before .walk-chain .ensures) (c .before .before .before .before .before .before .before .if3 .left) _ (c .before .before .is-named .ensures) (c .before .if4 .left) (c .if5 .taken)) refl
 
 opening-cost-requires : tie.Need-opening-cost-requires
 opening-cost-requires c κs = search needs
@@ -83,12 +83,12 @@ same-length-6 c = search needs
 returns-6 : tie.Need-returns-6
 unfolding lentOf
 returns-6 c =
-    step-refused _ _ _ _ (snap-11 _ _ _ (c .before .before .before .before .before .before .before .before .before .before .before .before .before .before .before .before .before .is-bad .ensures) (c .before .before .before .before .before .before .before .before .before .before .before .before .before .before .before .before .if1 .left) _ (c .before .before .before .before .before .before .before .before .before .before .before .before .before .before .before .is-name .ensures) (c .before .before .before .before .before .before .before .before .before .before .before .before .before .before .if2 .left) _ (c .before .before .before .before .before .before .before .before .before .before .before .before .walk-chain .ensures) (c .before .before .before .before .before .before .before .before .before .before .before .if3 .left) _ (c .before .before .before .before .before .before .is-named .ensures) (c .before .before .before .before .before .if4 .left) (c .before .before .before .before .if5 .left) _ (c .before .before .opening-cost .ensures) (c .if6 .taken)) refl
+    step-refused _ _ _ _ (snap-11 _ _ _ (c .before .before .before .before .before .before .before .before .before .before .before .before .before .before .before .before .before .before .admit .ensures) (c .before .before .before .before .before .before .before .before .before .before .before .before .before .before .before .before .if1 .left) _ (c .before .before .before .before .before .before .before .before .before .before .before .before .before .before .before .is-name .ensures) (c .before .before .before .before .before .before .before .before .before .before .before .before .before .before .if2 .left) _ (c .before .before .before .before .before .before .before .before .before .before .before .before .walk-chain .ensures) (c .before .before .before .before .before .before .before .before .before .before .before .if3 .left) _ (c .before .before .before .before .before .before .is-named .ensures) (c .before .before .before .before .before .if4 .left) (c .before .before .before .before .if5 .left) _ (c .before .before .opening-cost .ensures) (c .if6 .taken)) refl
 
 take-snapshot-requires : tie.Need-take-snapshot-requires
 take-snapshot-requires c κs =
     let w = c .before .before .before .before .before .before .before .before .before .before .before .before .before .walk-chain in
-    let good = sym (c .before .before .before .before .before .before .before .before .before .before .before .before .before .before .before .before .before .before .is-bad .ensures) ∙ c .before .before .before .before .before .before .before .before .before .before .before .before .before .before .before .before .before .if1 .left in
+    let good = admitted-card _ _ (c .before .before .before .before .before .before .before .before .before .before .before .before .before .before .before .before .before .before .before .admit .ensures) (c .before .before .before .before .before .before .before .before .before .before .before .before .before .before .before .before .before .if1 .left) in
     let ok = not-false (w .result .sound) (c .before .before .before .before .before .before .before .before .before .before .before .before .if3 .left) in
     let t = card-through _ _ (w .ensures) good ok _ (omega (arith, card-some _ _ (w .ensures) good ok)) _ (card-active _ _ (w .ensures) good ok) in
     let k = c .before .before .before .opening-cost .ensures in
@@ -98,18 +98,19 @@ same-length-7 : tie.Need-same-length-7
 same-length-7 c = search needs
 
 returns-7 : tie.Need-returns-7
-unfolding filledOf
+unfolding filledOf givenOf
 returns-7 c =
     step-accepted _ _
-    (snap-0 _ _ _ (c .before .before .before .before .before .before .before .before .before .before .before .before .before .before .before .before .before .before .before .before .before .is-bad .ensures) (c .before .before .before .before .before .before .before .before .before .before .before .before .before .before .before .before .before .before .before .before .if1 .left) _ (c .before .before .before .before .before .before .before .before .before .before .before .before .before .before .before .before .before .before .before .is-name .ensures) (c .before .before .before .before .before .before .before .before .before .before .before .before .before .before .before .before .before .before .if2 .left) _ (c .before .before .before .before .before .before .before .before .before .before .before .before .before .before .before .before .walk-chain .ensures) (c .before .before .before .before .before .before .before .before .before .before .before .before .before .before .before .if3 .left) _ (c .before .before .before .before .before .before .before .before .before .before .is-named .ensures) (c .before .before .before .before .before .before .before .before .before .if4 .left) (c .before .before .before .before .before .before .before .before .if5 .left) _ (c .before .before .before .before .before .before .opening-cost .ensures) (c .before .before .before .before .if6 .left))
+    (snap-0 _ _ _ (c .before .before .before .before .before .before .before .before .before .before .before .before .before .before .before .before .before .before .before .before .before .before .admit .ensures) (c .before .before .before .before .before .before .before .before .before .before .before .before .before .before .before .before .before .before .before .before .if1 .left) _ (c .before .before .before .before .before .before .before .before .before .before .before .before .before .before .before .before .before .before .before .is-name .ensures) (c .before .before .before .before .before .before .before .before .before .before .before .before .before .before .before .before .before .before .if2 .left) _ (c .before .before .before .before .before .before .before .before .before .before .before .before .before .before .before .before .walk-chain .ensures) (c .before .before .before .before .before .before .before .before .before .before .before .before .before .before .before .if3 .left) _ (c .before .before .before .before .before .before .before .before .before .before .is-named .ensures) (c .before .before .before .before .before .before .before .before .before .if4 .left) (c .before .before .before .before .before .before .before .before .if5 .left) _ (c .before .before .before .before .before .before .opening-cost .ensures) (c .before .before .before .before .if6 .left))
     _ refl _
-    (snap-stores _ _ _ (c .before .before .before .before .before .before .before .before .before .before .before .before .before .before .before .before .before .before .before .before .before .is-bad .ensures) (c .before .before .before .before .before .before .before .before .before .before .before .before .before .before .before .before .before .before .before .before .if1 .left) _ (c .before .before .before .before .before .before .before .before .before .before .before .before .before .before .before .before .before .before .before .is-name .ensures) (c .before .before .before .before .before .before .before .before .before .before .before .before .before .before .before .before .before .before .if2 .left) _ (c .before .before .before .before .before .before .before .before .before .before .before .before .before .before .before .before .walk-chain .ensures) (c .before .before .before .before .before .before .before .before .before .before .before .before .before .before .before .if3 .left) _ (c .before .before .before .before .before .before .before .before .before .before .is-named .ensures) (c .before .before .before .before .before .before .before .before .before .if4 .left) (c .before .before .before .before .before .before .before .before .if5 .left) _ (c .before .before .before .before .before .before .opening-cost .ensures) _ (c .before .before .take-snapshot .ensures))
+    (snap-stores _ _ _ (c .before .before .before .before .before .before .before .before .before .before .before .before .before .before .before .before .before .before .before .before .before .before .admit .ensures) (c .before .before .before .before .before .before .before .before .before .before .before .before .before .before .before .before .before .before .before .before .if1 .left) _ (c .before .before .before .before .before .before .before .before .before .before .before .before .before .before .before .before .before .before .before .is-name .ensures) (c .before .before .before .before .before .before .before .before .before .before .before .before .before .before .before .before .before .before .if2 .left) _ (c .before .before .before .before .before .before .before .before .before .before .before .before .before .before .before .before .walk-chain .ensures) (c .before .before .before .before .before .before .before .before .before .before .before .before .before .before .before .if3 .left) _ (c .before .before .before .before .before .before .before .before .before .before .is-named .ensures) (c .before .before .before .before .before .before .before .before .before .if4 .left) (c .before .before .before .before .before .before .before .before .if5 .left) _ (c .before .before .before .before .before .before .opening-cost .ensures) _ (c .before .before .take-snapshot .ensures))
+    refl
 
 pub snap-spec : {M : Type 1} → statement M
 snap-spec =
     tie.close
     (tie.spec
-    is-bad-requires
+    admit-requires
     same-length
     returns
     is-name-requires

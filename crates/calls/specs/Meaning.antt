@@ -1,0 +1,62 @@
+-- The meaning of each call: its rows, its stores, what is lent to it, what it leaves there and what it gives. One clause for each call.
+use mathlib.Core.List.{List, [], _++_}
+use Prim.Native.Nat.{ℕ}
+use lib.ListN.{length, drop}
+use Rattle.blocks.specs.Bytes.{Store}
+use Rattle.blocks.specs.Descriptor.{opening}
+use Rattle.calls.specs.declared.answer.Answer.{Answer}
+use Rattle.calls.specs.Call.{Call, Ream, Read, Write, Snap, Revert, Listing, Check, Lent, None, Block, Records, Given, NoneGiven}
+use Rattle.calls.specs.Parts.{descriptorsOf, targetOf, foundThrough, blockFound}
+use Rattle.calls.specs.Ladder.{Row, firstRow, admission, reamRows, readRows, writeRows, snapRows, revertRows, listRows, checkRows}
+use Rattle.calls.specs.Effect.{writeStores, snapStores, revertStores, listed}
+
+-- what is said of a call, each but what is lent by the card at entry: the rows of its own, after those of admission; of an accepted call the
+-- stores, what was lent as it leaves it, and what it gives
+pub record Meaning : Type 0 where
+  pub rows : List ℕ → List Row
+  pub stores : List ℕ → List Store
+  pub lent : Lent
+  pub filled : List ℕ → Lent
+  pub given : List ℕ → Given
+
+-- a call that stores nothing; a call that leaves what was lent as it was. Neither gives anything
+abbrev pub looking : (List ℕ → List Row) → Lent → (List ℕ → Lent) → Meaning
+looking rows lent filled = record { rows = rows; stores = λ c. []; lent = lent; filled = filled; given = λ c. NoneGiven }
+
+abbrev pub changing : (List ℕ → List Row) → (List ℕ → List Store) → Lent → Meaning
+changing rows stores lent = record { rows = rows; stores = stores; lent = lent; filled = λ c. lent; given = λ c. NoneGiven }
+
+unfoldable pub meaningOf : Call → Meaning
+meaningOf (Ream layout volume name) = changing (λ c. reamRows c layout volume name) (λ c. opening layout volume name) None
+meaningOf (Read target name l block) =
+    looking (λ c. readRows c target name l block) (Block block) (λ c. Block (blockFound c (foundThrough c (targetOf (descriptorsOf c) target name) l)))
+meaningOf (Write l block) = changing (λ c. writeRows c l block) (λ c. writeStores c l block) (Block block)
+meaningOf (Snap name) = changing (λ c. snapRows c name) (λ c. snapStores c name) None
+meaningOf (Revert name) = changing (λ c. revertRows c name) (λ c. revertStores c name) None
+meaningOf (Listing records) = looking (λ c. listRows c records) (Records records) (λ c. let ds = descriptorsOf c in Records (listed ds (drop (length ds) records)))
+meaningOf Check = looking (λ c. checkRows c) None (λ c. None)
+
+-- the rows of a call on a card, and number and place of its answer
+unfoldable pub rowsOf : Call → List ℕ → List Row
+unfolding meaningOf
+rowsOf k c = admission c ++ meaningOf k .rows c
+
+unfoldable pub answerOf : Call → List ℕ → Answer
+answerOf k c = firstRow (rowsOf k c)
+
+-- of an accepted call: its stores, what was lent as it leaves it, what it gives; and what is lent to a call, at entry
+unfoldable pub storesOf : Call → List ℕ → List Store
+unfolding meaningOf
+storesOf k c = meaningOf k .stores c
+
+unfoldable pub filledOf : Call → List ℕ → Lent
+unfolding meaningOf
+filledOf k c = meaningOf k .filled c
+
+unfoldable pub givenOf : Call → List ℕ → Given
+unfolding meaningOf
+givenOf k c = meaningOf k .given c
+
+unfoldable pub lentOf : Call → Lent
+unfolding meaningOf
+lentOf k = meaningOf k .lent
