@@ -38,11 +38,13 @@
 
 extern crate alloc;
 
+mod declared;
+
 use alloc::vec::Vec;
 use core::error::Error;
 use core::fmt;
 use core::str::FromStr;
-use library::*;
+use declared::*;
 
 /// Bytes in a block.
 pub const BLOCK_SIZE: usize = 512;
@@ -56,32 +58,6 @@ pub const MOST_BLOCKS: usize = 65_536;
 pub const MOST_VOLUME: u32 = 14_336;
 /// The most snapshots of a card.
 pub const MOST_SNAPSHOTS: usize = 255;
-
-const RECORD_SIZE: usize = 28;
-
-/// The functions of the static library, as `include/mantreuy.h` declares them.
-#[rustfmt::skip]
-mod library {
-    #[link(name = "mantreuy", kind = "static")]
-    unsafe extern "C" {
-        pub fn mantreuy_ream(card: *mut u8, card_length: usize, layout: u32, volume: u32,
-                             name: *const u8, name_length: usize, place: *mut u32) -> u32;
-        pub fn mantreuy_read(card: *const u8, card_length: usize, snapshot: u32,
-                             name: *const u8, name_length: usize, block: u32,
-                             out: *mut u8, out_length: usize, place: *mut u32) -> u32;
-        pub fn mantreuy_write(card: *mut u8, card_length: usize, block: u32,
-                              bytes: *const u8, bytes_length: usize, place: *mut u32) -> u32;
-        pub fn mantreuy_snap(card: *mut u8, card_length: usize,
-                             name: *const u8, name_length: usize, place: *mut u32) -> u32;
-        pub fn mantreuy_revert(card: *mut u8, card_length: usize,
-                               name: *const u8, name_length: usize, place: *mut u32) -> u32;
-        pub fn mantreuy_list(card: *const u8, card_length: usize,
-                             records: *mut u8, records_length: usize, place: *mut u32) -> u32;
-        pub fn mantreuy_check(card: *const u8, card_length: usize, place: *mut u32) -> u32;
-        pub fn mantreuy_pad_name(text: *const u8, text_length: usize,
-                                 name: *mut u8, name_length: usize) -> u32;
-    }
-}
 
 /// Which condition a refused call met. Its number is that of the header.
 #[derive(Clone, Copy, PartialEq, Eq, Hash, Debug)]
@@ -117,7 +93,7 @@ pub enum Kind {
     ShortList = 14,
 }
 
-// Each kind with its text, in the order of the numbers.
+// Each kind with its text.
 const KINDS: [(Kind, &str); 14] = [
     (Kind::BadArea, "not 2 to 65,536 blocks of 512 bytes"),
     (Kind::BadLayout, "the layout is not 1 or 2"),
@@ -145,7 +121,7 @@ pub struct Refusal {
 }
 
 impl Refusal {
-    /// The number of the refusal, from 1 to 14.
+    /// The number of the refusal, that of the header.
     pub fn number(&self) -> u32 {
         self.kind as u32
     }
@@ -153,7 +129,8 @@ impl Refusal {
 
 impl fmt::Display for Refusal {
     fn fmt(&self, f: &mut fmt::Formatter<'_>) -> fmt::Result {
-        let text = KINDS[self.kind as usize - 1].1;
+        let text = KINDS.iter().find(|(kind, _)| *kind == self.kind);
+        let text = text.map_or("refused", |(_, text)| text);
         write!(f, "{text} (answer {}, place {})", self.number(), self.place)
     }
 }
@@ -163,15 +140,17 @@ impl Error for Refusal {}
 /// What a call gives that returns nothing but its answer.
 pub type Answer = Result<(), Refusal>;
 
-// The answer of a call, which returns a number from 0 to 14 and stores the place.
+// The answer of a call, which returns its number and stores the place.
 fn answer(call: impl FnOnce(&mut u32) -> u32) -> Answer {
     let mut place = 0;
-    let number = call(&mut place) as usize;
+    let number = call(&mut place);
     if number == 0 {
         return Ok(());
     }
-    let kind = KINDS[number - 1].0;
-    Err(Refusal { kind, place })
+    match KINDS.iter().find(|(kind, _)| *kind as u32 == number) {
+        Some(&(kind, _)) => Err(Refusal { kind, place }),
+        None => unreachable!("no kind has the number {number}"),
+    }
 }
 
 /// A name: 1 to 16 of the bytes `a-z`, `0-9`, `.` and `-`. Names are ordered as their texts are.
@@ -266,16 +245,16 @@ impl Record {
         self.next == 0
     }
 
-    // The record in 28 bytes that a listing has filled.
+    // The record in the bytes that a listing has filled.
     fn filled(bytes: &[u8]) -> Record {
         let mut name = [0; NAME_SIZE];
         name.copy_from_slice(&bytes[..NAME_SIZE]);
         let number = |i| u32::from_le_bytes([bytes[i], bytes[i + 1], bytes[i + 2], bytes[i + 3]]);
         Record {
             name: Name(name),
-            alpha: number(16),
-            beta: number(20),
-            next: number(24),
+            alpha: number(RECORD_ALPHA),
+            beta: number(RECORD_BETA),
+            next: number(RECORD_NEXT),
         }
     }
 }
