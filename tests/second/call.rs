@@ -31,6 +31,35 @@ pub enum Call {
     Check,
 }
 
+/// The kinds of calls; as a number, the row of a table.
+#[derive(Clone, Copy)]
+pub enum Kind {
+    Ream,
+    Read,
+    Write,
+    Snap,
+    Revert,
+    List,
+    Check,
+}
+
+/// The titles of the rows.
+pub const KINDS: [&str; 7] = ["ream", "read", "write", "snap", "revert", "list", "check"];
+
+impl Call {
+    pub fn kind(&self) -> Kind {
+        match self {
+            Call::Ream { .. } => Kind::Ream,
+            Call::Read { .. } => Kind::Read,
+            Call::Write { .. } => Kind::Write,
+            Call::Snap { .. } => Kind::Snap,
+            Call::Revert { .. } => Kind::Revert,
+            Call::List { .. } => Kind::List,
+            Call::Check => Kind::Check,
+        }
+    }
+}
+
 #[derive(Clone, PartialEq, Eq, Debug)]
 pub struct Said {
     pub answer: Answer,

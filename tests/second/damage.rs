@@ -1,7 +1,8 @@
 //! Cards damaged by hand: each rule for descriptors, chain and entries, with the answer and
 //! the place that document 01 gives.
 
-use crate::store::{self, Logical, Target, ACCEPTED, BLOCK};
+use crate::numbers::*;
+use crate::store::{self, Logical, Target, ACCEPTED};
 use crate::values::{answer, beta, list, put, read, reamed, same, write};
 use crate::Count;
 
@@ -14,6 +15,12 @@ pub fn run(count: &mut Count) {
     damaged_writes(count);
 }
 
+/// The card that is to be damaged passes check and has this beta.
+fn passes(count: &mut Count, good: &[u8], expected: u64) {
+    let got = (store::check(good), beta(good));
+    same(count, "a good card", got, (ACCEPTED, expected));
+}
+
 /// Every byte of a descriptor damaged, in the first and in the second one.
 fn descriptors(count: &mut Count) {
     for layout in [1, 2] {
@@ -23,10 +30,10 @@ fn descriptors(count: &mut Count) {
         for (descriptor, byte) in (0..BLOCK).flat_map(|byte| [(0, byte), (second, byte)]) {
             let mut card = good.clone();
             card[descriptor as usize * BLOCK + byte] ^= 0x80;
-            let phi = layout == 2 && byte >= 64;
+            let phi = layout == 2 && byte >= PHI;
             // The first descriptor's L is then 137, which is legal, and the second one's is
             // not the same; in layout 1 its opening no longer fits its beta.
-            let volume = byte == 8 && descriptor == 0;
+            let volume = byte == VOLUME && descriptor == 0;
             let expected = match (phi, volume && layout == 2) {
                 (true, _) => ACCEPTED,
                 (_, true) => answer(6, second),
@@ -49,8 +56,8 @@ fn descriptors(count: &mut Count) {
     ];
     for (text, good) in texts {
         let mut card = reamed(2, 9, 4);
-        card[24..40].fill(0);
-        card[24..24 + text.len()].copy_from_slice(text);
+        card[NAME..NAME_END].fill(0);
+        card[NAME..NAME + text.len()].copy_from_slice(text);
         let expected = if good { ACCEPTED } else { answer(6, 0) };
         same(
             count,
@@ -67,7 +74,7 @@ fn descriptors(count: &mut Count) {
         (65_545, false),
     ] {
         let mut card = reamed(2, 9, 4);
-        put(&mut card, 0, 8, volume);
+        put(&mut card, 0, VOLUME, volume);
         let expected = if good { ACCEPTED } else { answer(6, 0) };
         same(count, &format!("stored L {volume}"), list(&card), expected);
     }
@@ -82,57 +89,28 @@ fn chains(count: &mut Count) {
     };
     // Layout 1: openings 0..3 and 3..6. Layout 2: 0..1 and 1..2.
     for (layout, second, end) in [(1, 3, 6), (2, 1, 2)] {
+        let at_second = answer(6, u64::from(second));
         let cases = [
-            (
-                "beta one short",
-                second,
-                16,
-                end - 1,
-                answer(6, u64::from(second)),
-            ),
-            ("beta just", second, 16, end, ACCEPTED),
-            ("beta N", second, 16, 16, ACCEPTED),
-            ("beta N + 1", second, 16, 17, answer(6, u64::from(second))),
-            (
-                "beta the largest",
-                second,
-                16,
-                u32::MAX,
-                answer(6, u64::from(second)),
-            ),
-            (
-                "alpha the largest",
-                second,
-                12,
-                u32::MAX,
-                answer(6, u64::from(second)),
-            ),
-            (
-                "next to itself",
-                second,
-                20,
-                second,
-                answer(6, u64::from(second)),
-            ),
-            (
-                "next past beta",
-                second,
-                20,
-                end + 1,
-                answer(6, u64::from(second)),
-            ),
+            ("beta one short", second, BETA, end - 1, at_second),
+            ("beta just", second, BETA, end, ACCEPTED),
+            ("beta N", second, BETA, 16, ACCEPTED),
+            ("beta N + 1", second, BETA, 17, at_second),
+            ("beta the largest", second, BETA, u32::MAX, at_second),
+            ("alpha the largest", second, ALPHA, u32::MAX, at_second),
+            ("next to itself", second, NEXT, second, at_second),
+            ("next past beta", second, NEXT, end + 1, at_second),
             (
                 "next at beta, zeros there",
                 second,
-                20,
+                NEXT,
                 end,
                 answer(6, u64::from(end)),
             ),
-            ("next of the first nil", 0, 20, 0, ACCEPTED),
+            ("next of the first nil", 0, NEXT, 0, ACCEPTED),
             (
                 "beta of the first past next",
                 0,
-                16,
+                BETA,
                 second + 1,
                 answer(6, 0),
             ),
@@ -148,25 +126,19 @@ fn chains(count: &mut Count) {
             );
         }
         let mut card = base(layout);
-        put(&mut card, u64::from(second), 16, 16);
-        put(&mut card, u64::from(second), 20, 16);
-        let at = answer(6, u64::from(second));
+        put(&mut card, u64::from(second), BETA, 16);
+        put(&mut card, u64::from(second), NEXT, 16);
         same(
             count,
             &format!("layout {layout}, next = beta = N"),
             list(&card),
-            at,
+            at_second,
         );
         let mut card = base(layout);
-        let name = card[24..40].to_vec();
+        let name = card[NAME..NAME_END].to_vec();
         let at = second as usize * BLOCK;
-        card[at + 24..at + 40].copy_from_slice(&name);
-        same(
-            count,
-            "a name twice",
-            list(&card),
-            answer(6, u64::from(second)),
-        );
+        card[at + NAME..at + NAME_END].copy_from_slice(&name);
+        same(count, "a name twice", list(&card), at_second);
     }
     // A 257th descriptor is unsound, good as it may look.
     let mut card = reamed(2, 9, 300);
@@ -175,11 +147,11 @@ fn chains(count: &mut Count) {
     }
     let copy = card[255 * BLOCK..256 * BLOCK].to_vec();
     card[256 * BLOCK..257 * BLOCK].copy_from_slice(&copy);
-    put(&mut card, 256, 12, 256);
-    put(&mut card, 256, 16, 257);
-    card[255 * BLOCK + 24] = b'q';
+    put(&mut card, 256, ALPHA, 256);
+    put(&mut card, 256, BETA, 257);
+    card[255 * BLOCK + NAME] = b'q';
     same(count, "256 descriptors", list(&card), ACCEPTED);
-    put(&mut card, 255, 20, 256);
+    put(&mut card, 255, NEXT, 256);
     same(count, "257 descriptors", list(&card), answer(6, 256));
     same(
         count,
@@ -196,12 +168,7 @@ fn followed(count: &mut Count) {
     write(&mut good, 5);
     store::snap(&mut good, b"mon");
     write(&mut good, 5);
-    same(
-        count,
-        "a good card",
-        (store::check(&good), beta(&good)),
-        (ACCEPTED, 6),
-    );
+    passes(count, &good, 6);
     let mon = Target::Snapshot(b"mon".to_vec());
     let old = |card: &[u8]| store::read(card, &mon, Logical(5), &mut [0; BLOCK]);
     let entries = [
@@ -219,7 +186,7 @@ fn followed(count: &mut Count) {
             .chain([(15, false), (16, false), (u32::MAX, false)])
     {
         let mut card = good.clone();
-        put(&mut card, 3, 64, entry);
+        put(&mut card, 3, phi_byte(0), entry);
         // Blocks 2 and 5 are data: their bytes, taken as entries, are not in place.
         let expected = match (entry, good_entry) {
             (2 | 5, _) => answer(10, u64::from(entry)),
@@ -259,7 +226,7 @@ fn followed(count: &mut Count) {
             );
         }
         let mut card = good.clone();
-        put(&mut card, 4, 20, entry);
+        put(&mut card, 4, entry_byte(5), entry);
         let expected = if good_entry { ACCEPTED } else { answer(10, 4) };
         same(
             count,
@@ -274,7 +241,7 @@ fn followed(count: &mut Count) {
             expected,
         );
         let mut card = good.clone();
-        put(&mut card, 1, 20, entry);
+        put(&mut card, 1, entry_byte(5), entry);
         let expected = if entry < 3 { ACCEPTED } else { answer(10, 1) };
         same(
             count,
@@ -283,7 +250,7 @@ fn followed(count: &mut Count) {
             expected,
         );
         let mut card = good.clone();
-        put(&mut card, 0, 64, entry);
+        put(&mut card, 0, phi_byte(0), entry);
         let expected = match entry {
             0 | 1 => ACCEPTED,
             2 => answer(10, 2),
@@ -301,15 +268,10 @@ fn followed(count: &mut Count) {
     write(&mut good, 130);
     store::snap(&mut good, b"mon");
     write(&mut good, 130);
-    same(
-        count,
-        "a good card",
-        (store::check(&good), beta(&good)),
-        (ACCEPTED, 8),
-    );
+    passes(count, &good, 8);
     for entry in 0..17 {
         let mut card = good.clone();
-        put(&mut card, 6, 8, entry);
+        put(&mut card, 6, entry_byte(2), entry);
         let expected = if [0, 3, 7].contains(&entry) {
             ACCEPTED
         } else {
@@ -337,7 +299,7 @@ fn followed(count: &mut Count) {
     // 10 before 11, 8 before 10.
     let mut card = reamed(2, 200, 3);
     write(&mut card, 5);
-    put(&mut card, 1, 24, 3);
+    put(&mut card, 1, entry_byte(6), 3);
     same(count, "10 before 11", write(&mut card, 6), answer(10, 1));
     same(count, "8 before 10", write(&mut card, 200), answer(8, 0));
     same(count, "11", write(&mut card, 7), answer(11, 0));
@@ -352,26 +314,21 @@ fn checked(count: &mut Count) {
     write(&mut good, 130);
     store::snap(&mut good, b"mon");
     write(&mut good, 5);
-    same(
-        count,
-        "a good card",
-        (store::check(&good), beta(&good)),
-        (ACCEPTED, 8),
-    );
+    passes(count, &good, 8);
     // Name, block, byte, value, place.
     let cases: [(&str, u64, usize, u32, u64); 12] = [
-        ("Phi past n", 5, 64 + 8, 2, 5),
-        ("last of Phi", 5, 508, 4, 5),
-        ("Pi past L", 3, 4 * 72, 1, 3),
-        ("last of Pi", 3, 508, 1, 3),
-        ("data named twice", 6, 24, 7, 6),
-        ("own table named as data", 6, 24, 6, 6),
-        ("table named as data before Phi", 6, 24, 3, 5),
-        ("data named as table", 5, 68, 7, 5),
-        ("table named twice", 5, 68, 6, 5),
-        ("Pi names beta", 6, 24, 8, 6),
-        ("Pi names a descriptor", 6, 24, 5, 6),
-        ("old Pi names new data", 3, 12, 7, 3),
+        ("Phi past n", 5, phi_byte(2), 2, 5),
+        ("last of Phi", 5, phi_byte(PHI_ENTRIES - 1), 4, 5),
+        ("Pi past L", 3, entry_byte(72), 1, 3),
+        ("last of Pi", 3, entry_byte(TABLE_ENTRIES - 1), 1, 3),
+        ("data named twice", 6, entry_byte(6), 7, 6),
+        ("own table named as data", 6, entry_byte(6), 6, 6),
+        ("table named as data before Phi", 6, entry_byte(6), 3, 5),
+        ("data named as table", 5, phi_byte(1), 7, 5),
+        ("table named twice", 5, phi_byte(1), 6, 5),
+        ("Pi names beta", 6, entry_byte(6), 8, 6),
+        ("Pi names a descriptor", 6, entry_byte(6), 5, 6),
+        ("old Pi names new data", 3, entry_byte(3), 7, 3),
     ];
     for (name, block, byte, value, place) in cases {
         let mut card = good.clone();
@@ -381,9 +338,9 @@ fn checked(count: &mut Count) {
     }
     // Data above alpha in an old table, which descriptor 0 names no more.
     let mut card = good.clone();
-    put(&mut card, 0, 64, 0);
-    put(&mut card, 5, 64, 1);
-    put(&mut card, 1, 20, 7);
+    put(&mut card, 0, phi_byte(0), 0);
+    put(&mut card, 5, phi_byte(0), 1);
+    put(&mut card, 1, entry_byte(5), 7);
     same(
         count,
         "data above alpha in an old table",
@@ -399,11 +356,11 @@ fn checked(count: &mut Count) {
     same(count, "and nothing is taken", beta(&card), 8);
     // Entry by entry: table 6's last entry is at fault before Phi's second.
     let mut card = good.clone();
-    put(&mut card, 6, 508, 7);
-    put(&mut card, 5, 68, 15);
+    put(&mut card, 6, entry_byte(TABLE_ENTRIES - 1), 7);
+    put(&mut card, 5, phi_byte(1), 15);
     same(count, "entry by entry", store::check(&card), answer(10, 6));
     // Descriptor by descriptor.
-    put(&mut card, 0, 508, 1);
+    put(&mut card, 0, phi_byte(PHI_ENTRIES - 1), 1);
     same(
         count,
         "descriptor by descriptor",
@@ -412,16 +369,16 @@ fn checked(count: &mut Count) {
     );
     // What check does not forbid: an older descriptor's table as data.
     let mut card = good.clone();
-    put(&mut card, 6, 24, 1);
+    put(&mut card, 6, entry_byte(6), 1);
     same(count, "an old table as data", store::check(&card), ACCEPTED);
     // Block 3 is below beta and named nowhere; the table is block 1 in both layouts.
     for layout in [1, 2] {
         let mut spare = reamed(layout, 5, 16);
         write(&mut spare, 0);
-        put(&mut spare, 0, 16, 4);
+        put(&mut spare, 0, BETA, 4);
         for (j, expected) in [(4, ACCEPTED), (5, answer(10, 1)), (127, answer(10, 1))] {
             let mut card = spare.clone();
-            put(&mut card, 1, 4 * j, 3);
+            put(&mut card, 1, entry_byte(j), 3);
             let name = format!("layout {layout}, L 5, entry {j} names a spare block");
             same(count, &name, store::check(&card), expected);
         }
@@ -432,7 +389,7 @@ fn checked(count: &mut Count) {
     write(&mut good, 130);
     same(count, "a good card", store::check(&good), ACCEPTED);
     let mut card = good.clone();
-    put(&mut card, 2, 4 * 72, 3);
+    put(&mut card, 2, entry_byte(72), 3);
     same(
         count,
         "layout 1, past L",
@@ -440,7 +397,7 @@ fn checked(count: &mut Count) {
         answer(10, 2),
     );
     let mut card = good.clone();
-    put(&mut card, 2, 0, 3);
+    put(&mut card, 2, entry_byte(0), 3);
     same(
         count,
         "layout 1, named twice",
@@ -455,7 +412,7 @@ fn damaged_writes(count: &mut Count) {
     write(&mut good, 5);
     // The data entry names its own table: it is overwritten whole.
     let mut card = good.clone();
-    put(&mut card, 1, 20, 1);
+    put(&mut card, 1, entry_byte(5), 1);
     same(count, "own table as data", write(&mut card, 5), ACCEPTED);
     same(
         count,
@@ -471,7 +428,7 @@ fn damaged_writes(count: &mut Count) {
     );
     // Both groups share a table: an entry set by one shows in the other.
     let mut card = good.clone();
-    put(&mut card, 0, 68, 1);
+    put(&mut card, 0, phi_byte(1), 1);
     same(count, "shared table", write(&mut card, 128), ACCEPTED);
     same(
         count,
@@ -483,10 +440,15 @@ fn damaged_writes(count: &mut Count) {
     // A table copy takes entries past L with it.
     let mut card = reamed(2, 5, 16);
     write(&mut card, 0);
-    put(&mut card, 1, 508, 2);
+    put(&mut card, 1, entry_byte(TABLE_ENTRIES - 1), 2);
     store::snap(&mut card, b"mon");
     same(count, "copied table", write(&mut card, 0), ACCEPTED);
-    same(count, "entry past L", card[4 * BLOCK + 508], 2);
+    same(
+        count,
+        "entry past L",
+        card[4 * BLOCK + entry_byte(TABLE_ENTRIES - 1)],
+        2,
+    );
     same(count, "the frozen table stays", card[BLOCK], 2);
     same(count, "the copy has the new block", card[4 * BLOCK], 5);
 }

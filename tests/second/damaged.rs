@@ -2,27 +2,22 @@
 //! lent memory, and an accepted one leaves a sound chain.
 
 use crate::call::{carry_out, Call};
+use crate::counts::Counts;
+use crate::numbers::{ANSWERS, BLOCK, MOST_DESCRIPTORS, NUMBER, TABLE_ENTRIES};
 use crate::rng::Rng;
-use crate::store::{self, Logical, Record, Target, BLOCK};
+use crate::store::{self, Logical, Target, NOTHING};
 use crate::Count;
-
-const NOTHING: Record = Record {
-    name: [0; 16],
-    alpha: 0,
-    beta: 0,
-    next: 0,
-};
 
 /// Runs the cards of `count` seeds and prints how often each number arose.
 pub fn run(seed: u64, count: u64) -> Count {
     let mut sum = Count::default();
-    let mut answers = [0_u64; 16];
+    let mut answers = Counts::default();
     for k in 0..count {
         let this = seed.wrapping_add(k);
         sum.case(&format!("seed {this}"), one(this, &mut answers));
     }
-    for (number, times) in answers.iter().enumerate() {
-        println!("answer {number}: {times}");
+    for number in ANSWERS {
+        println!("answer {number}: {}", answers.of(0, number));
     }
     sum
 }
@@ -42,14 +37,14 @@ fn damaged_card(rng: &mut Rng) -> Vec<u8> {
     }
     for _ in 0..rng.between(1, 4) {
         let block = rng.below(blocks) as usize;
-        let numbers = *rng.pick(&[6, 20, 128]);
-        let at = block * BLOCK + 4 * rng.below(numbers) as usize;
+        let numbers = *rng.pick(&[6, 20, TABLE_ENTRIES]);
+        let at = block * BLOCK + NUMBER * rng.below(numbers) as usize;
         let value = match rng.below(6) {
             0 => rng.bits() as u32,
             1 => *rng.pick(&[0, 1, blocks as u32, u32::MAX]),
             _ => rng.below(blocks + 2) as u32,
         };
-        card[at..at + 4].copy_from_slice(&value.to_le_bytes());
+        store::store_number(&mut card, at, u64::from(value));
     }
     if rng.once_in(20) {
         let length = rng.below(card.len() as u64) as usize;
@@ -87,14 +82,14 @@ fn random_call(rng: &mut Rng) -> Call {
 }
 
 /// Runs some calls on one damaged card.
-fn one(seed: u64, answers: &mut [u64; 16]) -> Result<(), String> {
+fn one(seed: u64, answers: &mut Counts) -> Result<(), String> {
     let mut rng = Rng::new(seed);
     let mut card = damaged_card(&mut rng);
     for _ in 0..20 {
         let before = card.clone();
         let call = random_call(&mut rng);
         let said = carry_out(&mut card, &call);
-        answers[said.answer.number as usize] += 1;
+        answers.add(0, said.answer.number, 1);
         let (block, records) = match &call {
             Call::Read { lent, .. } | Call::Write { lent, .. } => (lent.clone(), Vec::new()),
             Call::List { lent } => (Vec::new(), lent.clone()),
@@ -104,7 +99,7 @@ fn one(seed: u64, answers: &mut [u64; 16]) -> Result<(), String> {
         if refused && (card != before || said.block != block || said.records != records) {
             return Err(format!("{:?} has changed something", said.answer));
         }
-        let chain = store::list(&card, &mut [NOTHING; store::MOST_DESCRIPTORS]).0;
+        let chain = store::list(&card, &mut [NOTHING; MOST_DESCRIPTORS]).0;
         if !refused && chain != store::ACCEPTED {
             return Err(format!("no chain any more: {chain:?}"));
         }

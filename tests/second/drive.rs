@@ -6,14 +6,18 @@ mod boundary;
 mod call;
 #[path = "drive/calls.rs"]
 mod calls;
+mod counts;
 #[path = "drive/damaged.rs"]
 mod damaged;
+#[path = "../../rust/declared.rs"]
+mod declared;
 #[path = "drive/lent.rs"]
 mod lent;
 #[path = "drive/lists.rs"]
 mod lists;
 #[path = "drive/names.rs"]
 mod names;
+mod numbers;
 #[path = "drive/pair.rs"]
 mod pair;
 mod rng;

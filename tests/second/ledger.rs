@@ -2,9 +2,10 @@
 //! card; whether a call finds room is told to it.
 
 use crate::call::Call;
+use crate::numbers::{BLOCK, MOST_SNAPSHOTS, NAME_SIZE};
 use crate::store::Target;
 
-pub type Volume = Vec<[u8; 512]>;
+pub type Volume = Vec<[u8; BLOCK]>;
 
 pub struct Ledger {
     frozen: Vec<(Vec<u8>, Volume)>,
@@ -19,20 +20,20 @@ pub enum Word {
     /// Accepted.
     Done,
     /// An accepted read and what it gives.
-    Block([u8; 512]),
+    Block([u8; BLOCK]),
     /// A format that the ledger does not follow.
     Unknown,
 }
 
 fn is_name(text: &[u8]) -> bool {
     let alphabet = b"abcdefghijklmnopqrstuvwxyz0123456789.-";
-    (1..=16).contains(&text.len()) && text.iter().all(|byte| alphabet.contains(byte))
+    (1..=NAME_SIZE).contains(&text.len()) && text.iter().all(|byte| alphabet.contains(byte))
 }
 
 impl Ledger {
     /// A new active volume of so many blocks of zeros.
     pub fn new(name: &[u8], blocks: u64) -> Ledger {
-        let active = vec![[0; 512]; blocks as usize];
+        let active = vec![[0; BLOCK]; blocks as usize];
         Ledger {
             frozen: Vec::new(),
             name: name.to_vec(),
@@ -66,7 +67,7 @@ impl Ledger {
                         return Word::Refused(4);
                     }
                 }
-                if lent.len() != 512 {
+                if lent.len() != BLOCK {
                     return Word::Refused(9);
                 }
                 let volume = match target {
@@ -82,7 +83,7 @@ impl Ledger {
                 }
             }
             Call::Write { logical, lent } => {
-                if lent.len() != 512 {
+                if lent.len() != BLOCK {
                     return Word::Refused(9);
                 }
                 if logical.0 >= self.active.len() as u64 {
@@ -101,7 +102,7 @@ impl Ledger {
                 if self.names().contains(name) {
                     return Word::Refused(12);
                 }
-                if self.frozen.len() == 255 {
+                if self.frozen.len() == MOST_SNAPSHOTS {
                     return Word::Refused(13);
                 }
                 if !room {

@@ -2,11 +2,13 @@
 //! alone, and the comparisons that it is made for.
 
 mod call;
+mod counts;
 mod damage;
 mod damaged;
 mod edges;
 mod ledger;
 mod make;
+mod numbers;
 mod program;
 mod rng;
 mod rollback;

@@ -1,6 +1,7 @@
 //! A maker of random sheets. It carries each line out on a desk of its own, so that it knows
 //! which names stand on the card and when the card is full.
 
+use crate::numbers::{MOST_VOLUME, TABLE_ENTRIES};
 use crate::rng::Rng;
 use crate::sheet::{self, Desk, MOST_INPUT, MOST_LINE};
 use crate::store;
@@ -288,13 +289,13 @@ impl Maker {
             _ => self.rng.between(9, 64),
         };
         let most = if layout == 2 {
-            14_336
+            MOST_VOLUME
         } else {
-            128 * (blocks - 1)
+            TABLE_ENTRIES * (blocks - 1)
         };
         let volume = match self.rng.below(12) {
-            0 => most.min(14_336),
-            1 => self.rng.between(1, most.min(14_336)),
+            0 => most.min(MOST_VOLUME),
+            1 => self.rng.between(1, most.min(MOST_VOLUME)),
             2..=4 => self.rng.between(1, 300).min(most),
             _ => (*self.rng.pick(&EDGES)).clamp(1, most),
         };
@@ -332,11 +333,12 @@ impl Maker {
             match self.rng.below(5) {
                 0 => layout = *self.rng.pick(&[0, 3, 4, 255, 256, 257, 65_535]),
                 1 => blocks = *self.rng.pick(&[0, 0, 1, 1, 2, 64]),
-                2 => volume = *self.rng.pick(&[0, 14_337, 65_535, 14_336]),
+                2 => volume = *self.rng.pick(&[0, MOST_VOLUME + 1, 65_535, MOST_VOLUME]),
                 3 => name = self.wrong_name(),
                 _ => {
                     layout = 1;
-                    volume = 128 * blocks.saturating_sub(1) + self.rng.between(1, 128);
+                    let tables = blocks.saturating_sub(1);
+                    volume = TABLE_ENTRIES * tables + self.rng.between(1, TABLE_ENTRIES);
                 }
             }
         }

@@ -3,43 +3,24 @@
 //! right after it and after each later call. Beside the run stand the ledger and the count
 //! of blocks, so that agreement of two runs alone is not enough.
 
-use crate::call::{carry_out, Call, Said};
+use crate::call::{carry_out, Call, Said, KINDS};
+use crate::counts::Counts;
 use crate::ledger::{Ledger, Word};
+use crate::numbers::*;
 use crate::rng::Rng;
 use crate::room::Room;
-use crate::store::{self, Logical, Record, Target, BLOCK};
+use crate::store::{self, Logical, Record, Target, NOTHING};
 use crate::Count;
 
 /// The weight of snaps in a list that is to meet 13.
 const MANY_SNAPS: u64 = 4_000;
 
-const NOTHING: Record = Record {
-    name: [0; 16],
-    alpha: 0,
-    beta: 0,
-    next: 0,
-};
-
 /// What the lists held, by kind of call and number.
 #[derive(Default)]
 struct Summary {
-    answers: [[u64; 16]; 7],
+    answers: Counts,
     reverts: u64,
     compared: u64,
-}
-
-const KINDS: [&str; 7] = ["ream", "read", "write", "snap", "revert", "list", "check"];
-
-fn kind_of(call: &Call) -> usize {
-    match call {
-        Call::Ream { .. } => 0,
-        Call::Read { .. } => 1,
-        Call::Write { .. } => 2,
-        Call::Snap { .. } => 3,
-        Call::Revert { .. } => 4,
-        Call::List { .. } => 5,
-        Call::Check => 6,
-    }
 }
 
 /// Runs the lists of `count` seeds.
@@ -50,18 +31,7 @@ pub fn run(seed: u64, count: u64) -> Count {
         let this = seed.wrapping_add(k);
         sum.case(&format!("seed {this}"), Run::new(this).go(&mut summary));
     }
-    print!("{:7}", "call");
-    for number in 0..16 {
-        print!(" {number:>7}");
-    }
-    println!();
-    for (kind, row) in KINDS.iter().zip(&summary.answers) {
-        print!("{kind:7}");
-        for count in row {
-            print!(" {count:>7}");
-        }
-        println!();
-    }
+    summary.answers.print("call", &KINDS, &ANSWERS);
     println!(
         "{} accepted reverts, {} cards compared",
         summary.reverts, summary.compared
@@ -105,9 +75,9 @@ impl Run {
             _ => rng.between(2, 600),
         };
         let most = if layout == 2 {
-            14_336
+            MOST_VOLUME
         } else {
-            14_336.min(128 * (blocks - 1))
+            MOST_VOLUME.min(TABLE_ENTRIES * (blocks - 1))
         };
         let wide = !many_snaps && rng.once_in(30);
         let volume = match rng.below(4) {
@@ -127,7 +97,7 @@ impl Run {
         let pool: Vec<Vec<u8>> = (0..names).map(|k| format!("v{k}").into_bytes()).collect();
         let mut hot = Vec::new();
         for _ in 0..rng.between(2, 40) {
-            let near = *rng.pick(&[8, 130, 14_336]);
+            let near = *rng.pick(&[8, 130, MOST_VOLUME]);
             hot.push(rng.below(volume.min(near)));
         }
         let start = started(&mut rng, layout, volume, blocks);
@@ -179,7 +149,9 @@ impl Run {
     fn one(&mut self, call: &Call, summary: &mut Summary) -> Result<(), String> {
         let before = self.card.clone();
         let said = carry_out(&mut self.card, call);
-        summary.answers[kind_of(call)][said.answer.number as usize] += 1;
+        summary
+            .answers
+            .add(call.kind() as usize, said.answer.number, 1);
         let accepted = said.answer == store::ACCEPTED;
         self.beside_ledger(call, &said)?;
         let changes = matches!(
@@ -290,8 +262,7 @@ impl Run {
         let pairs = self.ledger.names().into_iter().zip(marks);
         let mut records = Vec::new();
         for (text, (alpha, beta, next)) in pairs {
-            let mut name = [0; 16];
-            name[..text.len()].copy_from_slice(&text);
+            let name = store::padded(&text);
             records.push(Record {
                 name,
                 alpha,
@@ -352,7 +323,7 @@ impl Run {
             0 => self.volume,
             1 => *self
                 .rng
-                .pick(&[65_535, 14_336, self.volume + 1, 1 << 32, u64::MAX]),
+                .pick(&[65_535, MOST_VOLUME, self.volume + 1, 1 << 32, u64::MAX]),
             2..=4 => self.rng.below(self.volume),
             5 => self.volume - 1,
             _ => *self.rng.pick(&self.hot),
@@ -393,7 +364,7 @@ impl Run {
             0 => names,
             1 => names - 1,
             2 => self.rng.below(names + 3),
-            _ => 256,
+            _ => MOST_DESCRIPTORS as u64,
         };
         let mut lent = vec![NOTHING; length as usize];
         for record in &mut lent {
@@ -405,7 +376,7 @@ impl Run {
 
     fn bad_ream(&mut self) -> Call {
         let (layout, volume, name) = (self.layout, self.volume, b"x".to_vec());
-        let too_wide = 128 * self.blocks;
+        let too_wide = TABLE_ENTRIES * self.blocks;
         match self.rng.below(4) {
             0 => Call::Ream {
                 layout: *self.rng.pick(&[0, 3, 258, 1 << 32]),
@@ -414,10 +385,10 @@ impl Run {
             },
             1 => Call::Ream {
                 layout,
-                volume: *self.rng.pick(&[0, 14_337, 1 << 40]),
+                volume: *self.rng.pick(&[0, MOST_VOLUME + 1, 1 << 40]),
                 name,
             },
-            2 if too_wide <= 14_336 => Call::Ream {
+            2 if too_wide <= MOST_VOLUME => Call::Ream {
                 layout: 1,
                 volume: too_wide,
                 name,
@@ -505,7 +476,7 @@ fn started(rng: &mut Rng, layout: u64, volume: u64, blocks: u64) -> Vec<u8> {
 fn refused_ream(call: &Call) -> u64 {
     match call {
         Call::Ream { layout, .. } if *layout == 0 || *layout > 2 => 2,
-        Call::Ream { volume, .. } if *volume == 0 || *volume > 14_336 => 3,
+        Call::Ream { volume, .. } if *volume == 0 || *volume > MOST_VOLUME => 3,
         Call::Ream { name, .. } if name != b"x" => 4,
         _ => 5,
     }
@@ -513,7 +484,7 @@ fn refused_ream(call: &Call) -> u64 {
 
 /// The active descriptor's beta.
 fn beta_of(card: &[u8]) -> Result<u64, String> {
-    let mut records = [NOTHING; store::MOST_DESCRIPTORS];
+    let mut records = [NOTHING; MOST_DESCRIPTORS];
     let (answer, count) = store::list(card, &mut records);
     if answer != store::ACCEPTED {
         return Err(format!("no chain: {answer:?}"));

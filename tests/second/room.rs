@@ -1,6 +1,7 @@
 //! A count of the blocks that a list of calls takes, made without looking at a card: what
 //! was touched in each region says what a write needs.
 
+use crate::numbers::TABLE_ENTRIES;
 use std::collections::BTreeSet;
 
 #[derive(Clone)]
@@ -33,7 +34,7 @@ impl Room {
     /// The count right after a format.
     pub fn new(layout: u64, volume: u64, blocks: u64) -> Room {
         let cost = if layout == 1 {
-            1 + volume / 128 + u64::from(volume % 128 > 0)
+            1 + volume / TABLE_ENTRIES + u64::from(volume % TABLE_ENTRIES > 0)
         } else {
             1
         };
@@ -53,7 +54,7 @@ impl Room {
     fn need(&self, logical: u64) -> u64 {
         if self.last().logicals.contains(&logical) {
             0
-        } else if self.layout == 2 && !self.last().groups.contains(&(logical / 128)) {
+        } else if self.layout == 2 && !self.last().groups.contains(&(logical / TABLE_ENTRIES)) {
             2
         } else {
             1
@@ -74,7 +75,7 @@ impl Room {
         let region = &mut self.regions[last];
         region.beta += need;
         region.logicals.insert(logical);
-        region.groups.insert(logical / 128);
+        region.groups.insert(logical / TABLE_ENTRIES);
     }
 
     pub fn take_snap(&mut self) {

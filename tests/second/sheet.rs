@@ -1,11 +1,16 @@
 //! The desk's work sheet: bytes in, bytes out, on the own store.
 
-use crate::store::{self, Answer, Logical, Record, Target, BLOCK};
+use crate::numbers::BLOCK;
+use crate::store::{self, Answer, Logical, Record, Target, NOTHING};
 use crate::tally::{self, Tally};
 
 pub const MOST_INPUT: usize = 16_384;
 pub const MOST_LINE: usize = 127;
 pub const DESK_BLOCKS: usize = 64;
+/// The greatest number on a line, but for blocks and fill.
+const MOST_NUMBER: u64 = 65_535;
+/// The answer to a line that is not of the form, and to a sheet that is too long.
+pub const ILL_FORMED: u64 = 15;
 
 /// A line that has the form of a sheet line. Names are texts and may be no names.
 pub enum Line {
@@ -73,18 +78,18 @@ pub fn parse(line: &[u8]) -> Option<Line> {
         b"op=ream" => {
             let values = values(rest, &["layout=", "blocks=", "volume=", "name="])?;
             Some(Line::Ream {
-                layout: number(values[0], 65_535)?,
+                layout: number(values[0], MOST_NUMBER)?,
                 blocks: number(values[1], DESK_BLOCKS as u64)?,
-                volume: number(values[2], 65_535)?,
+                volume: number(values[2], MOST_NUMBER)?,
                 name: values[3].to_vec(),
             })
         }
         b"op=write" => {
             let values = values(rest, &["block=", "fill="])?;
-            let block = number(values[0], 65_535)?;
+            let block = number(values[0], MOST_NUMBER)?;
             Some(Line::Write {
                 block,
-                fill: number(values[1], 255)? as u8,
+                fill: number(values[1], u64::from(u8::MAX))? as u8,
             })
         }
         b"op=read" => {
@@ -96,7 +101,7 @@ pub fn parse(line: &[u8]) -> Option<Line> {
             };
             Some(Line::Read {
                 target,
-                block: number(values[1], 65_535)?,
+                block: number(values[1], MOST_NUMBER)?,
             })
         }
         b"op=snap" => Some(Line::Snap {
@@ -120,16 +125,10 @@ pub struct Desk {
 
 impl Desk {
     pub fn new() -> Desk {
-        let nothing = Record {
-            name: [0; 16],
-            alpha: 0,
-            beta: 0,
-            next: 0,
-        };
         Desk {
             area: vec![0; DESK_BLOCKS * BLOCK],
             blocks: DESK_BLOCKS,
-            records: vec![nothing; DESK_BLOCKS],
+            records: vec![NOTHING; DESK_BLOCKS],
         }
     }
 
@@ -201,19 +200,19 @@ fn print_answer(output: &mut Vec<u8>, answer: Answer, extra: &str) {
     output.extend_from_slice(text.as_bytes());
 }
 
+fn ill_formed(place: u64) -> Answer {
+    Answer {
+        number: ILL_FORMED,
+        place,
+    }
+}
+
 /// Runs a whole sheet: what it prints. The answers are counted.
 pub fn run(input: &[u8], tally: &mut Tally) -> Vec<u8> {
     let mut output = Vec::new();
     if input.len() > MOST_INPUT {
-        tally.count(tally::OTHER, 15);
-        print_answer(
-            &mut output,
-            Answer {
-                number: 15,
-                place: 0,
-            },
-            "",
-        );
+        tally.count(tally::OTHER, ILL_FORMED);
+        print_answer(&mut output, ill_formed(0), "");
         return output;
     }
     let mut desk = Desk::new();
@@ -230,8 +229,8 @@ pub fn run(input: &[u8], tally: &mut Tally) -> Vec<u8> {
         let line = match line {
             Some(line) => line,
             None => {
-                tally.count(tally::op_of(text), 15);
-                print_answer(&mut output, Answer { number: 15, place }, "");
+                tally.count(tally::op_of(text), ILL_FORMED);
+                print_answer(&mut output, ill_formed(place), "");
                 return output;
             }
         };

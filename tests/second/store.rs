@@ -2,31 +2,14 @@
 //! Each call is written as its ladder of refusals, top to bottom, and then what it does.
 //! Numbers are u64 and physical unless they are `Logical`.
 
-pub const BLOCK: usize = 512;
-pub const LEAST_BLOCKS: u64 = 2;
-pub const MOST_BLOCKS: u64 = 65_536;
-pub const MOST_VOLUME: u64 = 14_336;
-pub const TABLE_ENTRIES: u64 = 128;
-pub const PHI_ENTRIES: u64 = 112;
-pub const MOST_SNAPSHOTS: usize = 255;
-pub const MOST_DESCRIPTORS: usize = MOST_SNAPSHOTS + 1;
-
-const MARK: &[u8; 4] = b"snap";
-const LAYOUT: usize = 4;
-const VOLUME: usize = 8;
-const ALPHA: usize = 12;
-const BETA: usize = 16;
-const NEXT: usize = 20;
-const NAME: usize = 24;
-const NAME_END: usize = 40;
-const PHI: usize = 64;
+use crate::numbers::*;
 
 /// A logical block number.
 #[derive(Clone, Copy, PartialEq, Eq, Debug)]
 pub struct Logical(pub u64);
 
 /// A name as a descriptor holds it.
-pub type Name = [u8; 16];
+pub type Name = [u8; NAME_SIZE];
 
 /// Number and place; accepted is 0 and 0.
 #[derive(Clone, Copy, PartialEq, Eq, Debug)]
@@ -55,6 +38,14 @@ pub struct Record {
     pub beta: u64,
     pub next: u64,
 }
+
+/// A record that nothing has filled.
+pub const NOTHING: Record = Record {
+    name: [0; NAME_SIZE],
+    alpha: 0,
+    beta: 0,
+    next: 0,
+};
 
 /// The numbers and the name of a descriptor block.
 #[derive(Clone, Copy)]
@@ -87,14 +78,14 @@ fn store_block(card: &mut [u8], block: u64, bytes: &[u8]) {
 }
 
 /// A stored number: 32 bits, lowest byte first.
-fn number_at(bytes: &[u8], at: usize) -> u64 {
+pub fn number_at(bytes: &[u8], at: usize) -> u64 {
     bytes[at] as u64
         + bytes[at + 1] as u64 * 256
         + bytes[at + 2] as u64 * 65_536
         + bytes[at + 3] as u64 * 16_777_216
 }
 
-fn store_number(bytes: &mut [u8], at: usize, value: u64) {
+pub fn store_number(bytes: &mut [u8], at: usize, value: u64) {
     bytes[at] = (value % 256) as u8;
     bytes[at + 1] = (value / 256 % 256) as u8;
     bytes[at + 2] = (value / 65_536 % 256) as u8;
@@ -103,12 +94,12 @@ fn store_number(bytes: &mut [u8], at: usize, value: u64) {
 
 /// Entry i of Phi in a descriptor block.
 fn phi_entry(card: &[u8], descriptor: u64, i: u64) -> u64 {
-    number_at(block_at(card, descriptor), PHI + 4 * i as usize)
+    number_at(block_at(card, descriptor), phi_byte(i))
 }
 
 /// Entry j of a table block.
 fn table_entry(card: &[u8], table: u64, j: u64) -> u64 {
-    number_at(block_at(card, table), 4 * j as usize)
+    number_at(block_at(card, table), entry_byte(j))
 }
 
 fn is_name_byte(byte: u8) -> bool {
@@ -117,19 +108,19 @@ fn is_name_byte(byte: u8) -> bool {
 
 /// Whether a text is 1 to 16 of the bytes of names.
 pub fn is_name_text(text: &[u8]) -> bool {
-    !text.is_empty() && text.len() <= 16 && text.iter().all(|byte| is_name_byte(*byte))
+    !text.is_empty() && text.len() <= NAME_SIZE && text.iter().all(|byte| is_name_byte(*byte))
 }
 
 /// A text that is a name, with its zero bytes.
 pub fn padded(text: &[u8]) -> Name {
-    let mut name = [0; 16];
+    let mut name = [0; NAME_SIZE];
     name[..text.len()].copy_from_slice(text);
     name
 }
 
 /// A stored name without the zero bytes at its end.
 pub fn unpadded(name: &Name) -> &[u8] {
-    let mut length = 16;
+    let mut length = NAME_SIZE;
     while length > 0 && name[length - 1] == 0 {
         length -= 1;
     }
@@ -161,22 +152,27 @@ impl Descriptor {
     }
 }
 
-/// N, or nothing where the length of the area is refused.
-fn blocks_of(card: &[u8]) -> Option<u64> {
-    if card.len() % BLOCK != 0 {
-        return None;
-    }
+/// N, or the refusal 1.
+fn blocks_of(card: &[u8]) -> Result<u64, Answer> {
     let blocks = (card.len() / BLOCK) as u64;
-    if blocks < LEAST_BLOCKS || blocks > MOST_BLOCKS {
-        return None;
+    if card.len() % BLOCK != 0 || blocks < LEAST_BLOCKS || blocks > MOST_BLOCKS {
+        return Err(refusal(1, 0));
     }
-    Some(blocks)
+    Ok(blocks)
+}
+
+/// The name that a text gives, or the refusal 4.
+fn name_given(text: &[u8]) -> Result<Name, Answer> {
+    if !is_name_text(text) {
+        return Err(refusal(4, 0));
+    }
+    Ok(padded(text))
 }
 
 /// The fields of a block taken as a descriptor, sound or not.
 fn descriptor_at(card: &[u8], block: u64) -> Descriptor {
     let bytes = block_at(card, block);
-    let mut name = [0; 16];
+    let mut name = [0; NAME_SIZE];
     name.copy_from_slice(&bytes[NAME..NAME_END]);
     Descriptor {
         layout: number_at(bytes, LAYOUT),
@@ -195,7 +191,7 @@ fn is_sound(card: &[u8], blocks: u64, block: u64, earlier: &[Descriptor]) -> boo
     let first = descriptor_at(card, 0);
     let zero = |part: &[u8]| part.iter().all(|byte| *byte == 0);
 
-    bytes[0..4] == MARK[..]
+    bytes[..MARK.len()] == MARK[..]
         && (this.layout == 1 || this.layout == 2)
         && (this.volume >= 1 && this.volume <= MOST_VOLUME)
         && is_stored_name(&this.name)
@@ -211,13 +207,13 @@ fn is_sound(card: &[u8], blocks: u64, block: u64, earlier: &[Descriptor]) -> boo
         && earlier.len() < MOST_DESCRIPTORS
 }
 
-/// The descriptors in chain order, or the block of the first unsound one.
-fn chain_of(card: &[u8], blocks: u64) -> Result<Vec<Descriptor>, u64> {
+/// The descriptors in chain order, or the refusal 6 at the first unsound one.
+fn chain_of(card: &[u8], blocks: u64) -> Result<Vec<Descriptor>, Answer> {
     let mut chain = Vec::new();
     let mut block = 0;
     loop {
         if !is_sound(card, blocks, block, &chain) {
-            return Err(block);
+            return Err(refusal(6, block));
         }
         let descriptor = descriptor_at(card, block);
         chain.push(descriptor);
@@ -228,12 +224,37 @@ fn chain_of(card: &[u8], blocks: u64) -> Result<Vec<Descriptor>, u64> {
     }
 }
 
-/// The place of a name among the snapshots, the active one left out.
-fn snapshot_named(chain: &[Descriptor], text: &[u8]) -> Option<usize> {
-    let name = padded(text);
-    chain[..chain.len() - 1]
-        .iter()
-        .position(|descriptor| descriptor.name == name)
+/// A card on which the places that the calls share have been passed.
+struct Opened {
+    /// N.
+    blocks: u64,
+    chain: Vec<Descriptor>,
+}
+
+/// The places that all calls but ream share, top to bottom: area, the name given, the
+/// caller's block by its length, chain.
+fn open(card: &[u8], name: Option<&[u8]>, block: Option<usize>) -> Result<Opened, Answer> {
+    let blocks = blocks_of(card)?;
+    name.map(name_given).transpose()?;
+    if block.is_some_and(|length| length != BLOCK) {
+        return Err(refusal(9, 0));
+    }
+    let chain = chain_of(card, blocks)?;
+    Ok(Opened { blocks, chain })
+}
+
+impl Opened {
+    fn active(&self) -> Descriptor {
+        self.chain[self.chain.len() - 1]
+    }
+
+    /// The snapshot that has the name, or the refusal 7. The active descriptor is none.
+    fn snapshot(&self, text: &[u8]) -> Result<Descriptor, Answer> {
+        let name = padded(text);
+        let mut snapshots = self.chain[..self.chain.len() - 1].iter();
+        let found = snapshots.find(|descriptor| descriptor.name == name);
+        found.copied().ok_or(refusal(7, 0))
+    }
 }
 
 /// Whether an entry followed from `descriptor` is in place.
@@ -264,13 +285,17 @@ struct Found {
     data: u64,
 }
 
-/// Follows Phi's entry, then Pi's; or gives the block that holds the entry not in place.
+/// Follows Phi's entry, then Pi's; or the refusal 8, or 10 at the block that holds the
+/// entry not in place.
 fn find(
     card: &[u8],
     chain: &[Descriptor],
     descriptor: &Descriptor,
     logical: Logical,
-) -> Result<Found, u64> {
+) -> Result<Found, Answer> {
+    if logical.0 >= descriptor.volume {
+        return Err(refusal(8, 0));
+    }
     let i = logical.0 / TABLE_ENTRIES;
     let j = logical.0 % TABLE_ENTRIES;
     let table = if descriptor.layout == 1 {
@@ -278,7 +303,7 @@ fn find(
     } else {
         let entry = phi_entry(card, descriptor.alpha, i);
         if !in_place(entry, descriptor, chain) {
-            return Err(descriptor.alpha);
+            return Err(refusal(10, descriptor.alpha));
         }
         entry
     };
@@ -287,116 +312,95 @@ fn find(
     }
     let data = table_entry(card, table, j);
     if !in_place(data, descriptor, chain) {
-        return Err(table);
+        return Err(refusal(10, table));
     }
     Ok(Found { table, data })
 }
 
+/// The answer of a call that was carried out or refused.
+fn answered(result: Result<(), Answer>) -> Answer {
+    match result {
+        Ok(()) => ACCEPTED,
+        Err(refused) => refused,
+    }
+}
+
 /// Formats the whole area.
 pub fn ream(card: &mut [u8], layout: u64, volume: u64, name: &[u8]) -> Answer {
-    let blocks = match blocks_of(card) {
-        Some(blocks) => blocks,
-        None => return refusal(1, 0),
-    };
+    answered(try_ream(card, layout, volume, name))
+}
+
+fn try_ream(card: &mut [u8], layout: u64, volume: u64, name: &[u8]) -> Result<(), Answer> {
+    let blocks = blocks_of(card)?;
     if layout != 1 && layout != 2 {
-        return refusal(2, 0);
+        return Err(refusal(2, 0));
     }
     if volume < 1 || volume > MOST_VOLUME {
-        return refusal(3, 0);
+        return Err(refusal(3, 0));
     }
-    if !is_name_text(name) {
-        return refusal(4, 0);
-    }
+    let name = name_given(name)?;
     let cost = opening_cost(layout, volume);
     if cost > blocks {
-        return refusal(5, 0);
+        return Err(refusal(5, 0));
     }
 
     let mut first = [0; BLOCK];
-    first[0..4].copy_from_slice(MARK);
+    first[..MARK.len()].copy_from_slice(MARK);
     store_number(&mut first, LAYOUT, layout);
     store_number(&mut first, VOLUME, volume);
     store_number(&mut first, ALPHA, 0);
     store_number(&mut first, BETA, cost);
     store_number(&mut first, NEXT, 0);
-    first[NAME..NAME_END].copy_from_slice(&padded(name));
+    first[NAME..NAME_END].copy_from_slice(&name);
     store_block(card, 0, &first);
     for table in 1..cost {
         store_block(card, table, &[0; BLOCK]);
     }
-    ACCEPTED
+    Ok(())
 }
 
 /// Reads one logical block of the target into the lent block.
 pub fn read(card: &[u8], target: &Target, logical: Logical, lent: &mut [u8]) -> Answer {
-    let blocks = match blocks_of(card) {
-        Some(blocks) => blocks,
-        None => return refusal(1, 0),
+    answered(try_read(card, target, logical, lent))
+}
+
+fn try_read(card: &[u8], target: &Target, logical: Logical, lent: &mut [u8]) -> Result<(), Answer> {
+    let name = match target {
+        Target::Active => None,
+        Target::Snapshot(name) => Some(&name[..]),
     };
-    if let Target::Snapshot(name) = target {
-        if !is_name_text(name) {
-            return refusal(4, 0);
-        }
-    }
-    if lent.len() != BLOCK {
-        return refusal(9, 0);
-    }
-    let chain = match chain_of(card, blocks) {
-        Ok(chain) => chain,
-        Err(place) => return refusal(6, place),
+    let opened = open(card, name, Some(lent.len()))?;
+    let descriptor = match name {
+        None => opened.active(),
+        Some(name) => opened.snapshot(name)?,
     };
-    let descriptor = match target {
-        Target::Active => chain[chain.len() - 1],
-        Target::Snapshot(name) => match snapshot_named(&chain, name) {
-            Some(k) => chain[k],
-            None => return refusal(7, 0),
-        },
-    };
-    if logical.0 >= descriptor.volume {
-        return refusal(8, 0);
-    }
-    let found = match find(card, &chain, &descriptor, logical) {
-        Ok(found) => found,
-        Err(place) => return refusal(10, place),
-    };
+    let found = find(card, &opened.chain, &descriptor, logical)?;
 
     if found.data == 0 {
         lent.fill(0);
     } else {
         lent.copy_from_slice(block_at(card, found.data));
     }
-    ACCEPTED
+    Ok(())
 }
 
 /// Writes one logical block of the active store from the lent block.
 pub fn write(card: &mut [u8], logical: Logical, lent: &[u8]) -> Answer {
-    let blocks = match blocks_of(card) {
-        Some(blocks) => blocks,
-        None => return refusal(1, 0),
-    };
-    if lent.len() != BLOCK {
-        return refusal(9, 0);
-    }
-    let chain = match chain_of(card, blocks) {
-        Ok(chain) => chain,
-        Err(place) => return refusal(6, place),
-    };
-    let active = chain[chain.len() - 1];
-    if logical.0 >= active.volume {
-        return refusal(8, 0);
-    }
-    let found = match find(card, &chain, &active, logical) {
-        Ok(found) => found,
-        Err(place) => return refusal(10, place),
-    };
+    answered(try_write(card, logical, lent))
+}
+
+fn try_write(card: &mut [u8], logical: Logical, lent: &[u8]) -> Result<(), Answer> {
+    let opened = open(card, None, Some(lent.len()))?;
+    let active = opened.active();
+    let found = find(card, &opened.chain, &active, logical)?;
     if found.data != 0 && found.data >= active.alpha {
         store_block(card, found.data, lent);
-        return ACCEPTED;
+        return Ok(());
     }
     let new_table = active.layout == 2 && (found.table == 0 || found.table < active.alpha);
     let need = if new_table { 2 } else { 1 };
-    if active.beta + need > blocks {
-        return refusal(11, 0);
+    if active.beta + need > opened.blocks {
+        return Err(refusal(11, 0));
     }
 
     let i = logical.0 / TABLE_ENTRIES;
@@ -411,44 +415,40 @@ pub fn write(card: &mut [u8], logical: Logical, lent: &[u8]) -> Answer {
     } else {
         block_at(card, found.table).to_vec()
     };
-    store_number(&mut entries, 4 * j as usize, data);
+    store_number(&mut entries, entry_byte(j), data);
     let mut opening = block_at(card, active.alpha).to_vec();
     if new_table {
-        store_number(&mut opening, PHI + 4 * i as usize, table);
+        store_number(&mut opening, phi_byte(i), table);
     }
     store_number(&mut opening, BETA, active.beta + need);
     store_block(card, table, &entries);
     store_block(card, data, lent);
     store_block(card, active.alpha, &opening);
-    ACCEPTED
+    Ok(())
 }
 
 /// Freezes the active store under a name and opens a new region after it.
 pub fn snap(card: &mut [u8], name: &[u8]) -> Answer {
-    let blocks = match blocks_of(card) {
-        Some(blocks) => blocks,
-        None => return refusal(1, 0),
-    };
-    if !is_name_text(name) {
-        return refusal(4, 0);
-    }
-    let chain = match chain_of(card, blocks) {
-        Ok(chain) => chain,
-        Err(place) => return refusal(6, place),
-    };
-    if chain
+    answered(try_snap(card, name))
+}
+
+fn try_snap(card: &mut [u8], name: &[u8]) -> Result<(), Answer> {
+    let opened = open(card, Some(name), None)?;
+    let name = padded(name);
+    if opened
+        .chain
         .iter()
-        .any(|descriptor| descriptor.name == padded(name))
+        .any(|descriptor| descriptor.name == name)
     {
-        return refusal(12, 0);
+        return Err(refusal(12, 0));
     }
-    if chain.len() - 1 >= MOST_SNAPSHOTS {
-        return refusal(13, 0);
+    if opened.chain.len() - 1 >= MOST_SNAPSHOTS {
+        return Err(refusal(13, 0));
     }
-    let active = chain[chain.len() - 1];
+    let active = opened.active();
     let cost = active.opening();
-    if active.beta + cost > blocks {
-        return refusal(11, 0);
+    if active.beta + cost > opened.blocks {
+        return Err(refusal(11, 0));
     }
 
     for k in 0..cost {
@@ -460,47 +460,37 @@ pub fn snap(card: &mut [u8], name: &[u8]) -> Answer {
     store_number(card, new + BETA, active.beta + cost);
     let old = start(active.alpha);
     store_number(card, old + NEXT, active.beta);
-    card[old + NAME..old + NAME_END].copy_from_slice(&padded(name));
-    ACCEPTED
+    card[old + NAME..old + NAME_END].copy_from_slice(&name);
+    Ok(())
 }
 
 /// Makes a snapshot the active store again.
 pub fn revert(card: &mut [u8], name: &[u8]) -> Answer {
-    let blocks = match blocks_of(card) {
-        Some(blocks) => blocks,
-        None => return refusal(1, 0),
-    };
-    if !is_name_text(name) {
-        return refusal(4, 0);
-    }
-    let chain = match chain_of(card, blocks) {
-        Ok(chain) => chain,
-        Err(place) => return refusal(6, place),
-    };
-    let snapshot = match snapshot_named(&chain, name) {
-        Some(k) => chain[k],
-        None => return refusal(7, 0),
-    };
+    answered(try_revert(card, name))
+}
 
-    let active_name = chain[chain.len() - 1].name;
+fn try_revert(card: &mut [u8], name: &[u8]) -> Result<(), Answer> {
+    let opened = open(card, Some(name), None)?;
+    let snapshot = opened.snapshot(name)?;
+
     let old = start(snapshot.alpha);
     store_number(card, old + NEXT, 0);
-    card[old + NAME..old + NAME_END].copy_from_slice(&active_name);
-    ACCEPTED
+    card[old + NAME..old + NAME_END].copy_from_slice(&opened.active().name);
+    Ok(())
 }
 
 /// Fills the lent list, one record for each descriptor; also gives how many were filled.
 pub fn list(card: &[u8], lent: &mut [Record]) -> (Answer, usize) {
-    let blocks = match blocks_of(card) {
-        Some(blocks) => blocks,
-        None => return (refusal(1, 0), 0),
-    };
-    let chain = match chain_of(card, blocks) {
-        Ok(chain) => chain,
-        Err(place) => return (refusal(6, place), 0),
-    };
+    match try_list(card, lent) {
+        Ok(filled) => (ACCEPTED, filled),
+        Err(refused) => (refused, 0),
+    }
+}
+
+fn try_list(card: &[u8], lent: &mut [Record]) -> Result<usize, Answer> {
+    let chain = open(card, None, None)?.chain;
     if lent.len() < chain.len() {
-        return (refusal(14, 0), 0);
+        return Err(refusal(14, 0));
     }
 
     for (record, descriptor) in lent.iter_mut().zip(&chain) {
@@ -511,25 +501,22 @@ pub fn list(card: &[u8], lent: &mut [Record]) -> (Answer, usize) {
             next: descriptor.next,
         };
     }
-    (ACCEPTED, chain.len())
+    Ok(chain.len())
 }
 
 /// Answers 0 or the first fault.
 pub fn check(card: &[u8]) -> Answer {
-    let blocks = match blocks_of(card) {
-        Some(blocks) => blocks,
-        None => return refusal(1, 0),
-    };
-    let chain = match chain_of(card, blocks) {
-        Ok(chain) => chain,
-        Err(place) => return refusal(6, place),
-    };
-    for descriptor in &chain {
-        if let Some(place) = first_fault(card, blocks, &chain, descriptor) {
-            return refusal(10, place);
+    answered(try_check(card))
+}
+
+fn try_check(card: &[u8]) -> Result<(), Answer> {
+    let opened = open(card, None, None)?;
+    for descriptor in &opened.chain {
+        if let Some(place) = first_fault(card, opened.blocks, &opened.chain, descriptor) {
+            return Err(refusal(10, place));
         }
     }
-    ACCEPTED
+    Ok(())
 }
 
 /// The block that holds the first faulty entry of a descriptor: Phi's entry, then that

@@ -1,5 +1,9 @@
 //! Counts of the answers that sheets give, by op and number.
 
+use crate::counts::{print_missing, Counts};
+use crate::numbers::ANSWERS;
+use crate::sheet::ILL_FORMED;
+
 pub const OPS: [&str; 8] = [
     "ream", "read", "write", "snap", "revert", "list", "check", "other",
 ];
@@ -9,20 +13,20 @@ pub const OTHER: usize = 7;
 
 /// For each op the numbers that can arise on a sheet. A card made by accepted calls alone
 /// passes check, so there is no 10; 64 blocks hold no 256 descriptors, so no 13 and no 14.
-const CAN_ARISE: [&[usize]; 8] = [
-    &[0, 1, 2, 3, 4, 5, 15],
-    &[0, 4, 6, 7, 8, 15],
-    &[0, 6, 8, 11, 15],
-    &[0, 4, 6, 11, 12, 15],
-    &[0, 4, 6, 7, 15],
-    &[0, 6, 15],
-    &[0, 6, 15],
-    &[15],
+const CAN_ARISE: [&[u64]; 8] = [
+    &[0, 1, 2, 3, 4, 5, ILL_FORMED],
+    &[0, 4, 6, 7, 8, ILL_FORMED],
+    &[0, 6, 8, 11, ILL_FORMED],
+    &[0, 4, 6, 11, 12, ILL_FORMED],
+    &[0, 4, 6, 7, ILL_FORMED],
+    &[0, 6, ILL_FORMED],
+    &[0, 6, ILL_FORMED],
+    &[ILL_FORMED],
 ];
 
 #[derive(Clone, Default)]
 pub struct Tally {
-    counts: [[u64; 16]; 8],
+    counts: Counts,
 }
 
 /// The row of a line, by its first bytes.
@@ -33,57 +37,27 @@ pub fn op_of(line: &[u8]) -> usize {
 
 impl Tally {
     pub fn count(&mut self, op: usize, number: u64) {
-        self.counts[op][number as usize] += 1;
+        self.counts.add(op, number, 1);
     }
 
     pub fn add(&mut self, other: &Tally) {
-        for (row, more) in self.counts.iter_mut().zip(&other.counts) {
-            for (count, plus) in row.iter_mut().zip(more) {
-                *count += plus;
-            }
+        for (op, number, times) in other.counts.given() {
+            self.counts.add(op, number, times);
         }
     }
 
     /// Prints the table, then what can arise and did not.
     pub fn print(&self) {
-        print!("{:7}", "op");
-        for number in 0..16 {
-            print!(" {number:>7}");
-        }
-        println!();
-        for (op, row) in OPS.iter().zip(&self.counts) {
-            print!("{op:7}");
-            for count in row {
-                print!(" {count:>7}");
-            }
-            println!();
-        }
-        let mut missing = Vec::new();
-        for (op, numbers) in CAN_ARISE.iter().enumerate() {
-            for number in numbers
-                .iter()
-                .filter(|number| self.counts[op][**number] == 0)
-            {
-                missing.push(format!("{} {number}", OPS[op]));
-            }
-        }
-        if missing.is_empty() {
-            println!("every pair that can arise did");
-        } else {
-            println!("not met: {}", missing.join(", "));
-        }
+        let numbers = [&ANSWERS[..], &[ILL_FORMED]].concat();
+        self.counts.print("op", &OPS, &numbers);
+        print_missing(&self.counts.missing(&OPS, &CAN_ARISE));
     }
 
     /// How many answers there were that cannot arise on a sheet.
     pub fn impossible(&self) -> u64 {
-        let mut sum = 0;
-        for (op, row) in self.counts.iter().enumerate() {
-            for (number, count) in row.iter().enumerate() {
-                if !CAN_ARISE[op].contains(&number) {
-                    sum += count;
-                }
-            }
-        }
-        sum
+        self.counts
+            .strange(&CAN_ARISE)
+            .map(|(_, _, times)| times)
+            .sum()
     }
 }

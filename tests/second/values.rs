@@ -1,15 +1,9 @@
 //! Document 01's bench values, the areas that are refused and the order of refusals, each
 //! with the answer that the paper gives.
 
-use crate::store::{self, Answer, Logical, Record, Target, ACCEPTED, BLOCK};
+use crate::numbers::{BETA, BLOCK};
+use crate::store::{self, Answer, Logical, Record, Target, ACCEPTED, NOTHING};
 use crate::{damage, Count};
-
-const NOTHING: Record = Record {
-    name: [0; 16],
-    alpha: 0,
-    beta: 0,
-    next: 0,
-};
 
 /// Counts a case whose two sides must be equal.
 pub fn same<T: PartialEq + std::fmt::Debug>(count: &mut Count, name: &str, got: T, expected: T) {
@@ -60,8 +54,7 @@ pub fn beta(card: &[u8]) -> u64 {
 
 /// Puts a stored number on a card.
 pub fn put(card: &mut [u8], block: u64, byte: usize, value: u32) {
-    let at = block as usize * BLOCK + byte;
-    card[at..at + 4].copy_from_slice(&value.to_le_bytes());
+    store::store_number(card, block as usize * BLOCK + byte, u64::from(value));
 }
 
 pub fn run() -> Count {
@@ -222,7 +215,7 @@ fn areas(count: &mut Count) {
         ACCEPTED,
     );
     same(count, "its beta", beta(&card), 113);
-    put(&mut card, 0, 16, 65_535);
+    put(&mut card, 0, BETA, 65_535);
     same(count, "last block", write(&mut card, 14_335), ACCEPTED);
     same(count, "beta at the end", beta(&card), 65_536);
     same(

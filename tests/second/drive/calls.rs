@@ -3,9 +3,9 @@
 use crate::boundary::Ask;
 use crate::lent::Lent;
 use crate::lists::{random_name, random_shape, unformatted, Maker};
+use crate::numbers::{BLOCK, MOST_SNAPSHOTS};
 use crate::pair::Pair;
 use crate::rng::Rng;
-use crate::store::BLOCK;
 use crate::table::Table;
 
 /// The list of a seed.
@@ -58,7 +58,7 @@ fn fill(maker: &mut Maker, pair: &mut Pair, table: &mut Table) -> Result<(), Str
     let area = pair.own.length();
     let volume = u64::from(maker.shape.volume);
     let blocks = maker.shape.blocks as u64;
-    let snaps = *maker.rng.pick(&[0, 5, 5, 20, 255]);
+    let snaps = *maker.rng.pick(&[0, 5, 5, 20, MOST_SNAPSHOTS as u64]);
     let writes = match maker.rng.below(2) {
         0 => blocks / (snaps + 1) + 1,
         _ => maker.rng.between(1, blocks / (snaps + 1)),

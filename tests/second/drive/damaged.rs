@@ -1,19 +1,29 @@
 //! Random calls on damaged cards.
 
 use crate::boundary::{by_own, Ask};
+use crate::call::Kind;
 use crate::lent::{noise, Lent};
 use crate::lists::{random_shape, random_volume, unformatted, Maker, Shape, MANY_SNAPS};
+use crate::numbers::*;
 use crate::pair::Pair;
 use crate::rng::Rng;
-use crate::store::{self, Record, BLOCK, MOST_DESCRIPTORS, MOST_VOLUME};
+use crate::store::{self, Record, NOTHING};
 use crate::table::Table;
 
-const NOTHING: Record = Record {
-    name: [0; 16],
-    alpha: 0,
-    beta: 0,
-    next: 0,
-};
+/// The kinds of calls on a damaged card, some more often.
+const OFTEN: [Kind; 11] = [
+    Kind::Read,
+    Kind::Read,
+    Kind::Read,
+    Kind::Write,
+    Kind::Write,
+    Kind::Write,
+    Kind::Snap,
+    Kind::Revert,
+    Kind::List,
+    Kind::Check,
+    Kind::Check,
+];
 
 /// The list of a seed: a card in use, damage, calls, more damage, more calls.
 pub fn one(seed: u64, table: &mut Table) -> Result<(), String> {
@@ -39,7 +49,7 @@ pub fn one(seed: u64, table: &mut Table) -> Result<(), String> {
         if maker.rng.once_in(15) {
             let most = damaged.len() as u64;
             let length = match maker.rng.below(2) {
-                0 => maker.rng.below(most / 512) * 512,
+                0 => maker.rng.below(most / BLOCK as u64) * BLOCK as u64,
                 _ => maker.rng.below(most),
             };
             damaged.truncate(length as usize);
@@ -49,9 +59,9 @@ pub fn one(seed: u64, table: &mut Table) -> Result<(), String> {
             let area = maker.area_length(&pair.own);
             // Reams last: they make the card good again.
             let kind = match k {
-                0 => 6,
-                18.. => 0,
-                _ => *maker.rng.pick(&[1, 1, 1, 2, 2, 2, 3, 4, 5, 6, 6]),
+                0 => Kind::Check,
+                18.. => Kind::Ream,
+                _ => *maker.rng.pick(&OFTEN),
             };
             let ask = maker.make(kind, pair.own.part());
             let (answer, _) = pair.call(area, &ask, table).map_err(|reason| {
@@ -76,7 +86,7 @@ fn wide_shape(rng: &mut Rng) -> Shape {
     Shape {
         layout: rng.between(1, 2) as u32,
         volume: random_volume(rng, MOST_VOLUME),
-        blocks: *rng.pick(&[65_536, 65_535, 40_000, 20_000]),
+        blocks: *rng.pick(&[MOST_BLOCKS as usize, 65_535, 40_000, 20_000]),
         length: rng.between(300, 1_500),
         snap_weight: *rng.pick(&[20, 200, MANY_SNAPS]),
     }
@@ -100,11 +110,11 @@ fn in_use(maker: &mut Maker, card: &mut [u8], length: u64) {
 }
 
 fn number_at(card: &[u8], at: usize) -> u32 {
-    u32::from_le_bytes([card[at], card[at + 1], card[at + 2], card[at + 3]])
+    store::number_at(card, at) as u32
 }
 
 fn put(card: &mut [u8], at: usize, value: u32) {
-    card[at..at + 4].copy_from_slice(&value.to_le_bytes());
+    store::store_number(card, at, u64::from(value));
 }
 
 /// Has a logical block used about every third time.
@@ -129,48 +139,53 @@ fn damage(maker: &mut Maker, card: &mut [u8]) {
         _ => records[records.len() - 1],
     };
     let start = descriptor.alpha as usize * BLOCK;
-    let tables = volume.div_ceil(128);
+    let entries = TABLE_ENTRIES as u32;
+    let tables = volume.div_ceil(entries);
     let i = match rng.below(3) {
         0 => rng.below(u64::from(tables)) as u32,
-        _ => *rng.pick(&maker.hot) / 128,
+        _ => *rng.pick(&maker.hot) / entries,
     };
     let value = any_entry(rng, card, records, &descriptor, blocks);
     match rng.below(26) {
         0 => {
-            let byte = rng.below(64) as usize;
+            let byte = rng.below(PHI as u64) as usize;
             card[start + byte] ^= 1 << rng.below(8);
         }
         1 => {
-            let field = *rng.pick(&[4, 8, 12, 16, 16, 20, 20]);
+            let field = *rng.pick(&[LAYOUT, VOLUME, ALPHA, BETA, BETA, NEXT, NEXT]);
             put(card, start + field, value);
         }
         7..=9 if layout == 2 => {
             let i = match rng.below(4) {
-                0 => rng.below(112) as u32,
-                1 => tables % 112,
-                _ => i % 112,
+                0 => rng.below(PHI_ENTRIES) as u32,
+                1 => tables % PHI_ENTRIES as u32,
+                _ => i % PHI_ENTRIES as u32,
             };
-            put(card, start + 64 + 4 * i as usize, value);
-            let j = rng.below(128) as u32;
+            put(card, start + phi_byte(u64::from(i)), value);
+            let j = rng.below(TABLE_ENTRIES) as u32;
             let logical = match rng.below(2) {
                 0 => *rng.pick(&maker.hot),
-                _ => (i * 128 + j) % volume,
+                _ => (i * entries + j) % volume,
             };
             use_often(&mut maker.hot, logical);
         }
         2..=14 => {
             let table = match layout {
                 1 => descriptor.alpha as u32 + 1 + i,
-                _ => number_at(card, start + 64 + 4 * (i as usize % 112)),
+                _ => number_at(card, start + phi_byte(u64::from(i) % PHI_ENTRIES)),
             };
             let j = match rng.below(4) {
-                0 => rng.below(128) as u32,
-                1 => (volume % 128 + rng.below(3) as u32) % 128,
-                _ => *rng.pick(&maker.hot) % 128,
+                0 => rng.below(TABLE_ENTRIES) as u32,
+                1 => (volume % entries + rng.below(3) as u32) % entries,
+                _ => *rng.pick(&maker.hot) % entries,
             };
             if table != 0 && u64::from(table) < blocks {
-                put(card, table as usize * BLOCK + 4 * j as usize, value);
-                use_often(&mut maker.hot, (i * 128 + j) % volume);
+                put(
+                    card,
+                    table as usize * BLOCK + entry_byte(u64::from(j)),
+                    value,
+                );
+                use_often(&mut maker.hot, (i * entries + j) % volume);
             }
         }
         15 => {
@@ -191,17 +206,17 @@ fn damage(maker: &mut Maker, card: &mut [u8]) {
         }
         18 => {
             let other = rng.pick(records).name;
-            card[start + 24..start + 40].copy_from_slice(&other);
+            card[start + NAME..start + NAME_END].copy_from_slice(&other);
         }
         19 => {
-            let at = start + 24 + rng.below(16) as usize;
+            let at = start + NAME + rng.below(NAME_SIZE as u64) as usize;
             card[at] = *rng.pick(b"\0\0a-A/{");
         }
         20 | 21 => {
             // Beta greater, with old blocks now below it.
             let active = records[records.len() - 1];
             let beta = rng.between(active.beta.min(blocks), blocks) as u32;
-            put(card, active.alpha as usize * BLOCK + 16, beta);
+            put(card, active.alpha as usize * BLOCK + BETA, beta);
         }
         22 | 23 => {
             // A spare block below a greater beta, named once: by an entry near L or near n.
@@ -210,17 +225,17 @@ fn damage(maker: &mut Maker, card: &mut [u8]) {
             let last = tables - 1;
             let table = match layout {
                 1 => active.alpha as u32 + 1 + last,
-                _ => number_at(card, from + 64 + 4 * last as usize),
+                _ => number_at(card, from + phi_byte(u64::from(last))),
             };
             if count > 0 && active.beta < blocks {
-                put(card, from + 16, active.beta as u32 + 1);
-                let j = (volume + 127 + rng.below(3) as u32) % 128;
-                let past = (tables as usize + 111 + rng.below(3) as usize) % 112;
+                put(card, from + BETA, active.beta as u32 + 1);
+                let j = (volume + entries - 1 + rng.below(3) as u32) % entries;
+                let past = (u64::from(tables) + PHI_ENTRIES - 1 + rng.below(3)) % PHI_ENTRIES;
                 let at = match layout == 2 && rng.once_in(3) {
-                    true => from + 64 + 4 * past,
-                    false => table as usize % blocks as usize * BLOCK + 4 * j as usize,
+                    true => from + phi_byte(past),
+                    false => table as usize % blocks as usize * BLOCK + entry_byte(u64::from(j)),
                 };
-                if at >= BLOCK || at >= 64 && layout == 2 {
+                if at >= BLOCK || at >= PHI && layout == 2 {
                     put(card, at, active.beta as u32);
                 }
             }
@@ -234,11 +249,11 @@ fn damage(maker: &mut Maker, card: &mut [u8]) {
                 let from = active.alpha as usize * BLOCK;
                 let to = active.beta as usize * BLOCK;
                 card.copy_within(from..from + cost as usize * BLOCK, to);
-                put(card, from + 20, active.beta as u32);
-                put(card, to + 12, active.beta as u32);
-                put(card, to + 16, (active.beta + cost) as u32);
+                put(card, from + NEXT, active.beta as u32);
+                put(card, to + ALPHA, active.beta as u32);
+                put(card, to + BETA, (active.beta + cost) as u32);
                 let name = crate::lists::random_name(rng);
-                card[to + 24..to + 40].copy_from_slice(&name);
+                card[to + NAME..to + NAME_END].copy_from_slice(&name);
             }
         }
     }
@@ -259,7 +274,7 @@ fn any_entry(
         1 => descriptor.beta as u32,
         2 => other.alpha as u32,
         3 => other.beta as u32,
-        4 => *rng.pick(&[0, blocks, 65_536, 1 << 31, u32::MAX]),
+        4 => *rng.pick(&[0, blocks, MOST_BLOCKS as u32, 1 << 31, u32::MAX]),
         5 | 6 => {
             // A number that stands in some block of the region, or in the descriptor.
             let low = descriptor.alpha;
@@ -267,7 +282,10 @@ fn any_entry(
                 .beta
                 .clamp(low + 1, u64::from(blocks).max(low + 1));
             let block = low + rng.below((high - low).min(6));
-            number_at(card, block as usize * BLOCK + 4 * rng.below(128) as usize)
+            number_at(
+                card,
+                block as usize * BLOCK + entry_byte(rng.below(TABLE_ENTRIES)),
+            )
         }
         7 | 8 => rng.below(descriptor.beta.max(1)) as u32,
         _ => return rng.below(u64::from(blocks) + 2) as u32,

@@ -1,14 +1,17 @@
 //! A maker of random calls. It follows the names that stand on the card by the answers.
 
-use crate::boundary::{Ask, RECORD};
+use crate::boundary::Ask;
+use crate::call::Kind;
+use crate::declared::RECORD_SIZE;
 use crate::lent::{noise, Lent};
+use crate::numbers::*;
 use crate::rng::Rng;
-use crate::store::{self, opening_cost, Logical, Name, BLOCK};
+use crate::store::{self, opening_cost, Logical, Name};
 
 /// The weight of snaps in a list that is to meet 13.
 pub const MANY_SNAPS: u64 = 4_000;
 
-const LETTERS: &[u8] = b"abcdefghijklmnopqrstuvwxyz0123456789.-";
+pub const LETTERS: &[u8] = b"abcdefghijklmnopqrstuvwxyz0123456789.-";
 
 /// The sizes of a card and of its list.
 pub struct Shape {
@@ -37,11 +40,11 @@ pub struct Maker {
 /// A random name.
 pub fn random_name(rng: &mut Rng) -> Name {
     let length = match rng.below(4) {
-        0 => 16,
+        0 => NAME_SIZE as u64,
         1 => 1,
-        _ => rng.between(1, 16),
+        _ => rng.between(1, NAME_SIZE as u64),
     };
-    let mut name = [0; 16];
+    let mut name = [0; NAME_SIZE];
     for byte in &mut name[..length as usize] {
         *byte = *rng.pick(LETTERS);
     }
@@ -63,8 +66,8 @@ pub fn random_volume(rng: &mut Rng, most: u64) -> u32 {
 /// The greatest volume of a card.
 pub fn most_volume(layout: u64, blocks: u64) -> u64 {
     match layout {
-        1 => store::MOST_VOLUME.min(128 * (blocks - 1)),
-        _ => store::MOST_VOLUME,
+        1 => MOST_VOLUME.min(TABLE_ENTRIES * (blocks - 1)),
+        _ => MOST_VOLUME,
     }
 }
 
@@ -100,7 +103,7 @@ impl Maker {
         let pool = (0..names).map(|_| random_name(&mut rng)).collect();
         let mut hot = Vec::new();
         for _ in 0..rng.between(2, 40) {
-            let near = *rng.pick(&[8, 130, 14_336]);
+            let near = *rng.pick(&[8, 130, MOST_VOLUME]);
             hot.push(rng.below(near.min(u64::from(shape.volume))) as u32);
         }
         Maker {
@@ -129,7 +132,7 @@ impl Maker {
 
     /// Takes note of an answer.
     pub fn after(&mut self, ask: &Ask, number: u32) {
-        let named = |name: &Lent| Name::try_from(name.part()).unwrap_or([0; 16]);
+        let named = |name: &Lent| Name::try_from(name.part()).unwrap_or([0; NAME_SIZE]);
         match ask {
             Ask::Write { .. } => self.full = number == 11,
             Ask::Snap { name } => {
@@ -188,31 +191,31 @@ impl Maker {
     /// the card.
     pub fn next(&mut self, card: &[u8]) -> Ask {
         if self.full && !self.names.is_empty() && self.rng.once_in(3) {
-            return self.make(4, card);
+            return self.make(Kind::Revert, card);
         }
         // With 255 snapshots the rest of the card is filled as well.
         let snap = match self.names.len() {
-            store::MOST_SNAPSHOTS => 800,
+            MOST_SNAPSHOTS => 800,
             _ => self.shape.snap_weight,
         };
         let kind = match self.rng.below(1_000 + snap) {
-            0..=449 => 2,
-            450..=729 => 1,
-            730..=799 => 5,
-            800..=839 => 6,
-            840..=859 => 0,
-            860..=869 => 4,
-            870..=899 if self.shape.snap_weight < MANY_SNAPS => 4,
-            _ => 3,
+            0..=449 => Kind::Write,
+            450..=729 => Kind::Read,
+            730..=799 => Kind::List,
+            800..=839 => Kind::Check,
+            840..=859 => Kind::Ream,
+            860..=869 => Kind::Revert,
+            870..=899 if self.shape.snap_weight < MANY_SNAPS => Kind::Revert,
+            _ => Kind::Snap,
         };
         self.make(kind, card)
     }
 
-    /// A call of a kind, by its row in the table.
-    pub fn make(&mut self, kind: usize, card: &[u8]) -> Ask {
+    /// A call of a kind.
+    pub fn make(&mut self, kind: Kind, card: &[u8]) -> Ask {
         match kind {
-            0 => self.ream(),
-            1 => {
+            Kind::Ream => self.ream(),
+            Kind::Read => {
                 let snapshot = match self.rng.below(8) {
                     0..=3 => 0,
                     4 => *self.rng.pick(&[2, 256, 65_536, 1 << 31, u32::MAX]),
@@ -227,27 +230,27 @@ impl Maker {
                     out: self.lent(&before),
                 }
             }
-            2 => {
+            Kind::Write => {
                 let content = self.content(card);
                 Ask::Write {
                     block: self.logical(),
                     bytes: self.lent(&content),
                 }
             }
-            3 => Ask::Snap {
+            Kind::Snap => Ask::Snap {
                 name: self.fresh_name(),
             },
-            4 => Ask::Revert {
+            Kind::Revert => Ask::Revert {
                 name: self.old_name(),
             },
-            5 => {
+            Kind::List => {
                 let length = self.list_length();
                 let before = noise(&mut self.rng, length);
                 Ask::List {
                     records: self.lent(&before),
                 }
             }
-            _ => Ask::Check,
+            Kind::Check => Ask::Check,
         }
     }
 
@@ -255,9 +258,14 @@ impl Maker {
         let volume = self.shape.volume;
         match self.rng.below(30) {
             0 => volume,
-            1 => *self
-                .rng
-                .pick(&[65_535, 65_536, 14_336, volume + 1, 1 << 31, u32::MAX]),
+            1 => *self.rng.pick(&[
+                65_535,
+                65_536,
+                MOST_VOLUME as u32,
+                volume + 1,
+                1 << 31,
+                u32::MAX,
+            ]),
             2..=4 => self.rng.below(u64::from(volume)) as u32,
             5 => volume - 1,
             _ => *self.rng.pick(&self.hot),
@@ -298,16 +306,18 @@ impl Maker {
 
     fn list_length(&mut self) -> usize {
         let chain = self.names.len() + 1;
-        let rest = self.rng.below(RECORD as u64) as usize;
+        let rest = self.rng.below(RECORD_SIZE as u64) as usize;
         match self.rng.below(8) {
-            0 => chain * RECORD,
-            1 => chain * RECORD - 1,
-            2 => chain * RECORD + rest,
-            3 => (chain - 1) * RECORD + rest,
-            4 => self.rng.below(chain as u64 + 3) as usize * RECORD + rest,
-            5 => *self.rng.pick(&[0, 1, 27, 28, 29]),
-            6 => 256 * RECORD,
-            _ => 256 * RECORD + rest + *self.rng.pick(&[0, 1, 30]) * RECORD,
+            0 => chain * RECORD_SIZE,
+            1 => chain * RECORD_SIZE - 1,
+            2 => chain * RECORD_SIZE + rest,
+            3 => (chain - 1) * RECORD_SIZE + rest,
+            4 => self.rng.below(chain as u64 + 3) as usize * RECORD_SIZE + rest,
+            5 => *self
+                .rng
+                .pick(&[0, 1, RECORD_SIZE - 1, RECORD_SIZE, RECORD_SIZE + 1]),
+            6 => MOST_DESCRIPTORS * RECORD_SIZE,
+            _ => MOST_DESCRIPTORS * RECORD_SIZE + rest + *self.rng.pick(&[0, 1, 30]) * RECORD_SIZE,
         }
     }
 
@@ -320,10 +330,10 @@ impl Maker {
         let mut bad_name = false;
         match rng.below(5) {
             0 => layout = *rng.pick(&[0, 3, 258, 65_537, u32::MAX]),
-            1 => volume = *rng.pick(&[0, 14_337, 65_537, 1 << 31, u32::MAX]),
-            2 if 128 * blocks <= store::MOST_VOLUME => {
+            1 => volume = *rng.pick(&[0, MOST_VOLUME as u32 + 1, 65_537, 1 << 31, u32::MAX]),
+            2 if TABLE_ENTRIES * blocks <= MOST_VOLUME => {
                 layout = 1;
-                volume = (128 * (blocks - 1) + 1 + rng.below(128)) as u32;
+                volume = (TABLE_ENTRIES * (blocks - 1) + 1 + rng.below(TABLE_ENTRIES)) as u32;
             }
             3 if !self.steady => {
                 layout = rng.between(1, 2) as u32;
@@ -362,18 +372,18 @@ impl Maker {
         let rng = &mut self.rng;
         match rng.below(7) {
             0 => bytes.resize(*rng.pick(&[0, 1, 15, 17, 32]), 0),
-            1 => bytes = vec![0; 16],
+            1 => bytes = vec![0; NAME_SIZE],
             2 => bytes[0] = *rng.pick(b"\0AZ`{/:,_ \x80\xff"),
             3 => {
-                let at = rng.below(16) as usize;
+                let at = rng.below(NAME_SIZE as u64) as usize;
                 bytes[at] = *rng.pick(b"AZ`{/:,_ \x80\xff");
             }
             4 => {
                 // A zero byte and then a byte of names.
-                bytes[14] = 0;
-                bytes[15] = b'a';
+                bytes[NAME_SIZE - 2] = 0;
+                bytes[NAME_SIZE - 1] = b'a';
             }
-            5 => bytes.truncate(15),
+            5 => bytes.truncate(NAME_SIZE - 1),
             _ => bytes.push(0),
         }
         self.lent(&bytes)
@@ -434,12 +444,12 @@ pub fn random_shape(rng: &mut Rng, large: bool) -> (Shape, bool) {
         0..=3 if large => {
             big = true;
             blocks = match kind {
-                0 | 1 => 65_536,
-                _ => rng.between(2_000, 65_536),
+                0 | 1 => MOST_BLOCKS,
+                _ => rng.between(2_000, MOST_BLOCKS),
             };
             volume = match rng.below(3) {
-                0 => store::MOST_VOLUME as u32,
-                _ => random_volume(rng, store::MOST_VOLUME),
+                0 => MOST_VOLUME as u32,
+                _ => random_volume(rng, MOST_VOLUME),
             };
             length = rng.between(20, 60);
         }
@@ -451,17 +461,17 @@ pub fn random_shape(rng: &mut Rng, large: bool) -> (Shape, bool) {
             snap_weight = MANY_SNAPS;
             length = rng.between(360, 480);
             let spare = *rng.pick(&[40, 100, 250]);
-            blocks = 256 * opening_cost(layout, 1) + rng.between(0, spare);
+            blocks = MOST_DESCRIPTORS as u64 * opening_cost(layout, 1) + rng.between(0, spare);
             volume = match layout {
-                1 => rng.between(1, 128) as u32,
-                _ => random_volume(rng, store::MOST_VOLUME),
+                1 => rng.between(1, TABLE_ENTRIES) as u32,
+                _ => random_volume(rng, MOST_VOLUME),
             };
         }
         24..=43 => {
             // The card is as large as its opening, or a little larger.
-            volume = random_volume(rng, store::MOST_VOLUME);
+            volume = random_volume(rng, MOST_VOLUME);
             let cost = opening_cost(layout, u64::from(volume));
-            blocks = (cost + rng.below(5)).max(2);
+            blocks = (cost + rng.below(5)).max(LEAST_BLOCKS);
         }
         _ => {
             blocks = match kind {

@@ -2,11 +2,12 @@
 
 use crate::boundary::pad_name;
 use crate::lent::{noise, Lent};
+use crate::lists::LETTERS;
+use crate::numbers::NAME_SIZE;
 use crate::rng::Rng;
 use crate::store;
 use crate::table::{Table, PAD};
 
-const GOOD: &[u8] = b"abcdefghijklmnopqrstuvwxyz0123456789.-";
 /// Bytes next to the good ones, and others.
 const BAD: &[u8] = b"`{/:,\0AZ_ @\x7f\x80\xe1\xff\n+~";
 
@@ -14,9 +15,9 @@ fn text(rng: &mut Rng) -> Vec<u8> {
     let length = match rng.below(4) {
         0 => *rng.pick(&[0, 1, 15, 16, 17, 40]),
         1 => rng.between(0, 40),
-        _ => rng.between(1, 16),
+        _ => rng.between(1, NAME_SIZE as u64),
     };
-    let mut text: Vec<u8> = (0..length).map(|_| *rng.pick(GOOD)).collect();
+    let mut text: Vec<u8> = (0..length).map(|_| *rng.pick(LETTERS)).collect();
     match rng.below(6) {
         0 if length > 0 => {
             let at = rng.below(length) as usize;
@@ -39,13 +40,13 @@ pub fn one(seed: u64, table: &mut Table) -> Result<(), String> {
         let bytes = text(&mut rng);
         let length = match rng.below(8) {
             0 => *rng.pick(&[0, 1, 15, 17, 32]),
-            _ => 16,
+            _ => NAME_SIZE,
         };
         let before = noise(&mut rng, length);
         let mut lent_text = Lent::new(&mut rng, &bytes, 40);
         let mut name = Lent::new(&mut rng, &before, 40);
         let (same_text, mut expected) = (lent_text.clone(), name.clone());
-        let number = if length == 16 && store::is_name_text(&bytes) {
+        let number = if length == NAME_SIZE && store::is_name_text(&bytes) {
             expected.part_mut().copy_from_slice(&store::padded(&bytes));
             0
         } else {

@@ -29,7 +29,7 @@ impl Pair {
         let answer = by_library(self.library.lend(length), &mut lent);
         let mut own_lent = ask.clone();
         let own = by_own(self.own.lend(length), &mut own_lent);
-        table.count(ask.kind(), answer.0)?;
+        table.count(ask.call().kind() as usize, answer.0)?;
         if answer != own {
             return Err(format!(
                 "the library answers {answer:?}, the own store {own:?}"

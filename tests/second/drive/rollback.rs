@@ -6,9 +6,9 @@
 use crate::boundary::{by_library, listed_beta, Ask};
 use crate::lent::Lent;
 use crate::lists::{random_shape, unformatted, Maker};
+use crate::numbers::BLOCK;
 use crate::pair::Pair;
 use crate::rng::Rng;
-use crate::store::BLOCK;
 use crate::table::Table;
 
 /// How many shorter lists are followed at once.

@@ -1,14 +1,16 @@
 //! Counts of the answers by call and number.
 
-pub const KINDS: [&str; 8] = [
-    "ream", "read", "write", "snap", "revert", "list", "check", "pad",
-];
+use crate::call::KINDS;
+use crate::counts::{print_missing, Counts};
+use crate::numbers::ANSWERS;
 
-/// The row of mantreuy_pad_name.
-pub const PAD: usize = 7;
+/// The row of mantreuy_pad_name, after those of the calls.
+pub const PAD: usize = KINDS.len();
 
-/// For each call the numbers that can arise in a command.
-pub type Expected = [&'static [usize]; 8];
+const ROWS: usize = PAD + 1;
+
+/// For each row the numbers that can arise in a command.
+pub type Expected = [&'static [u64]; ROWS];
 
 /// A card made by accepted calls passes check: no 10. A shortened one can give 6.
 pub const CALLS: Expected = [
@@ -51,49 +53,31 @@ pub const NAMES: Expected = [&[], &[], &[], &[], &[], &[], &[], &[0, 4]];
 
 #[derive(Default)]
 pub struct Table {
-    counts: [[u64; 16]; 8],
+    counts: Counts,
     /// What else was counted, as a last remark.
     pub reverts: u64,
     pub compared: u64,
 }
 
 impl Table {
-    /// Counts an answer; a number above 14 is no answer.
-    pub fn count(&mut self, kind: usize, number: u32) -> Result<(), String> {
-        if number > 14 {
+    /// Counts an answer, if the number is one.
+    pub fn count(&mut self, row: usize, number: u32) -> Result<(), String> {
+        let number = u64::from(number);
+        if !ANSWERS.contains(&number) {
             return Err(format!("the number {number}"));
         }
-        self.counts[kind][number as usize] += 1;
+        self.counts.add(row, number, 1);
         Ok(())
     }
 
     /// Prints the table, then what can arise and did not, and the reverse.
     pub fn print(&self, expected: Expected) {
-        print!("{:7}", "call");
-        for number in 0..15 {
-            print!(" {number:>7}");
-        }
-        println!();
-        let mut missing = Vec::new();
-        let mut strange = Vec::new();
-        let mut sum = 0;
-        for (kind, row) in self.counts.iter().enumerate() {
-            if expected[kind].is_empty() {
-                continue;
-            }
-            print!("{:7}", KINDS[kind]);
-            for (number, count) in row[..15].iter().enumerate() {
-                print!(" {count:>7}");
-                sum += count;
-                let pair = format!("{} {number}", KINDS[kind]);
-                match (expected[kind].contains(&number), *count > 0) {
-                    (true, false) => missing.push(pair),
-                    (false, true) => strange.push(pair),
-                    _ => {}
-                }
-            }
-            println!();
-        }
+        let titles: Vec<&str> = KINDS.into_iter().chain(["pad"]).collect();
+        let used = |row: usize| !expected[row].is_empty();
+        let rows = (0..ROWS).map(|row| if used(row) { titles[row] } else { "" });
+        self.counts
+            .print("call", &rows.collect::<Vec<_>>(), &ANSWERS);
+        let sum: u64 = self.counts.given().map(|(_, _, times)| times).sum();
         println!("{sum} calls");
         if self.reverts > 0 {
             println!(
@@ -101,11 +85,12 @@ impl Table {
                 self.reverts, self.compared
             );
         }
-        if missing.is_empty() {
-            println!("every pair that can arise did");
-        } else {
-            println!("not met: {}", missing.join(", "));
-        }
+        print_missing(&self.counts.missing(&titles, &expected));
+        let strange: Vec<String> = self
+            .counts
+            .strange(&expected)
+            .map(|(row, number, _)| format!("{} {number}", titles[row]))
+            .collect();
         if !strange.is_empty() {
             println!("not to be expected: {}", strange.join(", "));
         }

@@ -3,9 +3,10 @@
 
 use crate::boundary::Ask;
 use crate::lent::Lent;
+use crate::numbers::BLOCK;
 use crate::pair::Pair;
 use crate::rng::Rng;
-use crate::store::BLOCK;
+use crate::store;
 use crate::table::Table;
 
 /// The value, with a volume that the seed chooses.
@@ -39,7 +40,5 @@ fn expect(pair: &mut Pair, ask: &Ask, number: u32, table: &mut Table) -> Result<
 }
 
 fn name(rng: &mut Rng, text: &str) -> Lent {
-    let mut bytes = [0; 16];
-    bytes[..text.len()].copy_from_slice(text.as_bytes());
-    Lent::new(rng, &bytes, 0)
+    Lent::new(rng, &store::padded(text.as_bytes()), 0)
 }

@@ -1,0 +1,72 @@
+//! Counts of answers, by the row of a table and by the answer's number.
+
+use std::collections::BTreeMap;
+
+#[derive(Clone, Default)]
+pub struct Counts(BTreeMap<(usize, u64), u64>);
+
+impl Counts {
+    pub fn add(&mut self, row: usize, number: u64, times: u64) {
+        *self.0.entry((row, number)).or_default() += times;
+    }
+
+    /// How often the number was given in the row.
+    pub fn of(&self, row: usize, number: u64) -> u64 {
+        self.0.get(&(row, number)).copied().unwrap_or(0)
+    }
+
+    /// Row, number and count of all that was given.
+    pub fn given(&self) -> impl Iterator<Item = (usize, u64, u64)> + '_ {
+        self.0
+            .iter()
+            .map(|((row, number), times)| (*row, *number, *times))
+    }
+
+    /// Prints the columns of these numbers, a row for each title that is not empty.
+    pub fn print(&self, head: &str, titles: &[&str], numbers: &[u64]) {
+        print!("{head:7}");
+        for number in numbers {
+            print!(" {number:>7}");
+        }
+        println!();
+        for (row, title) in titles.iter().enumerate() {
+            if title.is_empty() {
+                continue;
+            }
+            print!("{title:7}");
+            for number in numbers {
+                print!(" {:>7}", self.of(row, *number));
+            }
+            println!();
+        }
+    }
+
+    /// The pairs of a row and a number of `can_arise` that were not given.
+    pub fn missing(&self, titles: &[&str], can_arise: &[&[u64]]) -> Vec<String> {
+        let mut missing = Vec::new();
+        for (row, numbers) in can_arise.iter().enumerate() {
+            for number in numbers.iter().filter(|number| self.of(row, **number) == 0) {
+                missing.push(format!("{} {number}", titles[row]));
+            }
+        }
+        missing
+    }
+
+    /// Row, number and count of what was given beside `can_arise`.
+    pub fn strange<'a>(
+        &'a self,
+        can_arise: &'a [&'a [u64]],
+    ) -> impl Iterator<Item = (usize, u64, u64)> + 'a {
+        self.given()
+            .filter(|(row, number, _)| !can_arise[*row].contains(number))
+    }
+}
+
+/// Prints what can arise and did not.
+pub fn print_missing(missing: &[String]) {
+    if missing.is_empty() {
+        println!("every pair that can arise did");
+    } else {
+        println!("not met: {}", missing.join(", "));
+    }
+}
