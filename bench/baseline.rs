@@ -1,10 +1,9 @@
-// The seven calls in plain safe Rust, without proofs: what the benchmark compares the library with.
-const BLOCK: usize = 512;
-const MOST: usize = 256; // descriptors in a chain
-const ZEROS: [u8; BLOCK] = [0; BLOCK];
+// The seven calls in plain Rust, without proofs and written for speed: what the benchmark compares the library with.
+use crate::declared::RECORD_SIZE;
+use crate::numbers::*;
+use std::mem::MaybeUninit;
 
-type Block = [u8; BLOCK];
-type Name = [u8; 16];
+type Entry = [u8; NUMBER];
 
 // The number and the place of a refusal.
 #[derive(Clone, Copy, PartialEq, Eq, Debug)]
@@ -16,174 +15,73 @@ pub struct Refusal {
 pub type Answer = Result<(), Refusal>;
 
 fn refuse<T>(number: u32) -> Result<T, Refusal> {
-    Err(Refusal { number, place: 0 })
+    refuse_at(number, 0)
 }
 
 fn refuse_at<T>(number: u32, place: u32) -> Result<T, Refusal> {
     Err(Refusal { number, place })
 }
 
-#[derive(Default)]
-struct Descriptor {
-    layout: u32,
-    volume: u32,
-    alpha: u32,
-    beta: u32,
-    next: u32,
-    name: Name,
-}
-
-// A sound chain: where its descriptors stand and the active descriptor.
-struct Chain {
-    count: usize,
-    starts: [u32; MOST],
-    names: [Name; MOST],
-    active: Descriptor,
-}
-
 fn get(b: &Block, at: usize) -> u32 {
-    u32::from_le_bytes([b[at], b[at + 1], b[at + 2], b[at + 3]])
+    u32::from_le_bytes(b[at..at + NUMBER].try_into().unwrap())
 }
 
 fn put(b: &mut Block, at: usize, v: u32) {
-    b[at..at + 4].copy_from_slice(&v.to_le_bytes());
+    b[at..at + NUMBER].copy_from_slice(&v.to_le_bytes());
 }
 
-fn block(card: &[u8], p: u32) -> &Block {
-    let at = BLOCK * p as usize;
-    card[at..at + BLOCK].try_into().unwrap()
+fn name_of(b: &Block) -> &Name {
+    b[NAME..NAME_END].try_into().unwrap()
 }
 
-fn block_mut(card: &mut [u8], p: u32) -> &mut Block {
-    let at = BLOCK * p as usize;
-    (&mut card[at..at + BLOCK]).try_into().unwrap()
+// The entries of Phi.
+fn phi(b: &Block) -> &[Entry; PHI_ENTRIES] {
+    b[PHI..].as_chunks().0.try_into().unwrap()
 }
 
-fn descriptor(b: &Block) -> Descriptor {
-    Descriptor {
-        layout: get(b, 4),
-        volume: get(b, 8),
-        alpha: get(b, 12),
-        beta: get(b, 16),
-        next: get(b, 20),
-        name: b[24..40].try_into().unwrap(),
-    }
+// The entries of a table block.
+fn table(b: &Block) -> &[Entry; TABLE_ENTRIES as usize] {
+    b.as_chunks().0.try_into().unwrap()
 }
 
+// Every byte is looked at, many at a time.
+#[inline(always)]
+fn is_zero(bytes: &[u8]) -> bool {
+    let (words, rest) = bytes.as_chunks();
+    let words = words
+        .iter()
+        .fold(0, |all, word| all | u64::from_le_bytes(*word));
+    let rest = rest.iter().fold(0, |all, byte| all | byte);
+    words == 0 && rest == 0
+}
+
+fn is_letter(b: u8) -> bool {
+    b.is_ascii_lowercase() | b.is_ascii_digit() | (b == b'.') | (b == b'-')
+}
+
+// Each byte is of a name, or zero with a zero after it; all sixteen are looked at together.
 fn is_name(name: &Name) -> bool {
-    let length = name.iter().position(|&b| b == 0).unwrap_or(name.len());
-    length > 0
-        && name[..length]
-            .iter()
-            .all(|&b| matches!(b, b'a'..=b'z' | b'0'..=b'9' | b'.' | b'-'))
-        && name[length..].iter().all(|&b| b == 0)
+    let mut after = [0; NAME_SIZE];
+    after[..NAME_SIZE - 1].copy_from_slice(&name[1..]);
+    let pairs = name.iter().zip(&after);
+    let good = pairs.fold(true, |good, (&b, &next)| {
+        good & (is_letter(b) | (b == 0) & (next == 0))
+    });
+    good & (name[0] != 0)
 }
 
-// The opening cost c.
-fn cost(layout: u32, volume: u32) -> u32 {
-    match layout {
-        1 => 1 + volume.div_ceil(128),
-        _ => 1,
-    }
-}
-
-fn is_sound(b: &Block, d: &Descriptor, p: u32, n: u32) -> bool {
-    let zeros_to = if d.layout == 1 { BLOCK } else { 64 };
-    b[..4] == *b"snap"
-        && matches!(d.layout, 1 | 2)
-        && matches!(d.volume, 1..=14336)
-        && is_name(&d.name)
-        && b[40..zeros_to] == ZEROS[40..zeros_to]
-        && d.alpha == p
-        && d.beta <= n
-        && d.alpha + cost(d.layout, d.volume) <= d.beta
-        && (d.next == 0 || d.next == d.beta && d.beta < n)
-}
-
-impl Chain {
-    fn new() -> Chain {
-        Chain {
-            count: 0,
-            starts: [0; MOST],
-            names: [[0; 16]; MOST],
-            active: Descriptor::default(),
-        }
-    }
-
-    // Walks the chain of the card.
-    fn walk(&mut self, card: &[u8]) -> Answer {
-        let n = (card.len() / BLOCK) as u32;
-        let first = descriptor(block(card, 0));
-        let mut p = 0;
-        for k in 0..MOST {
-            let b = block(card, p);
-            let d = descriptor(b);
-            if d.layout != first.layout
-                || d.volume != first.volume
-                || !is_sound(b, &d, p, n)
-                || self.names[..k].contains(&d.name)
-            {
-                return refuse_at(6, p);
-            }
-            self.starts[k] = p;
-            self.names[k] = d.name;
-            if d.next == 0 {
-                self.count = k + 1;
-                self.active = d;
-                return Ok(());
-            }
-            p = d.next;
-        }
-        refuse_at(6, p)
-    }
-
-    // Where the snapshot of this name has its descriptor.
-    fn snapshot(&self, name: &Name) -> Result<u32, Refusal> {
-        match self.names[..self.count - 1].iter().position(|n| n == name) {
-            Some(k) => Ok(self.starts[k]),
-            None => refuse(7),
-        }
-    }
-
-    // Whether an entry of the descriptor may name block p.
-    fn in_place(&self, d: &Descriptor, p: u32) -> bool {
-        if p == 0 {
-            return true;
-        }
-        if p >= d.beta {
-            return false;
-        }
-        let k = self.starts[..self.count].partition_point(|&s| s <= p);
-        self.starts[k - 1] + cost(d.layout, d.volume) <= p
-    }
-
-    // The table block and the entry of logical block l, each 0 where it is nil.
-    fn find(&self, card: &[u8], d: &Descriptor, l: u32) -> Result<(u32, u32), Refusal> {
-        let table = if d.layout == 1 {
-            d.alpha + 1 + l / 128
-        } else {
-            let m = get(block(card, d.alpha), 64 + 4 * (l / 128) as usize);
-            if !self.in_place(d, m) {
-                return refuse_at(10, d.alpha);
-            }
-            if m == 0 {
-                return Ok((0, 0));
-            }
-            m
-        };
-        let p = get(block(card, table), 4 * (l % 128) as usize);
-        if !self.in_place(d, p) {
-            return refuse_at(10, table);
-        }
-        Ok((table, p))
+fn check_area(card: &[u8]) -> Result<&[Block], Refusal> {
+    match card.as_chunks() {
+        (blocks, []) if (FEWEST_BLOCKS..=MOST_BLOCKS).contains(&blocks.len()) => Ok(blocks),
+        _ => refuse(1),
     }
 }
 
-fn check_area(card: &[u8]) -> Answer {
-    if card.len() % BLOCK != 0 || !matches!(card.len() / BLOCK, 2..=65536) {
-        return refuse(1);
+fn check_area_mut(card: &mut [u8]) -> Result<&mut [Block], Refusal> {
+    match card.as_chunks_mut() {
+        (blocks, []) if (FEWEST_BLOCKS..=MOST_BLOCKS).contains(&blocks.len()) => Ok(blocks),
+        _ => refuse(1),
     }
-    Ok(())
 }
 
 fn check_name(bytes: &[u8]) -> Result<&Name, Refusal> {
@@ -193,235 +91,443 @@ fn check_name(bytes: &[u8]) -> Result<&Name, Refusal> {
     }
 }
 
+// The blocks of descriptors, of which the first `count` are set.
+struct Starts {
+    count: usize,
+    blocks: [MaybeUninit<u32>; MOST_DESCRIPTORS],
+}
+
+impl Starts {
+    fn push(&mut self, p: u32) {
+        self.blocks[self.count].write(p);
+        self.count += 1;
+    }
+
+    fn all(&self) -> &[u32] {
+        // SAFETY: push has set the first `count`.
+        unsafe { std::slice::from_raw_parts(self.blocks.as_ptr().cast(), self.count) }
+    }
+}
+
+// A sound chain.
+struct Chain {
+    starts: Starts,
+    // the same in all descriptors
+    layout: u32,
+    volume: u32,
+    cost: u32,
+    // of the active descriptor
+    alpha: u32,
+    beta: u32,
+    // which descriptor has the name that was looked for
+    found: Option<usize>,
+}
+
+// Where the descriptors of the names passed stand among the starts, from 1; 0 where there is none. With at least twice
+// as many slots as names the search is short.
+const SLOTS: usize = 2 * MOST_DESCRIPTORS;
+
+struct Names([u8; SLOTS]);
+
+impl Names {
+    // The slot of the name and which descriptor has it.
+    fn find(&self, blocks: &[Block], starts: &[u32], name: &Name) -> (usize, Option<usize>) {
+        let bits = u128::from_le_bytes(*name);
+        let mixed = (bits as u64 ^ ((bits >> 64) as u64).rotate_left(32))
+            .wrapping_mul(0x9e37_79b9_7f4a_7c15);
+        let mut slot = (mixed >> (u64::BITS - SLOTS.ilog2())) as usize;
+        loop {
+            match self.0[slot] as usize {
+                0 => return (slot, None),
+                k if name_of(&blocks[starts[k - 1] as usize]) == name => {
+                    return (slot, Some(k - 1))
+                }
+                _ => slot = (slot + 1) % SLOTS,
+            }
+        }
+    }
+}
+
+// Whether a descriptor at block p of n is sound, as far as it does not rest on others. Within another function the
+// compiler takes the bytes of the name one by one.
+#[inline(never)]
+fn is_sound(b: &Block, layout: u32, cost: u32, p: u32, n: u32) -> bool {
+    let (beta, next) = (get(b, BETA), get(b, NEXT));
+    is_name(name_of(b))
+        && is_zero(&b[NAME_END..PHI])
+        && (layout == 2 || is_zero(&b[PHI..]))
+        && get(b, ALPHA) == p
+        && p + cost <= beta
+        && beta <= n
+        && (next == 0 || next == beta && beta < n)
+}
+
+impl Chain {
+    fn new() -> Chain {
+        Chain {
+            starts: Starts {
+                count: 0,
+                blocks: [MaybeUninit::uninit(); MOST_DESCRIPTORS],
+            },
+            layout: 0,
+            volume: 0,
+            cost: 0,
+            alpha: 0,
+            beta: 0,
+            found: None,
+        }
+    }
+
+    // Walks the chain of the card, and looks for a name in it.
+    fn walk(&mut self, blocks: &[Block], wanted: Option<&Name>) -> Answer {
+        let first = &blocks[0];
+        self.layout = get(first, LAYOUT);
+        self.volume = get(first, VOLUME);
+        if first[..LAYOUT] != MARK
+            || !matches!(self.layout, 1 | 2)
+            || !matches!(self.volume, 1..=MOST_VOLUME)
+        {
+            return refuse_at(6, 0);
+        }
+        self.cost = cost(self.layout, self.volume);
+        let mut p = self.pass(blocks, 0)?;
+        if p == 0 {
+            self.found = (wanted == Some(name_of(first))).then_some(0);
+            return Ok(());
+        }
+        let mut names = Names([0; SLOTS]);
+        let (slot, _) = names.find(blocks, &[], name_of(first));
+        names.0[slot] = 1;
+        while self.starts.count < MOST_DESCRIPTORS {
+            let b = &blocks[p as usize];
+            let (slot, earlier) = names.find(blocks, self.starts.all(), name_of(b));
+            if b[..ALPHA] != first[..ALPHA] || earlier.is_some() {
+                return refuse_at(6, p);
+            }
+            let next = self.pass(blocks, p)?;
+            if next == 0 {
+                let starts = self.starts.all();
+                self.found = wanted.and_then(|name| match name == name_of(b) {
+                    true => Some(starts.len() - 1),
+                    false => names.find(blocks, starts, name).1,
+                });
+                return Ok(());
+            }
+            // fits: the last descriptor has no slot
+            names.0[slot] = self.starts.count as u8;
+            p = next;
+        }
+        refuse_at(6, p)
+    }
+
+    // Takes a descriptor in, unless it is unsound by itself; its next.
+    fn pass(&mut self, blocks: &[Block], p: u32) -> Result<u32, Refusal> {
+        let b = &blocks[p as usize];
+        if !is_sound(b, self.layout, self.cost, p, blocks.len() as u32) {
+            return refuse_at(6, p);
+        }
+        self.starts.push(p);
+        self.alpha = p;
+        self.beta = get(b, BETA);
+        Ok(get(b, NEXT))
+    }
+
+    // The block of the snapshot that was looked for.
+    fn snapshot(&self) -> Result<u32, Refusal> {
+        match self.found {
+            Some(k) if k < self.starts.count - 1 => Ok(self.starts.all()[k]),
+            _ => refuse(7),
+        }
+    }
+
+    // Whether an entry of a descriptor with this beta may name block p.
+    fn in_place(&self, beta: u32, p: u32) -> bool {
+        if p == 0 || p >= beta {
+            return p == 0;
+        }
+        let starts = self.starts.all();
+        let k = starts.partition_point(|&s| s <= p);
+        starts[k - 1] + self.cost <= p
+    }
+
+    // The table block and the entry of logical block l, each 0 where it is nil.
+    fn find(&self, blocks: &[Block], alpha: u32, beta: u32, l: u32) -> Result<(u32, u32), Refusal> {
+        if l >= self.volume {
+            return refuse(8);
+        }
+        let m = if self.layout == 1 {
+            alpha + 1 + l / TABLE_ENTRIES
+        } else {
+            let entries = phi(&blocks[alpha as usize]);
+            let m = u32::from_le_bytes(entries[(l / TABLE_ENTRIES) as usize]);
+            if !self.in_place(beta, m) {
+                return refuse_at(10, alpha);
+            }
+            if m == 0 {
+                return Ok((0, 0));
+            }
+            m
+        };
+        let entries = table(&blocks[m as usize]);
+        let p = u32::from_le_bytes(entries[(l % TABLE_ENTRIES) as usize]);
+        if !self.in_place(beta, p) {
+            return refuse_at(10, m);
+        }
+        Ok((m, p))
+    }
+}
+
 #[inline(never)]
 pub fn ream(card: &mut [u8], layout: u32, volume: u32, name: &[u8]) -> Answer {
-    check_area(card)?;
+    let blocks = check_area_mut(card)?;
     if !matches!(layout, 1 | 2) {
         return refuse(2);
     }
-    if !matches!(volume, 1..=14336) {
+    if !matches!(volume, 1..=MOST_VOLUME) {
         return refuse(3);
     }
     let name = check_name(name)?;
     let c = cost(layout, volume);
-    let end = BLOCK * c as usize;
-    if end > card.len() {
+    let Some(opening) = blocks.get_mut(..c as usize) else {
         return refuse(5);
-    }
-    card[..end].fill(0);
-    let b = block_mut(card, 0);
-    b[..4].copy_from_slice(b"snap");
-    put(b, 4, layout);
-    put(b, 8, volume);
-    put(b, 16, c);
-    b[24..40].copy_from_slice(name);
+    };
+    opening.as_flattened_mut().fill(0);
+    let b = &mut opening[0];
+    b[..LAYOUT].copy_from_slice(&MARK);
+    put(b, LAYOUT, layout);
+    put(b, VOLUME, volume);
+    put(b, BETA, c);
+    b[NAME..NAME_END].copy_from_slice(name);
     Ok(())
 }
 
 #[inline(never)]
 pub fn read(card: &[u8], snapshot: Option<&[u8]>, l: u32, out: &mut [u8]) -> Answer {
-    check_area(card)?;
+    let blocks = check_area(card)?;
     let name = snapshot.map(check_name).transpose()?;
-    if out.len() != BLOCK {
+    let Ok(out) = <&mut Block>::try_from(out) else {
         return refuse(9);
-    }
+    };
     let mut chain = Chain::new();
-    chain.walk(card)?;
-    let found;
-    let d = match name {
-        None => &chain.active,
-        Some(name) => {
-            found = descriptor(block(card, chain.snapshot(name)?));
-            &found
+    chain.walk(blocks, name)?;
+    let (alpha, beta) = match name {
+        None => (chain.alpha, chain.beta),
+        Some(_) => {
+            let alpha = chain.snapshot()?;
+            (alpha, get(&blocks[alpha as usize], BETA))
         }
     };
-    if l >= d.volume {
-        return refuse(8);
-    }
-    match chain.find(card, d, l)? {
+    match chain.find(blocks, alpha, beta, l)? {
         (_, 0) => out.fill(0),
-        (_, p) => out.copy_from_slice(block(card, p)),
+        (_, p) => *out = blocks[p as usize],
     }
     Ok(())
 }
 
 #[inline(never)]
 pub fn write(card: &mut [u8], l: u32, bytes: &[u8]) -> Answer {
-    check_area(card)?;
+    let blocks = check_area_mut(card)?;
     let Ok(bytes) = <&Block>::try_from(bytes) else {
         return refuse(9);
     };
     let mut chain = Chain::new();
-    chain.walk(card)?;
-    let d = &chain.active;
-    if l >= d.volume {
-        return refuse(8);
-    }
-    let (table, p) = chain.find(card, d, l)?;
-    if p != 0 && p >= d.alpha {
-        *block_mut(card, p) = *bytes;
+    chain.walk(blocks, None)?;
+    let (alpha, beta) = (chain.alpha, chain.beta);
+    let (old, p) = chain.find(blocks, alpha, beta, l)?;
+    if p != 0 && p >= alpha {
+        blocks[p as usize] = *bytes;
         return Ok(());
     }
-    let is_new = table == 0 || table < d.alpha;
-    let need = if is_new { 2 } else { 1 };
-    let end = d.beta + need;
-    if end as usize > card.len() / BLOCK {
+    let is_new = old == 0 || old < alpha;
+    let end = beta + 1 + u32::from(is_new);
+    if end as usize > blocks.len() {
         return refuse(11);
     }
     let data = end - 1;
-    *block_mut(card, data) = *bytes;
-    let table = if is_new {
-        let from = BLOCK * table as usize;
-        match table {
-            0 => block_mut(card, d.beta).fill(0),
-            _ => card.copy_within(from..from + BLOCK, BLOCK * d.beta as usize),
+    blocks[data as usize] = *bytes;
+    let mut m = old as usize;
+    if is_new {
+        m = beta as usize;
+        match old {
+            0 => blocks[m].fill(0),
+            _ => blocks.copy_within(old as usize..old as usize + 1, m),
         }
-        put(
-            block_mut(card, d.alpha),
-            64 + 4 * (l / 128) as usize,
-            d.beta,
-        );
-        d.beta
-    } else {
-        table
-    };
-    put(block_mut(card, table), 4 * (l % 128) as usize, data);
-    put(block_mut(card, d.alpha), 16, end);
+        let at = PHI + NUMBER * (l / TABLE_ENTRIES) as usize;
+        put(&mut blocks[alpha as usize], at, beta);
+    }
+    put(&mut blocks[m], NUMBER * (l % TABLE_ENTRIES) as usize, data);
+    put(&mut blocks[alpha as usize], BETA, end);
     Ok(())
 }
 
 #[inline(never)]
 pub fn snap(card: &mut [u8], name: &[u8]) -> Answer {
-    check_area(card)?;
+    let blocks = check_area_mut(card)?;
     let name = check_name(name)?;
     let mut chain = Chain::new();
-    chain.walk(card)?;
-    if chain.names[..chain.count].contains(name) {
+    chain.walk(blocks, Some(name))?;
+    if chain.found.is_some() {
         return refuse(12);
     }
-    if chain.count == MOST {
+    if chain.starts.count == MOST_DESCRIPTORS {
         return refuse(13);
     }
-    let d = &chain.active;
-    let c = cost(d.layout, d.volume);
-    if (d.beta + c) as usize > card.len() / BLOCK {
+    let (from, to, c) = (chain.alpha as usize, chain.beta, chain.cost);
+    if (to + c) as usize > blocks.len() {
         return refuse(11);
     }
-    let from = BLOCK * d.alpha as usize;
-    card.copy_within(from..from + BLOCK * c as usize, BLOCK * d.beta as usize);
-    let opened = block_mut(card, d.beta);
-    put(opened, 12, d.beta);
-    put(opened, 16, d.beta + c);
-    let closed = block_mut(card, d.alpha);
-    put(closed, 20, d.beta);
-    closed[24..40].copy_from_slice(name);
+    blocks.copy_within(from..from + c as usize, to as usize);
+    let opened = &mut blocks[to as usize];
+    put(opened, ALPHA, to);
+    put(opened, BETA, to + c);
+    let closed = &mut blocks[from];
+    put(closed, NEXT, to);
+    closed[NAME..NAME_END].copy_from_slice(name);
     Ok(())
 }
 
 #[inline(never)]
 pub fn revert(card: &mut [u8], name: &[u8]) -> Answer {
-    check_area(card)?;
+    let blocks = check_area_mut(card)?;
     let name = check_name(name)?;
     let mut chain = Chain::new();
-    chain.walk(card)?;
-    let p = chain.snapshot(name)?;
-    let b = block_mut(card, p);
-    put(b, 20, 0);
-    b[24..40].copy_from_slice(&chain.active.name);
+    chain.walk(blocks, Some(name))?;
+    let p = chain.snapshot()?;
+    let active = *name_of(&blocks[chain.alpha as usize]);
+    let b = &mut blocks[p as usize];
+    put(b, NEXT, 0);
+    b[NAME..NAME_END].copy_from_slice(&active);
     Ok(())
 }
 
 #[inline(never)]
 pub fn list(card: &[u8], records: &mut [u8]) -> Answer {
-    check_area(card)?;
+    let blocks = check_area(card)?;
     let mut chain = Chain::new();
-    chain.walk(card)?;
-    if records.len() / 28 < chain.count {
+    chain.walk(blocks, None)?;
+    let starts = chain.starts.all();
+    let (records, _) = records.as_chunks_mut::<RECORD_SIZE>();
+    if records.len() < starts.len() {
         return refuse(14);
     }
-    for (record, &p) in records
-        .chunks_exact_mut(28)
-        .zip(&chain.starts[..chain.count])
-    {
-        let b = block(card, p);
-        record[..16].copy_from_slice(&b[24..40]);
-        record[16..].copy_from_slice(&b[12..24]);
+    for (record, &p) in records.iter_mut().zip(starts) {
+        let b = &blocks[p as usize];
+        record[..NAME_SIZE].copy_from_slice(name_of(b));
+        record[NAME_SIZE..].copy_from_slice(&b[ALPHA..NAME]);
     }
     Ok(())
 }
 
-// Flags block p, unless it is beyond the flags or flagged already; whether it was done.
-fn take(seen: &mut [bool], p: u32) -> bool {
-    match seen.get_mut(p as usize) {
-        Some(flag) if !*flag => {
-            *flag = true;
-            true
-        }
-        _ => false,
-    }
+// A mark for each block but block 0: the last turn, one for each descriptor, in which an entry named it; or the highest,
+// for a block that no entry may name.
+struct Marks {
+    marks: Vec<u8>,
+    turn: u8,
 }
 
-// Whether the entries of table block m, of which the first `counted` count, are as they must be.
-fn check_table(card: &[u8], seen: &mut [bool], m: u32, counted: usize) -> bool {
-    let (entries, rest) = block(card, m).split_at(4 * counted.min(128));
-    for e in entries.chunks_exact(4) {
-        let v = u32::from_le_bytes([e[0], e[1], e[2], e[3]]);
-        if v != 0 && !take(seen, v) {
-            return false;
+const OPENING: u8 = u8::MAX;
+
+impl Marks {
+    fn new(blocks: usize, chain: &Chain) -> Marks {
+        let mut marks = Marks {
+            marks: vec![0; blocks - 1],
+            turn: 0,
+        };
+        marks.open(chain);
+        marks
+    }
+
+    fn open(&mut self, chain: &Chain) {
+        let c = chain.cost as usize;
+        self.marks[..c - 1].fill(OPENING);
+        for &p in &chain.starts.all()[1..] {
+            self.marks[p as usize - 1..][..c].fill(OPENING);
         }
     }
-    *rest == ZEROS[..rest.len()]
-}
 
-fn check_one(card: &[u8], seen: &mut [bool], d: &Descriptor) -> Answer {
-    let n = d.volume.div_ceil(128);
-    let counted = |i: u32| (d.volume - 128 * i) as usize;
-    if d.layout == 1 {
-        for i in 0..n {
-            let m = d.alpha + 1 + i;
-            if !check_table(card, &mut seen[..d.beta as usize], m, counted(i)) {
-                return refuse_at(10, m);
+    fn next_turn(&mut self, chain: &Chain) {
+        self.turn += 1;
+        if self.turn == OPENING {
+            self.marks.fill(0);
+            self.open(chain);
+            self.turn = 1;
+        }
+    }
+
+    // Which of the entries is at fault first, where they may name blocks below the limit.
+    fn fault(&mut self, entries: &[Entry], limit: u32) -> Option<usize> {
+        let marks = &mut self.marks[..limit as usize - 1];
+        let turn = self.turn;
+        let mut is_fault = |e: &Entry| {
+            let v = u32::from_le_bytes(*e);
+            // nil is beyond all marks
+            match marks.get_mut(v.wrapping_sub(1) as usize) {
+                Some(mark) if *mark < turn => {
+                    *mark = turn;
+                    false
+                }
+                Some(_) => true,
+                None => v != 0,
+            }
+        };
+        let (fours, rest) = entries.as_chunks::<4>();
+        for (i, four) in fours.iter().enumerate() {
+            if let Some(j) = four.iter().position(&mut is_fault) {
+                return Some(4 * i + j);
             }
         }
-        return Ok(());
+        let j = rest.iter().position(is_fault)?;
+        Some(4 * fours.len() + j)
     }
-    let b = block(card, d.alpha);
-    let (phi, rest) = b[64..].split_at(4 * n as usize);
-    for (i, e) in phi.chunks_exact(4).enumerate() {
-        let m = u32::from_le_bytes([e[0], e[1], e[2], e[3]]);
+}
+
+fn check_one(blocks: &[Block], chain: &Chain, marks: &mut Marks, alpha: u32) -> Answer {
+    let b = &blocks[alpha as usize];
+    let beta = get(b, BETA);
+    let (volume, n) = (chain.volume as usize, tables(chain.volume) as usize);
+    if chain.layout == 1 {
+        let first = alpha + 1;
+        let tables = &blocks[first as usize..][..n];
+        let (entries, rest) = tables.as_flattened().as_chunks().0.split_at(volume);
+        if let Some(i) = marks.fault(entries, beta) {
+            return refuse_at(10, first + i as u32 / TABLE_ENTRIES);
+        }
+        return match is_zero(rest.as_flattened()) {
+            true => Ok(()),
+            false => refuse_at(10, first + n as u32 - 1),
+        };
+    }
+    let (entries, rest) = phi(b).split_at(n);
+    for (i, e) in entries.iter().enumerate() {
+        let m = u32::from_le_bytes(*e);
         if m == 0 {
             continue;
         }
-        if !take(&mut seen[..d.beta as usize], m) {
-            return refuse_at(10, d.alpha);
+        if marks.fault(&[*e], beta).is_some() {
+            return refuse_at(10, alpha);
         }
-        let limit = if m < d.alpha { d.alpha } else { d.beta };
-        if !check_table(card, &mut seen[..limit as usize], m, counted(i as u32)) {
+        let counted = (volume - i * TABLE_ENTRIES as usize).min(TABLE_ENTRIES as usize);
+        let (entries, rest) = table(&blocks[m as usize]).split_at(counted);
+        let limit = if m < alpha { alpha } else { beta };
+        if marks.fault(entries, limit).is_some() || !is_zero(rest.as_flattened()) {
             return refuse_at(10, m);
         }
     }
-    if *rest != ZEROS[..rest.len()] {
-        return refuse_at(10, d.alpha);
+    match is_zero(rest.as_flattened()) {
+        true => Ok(()),
+        false => refuse_at(10, alpha),
     }
-    Ok(())
 }
 
 #[inline(never)]
 pub fn check(card: &[u8]) -> Answer {
-    check_area(card)?;
+    let blocks = check_area(card)?;
     let mut chain = Chain::new();
-    chain.walk(card)?;
-    let c = cost(chain.active.layout, chain.active.volume);
-    // a flag for each block that an entry may not name, or not name again
-    let n = card.len() / BLOCK;
-    let mut openings = vec![false; n];
-    for &p in &chain.starts[..chain.count] {
-        openings[p as usize..(p + c) as usize].fill(true);
-    }
-    let mut seen = openings.clone();
-    for &p in &chain.starts[..chain.count] {
-        seen.copy_from_slice(&openings);
-        check_one(card, &mut seen, &descriptor(block(card, p)))?;
+    chain.walk(blocks, None)?;
+    let mut marks = Marks::new(blocks.len(), &chain);
+    for &p in chain.starts.all() {
+        marks.next_turn(&chain);
+        check_one(blocks, &chain, &mut marks, p)?;
     }
     Ok(())
 }

@@ -1,8 +1,8 @@
 // A call with its arguments, made to the library or to the baseline.
 use crate::baseline::{self, Answer};
+use crate::declared::RECORD_SIZE;
 use crate::library;
-
-pub type Name = [u8; 16];
+use crate::numbers::{Name, BLOCK, MOST_DESCRIPTORS, NAME_SIZE};
 
 #[derive(Clone, Copy, PartialEq, Eq, Debug)]
 pub enum Call {
@@ -46,15 +46,15 @@ pub struct Lent {
 impl Lent {
     pub fn new() -> Lent {
         Lent {
-            out: vec![0xee; 512],
-            bytes: (0..512).map(|i| (i * 7 + 3) as u8).collect(),
-            records: vec![0xdd; 28 * 256],
+            out: vec![0xee; BLOCK],
+            bytes: (0..BLOCK).map(|i| (i * 7 + 3) as u8).collect(),
+            records: vec![0xdd; RECORD_SIZE * MOST_DESCRIPTORS],
         }
     }
 }
 
 pub fn name(text: &str) -> Name {
-    let mut name = [0; 16];
+    let mut name = [0; NAME_SIZE];
     name[..text.len()].copy_from_slice(text.as_bytes());
     name
 }
@@ -66,52 +66,32 @@ pub fn make(side: Side, call: &Call, card: &mut [u8], lent: &mut Lent) -> Answer
     }
 }
 
-// These two are measured: the same steps around the call on both sides.
-
-#[inline(never)]
-#[export_name = "measured_library"]
-pub fn make_library(call: &Call, card: &mut [u8], lent: &mut Lent) -> Answer {
-    match call {
-        Call::Nothing => Ok(()),
-        Call::Ream {
-            layout,
-            volume,
-            name,
-        } => library::ream(card, *layout, *volume, name),
-        Call::Read { snapshot, block } => library::read(
-            card,
-            snapshot.as_ref().map(|n| n.as_slice()),
-            *block,
-            &mut lent.out,
-        ),
-        Call::Write { block } => library::write(card, *block, &lent.bytes),
-        Call::Snap { name } => library::snap(card, name),
-        Call::Revert { name } => library::revert(card, name),
-        Call::List => library::list(card, &mut lent.records),
-        Call::Check => library::check(card),
-    }
+// What is measured: the same steps around the call on both sides.
+macro_rules! measured {
+    ($make:ident, $symbol:literal, $side:ident) => {
+        #[inline(never)]
+        #[export_name = $symbol]
+        fn $make(call: &Call, card: &mut [u8], lent: &mut Lent) -> Answer {
+            match call {
+                Call::Nothing => Ok(()),
+                Call::Ream {
+                    layout,
+                    volume,
+                    name,
+                } => $side::ream(card, *layout, *volume, name),
+                Call::Read { snapshot, block } => {
+                    let name = snapshot.as_ref().map(|name| name.as_slice());
+                    $side::read(card, name, *block, &mut lent.out)
+                }
+                Call::Write { block } => $side::write(card, *block, &lent.bytes),
+                Call::Snap { name } => $side::snap(card, name),
+                Call::Revert { name } => $side::revert(card, name),
+                Call::List => $side::list(card, &mut lent.records),
+                Call::Check => $side::check(card),
+            }
+        }
+    };
 }
 
-#[inline(never)]
-#[export_name = "measured_baseline"]
-pub fn make_baseline(call: &Call, card: &mut [u8], lent: &mut Lent) -> Answer {
-    match call {
-        Call::Nothing => Ok(()),
-        Call::Ream {
-            layout,
-            volume,
-            name,
-        } => baseline::ream(card, *layout, *volume, name),
-        Call::Read { snapshot, block } => baseline::read(
-            card,
-            snapshot.as_ref().map(|n| n.as_slice()),
-            *block,
-            &mut lent.out,
-        ),
-        Call::Write { block } => baseline::write(card, *block, &lent.bytes),
-        Call::Snap { name } => baseline::snap(card, name),
-        Call::Revert { name } => baseline::revert(card, name),
-        Call::List => baseline::list(card, &mut lent.records),
-        Call::Check => baseline::check(card),
-    }
-}
+measured!(make_library, "measured_library", library);
+measured!(make_baseline, "measured_baseline", baseline);

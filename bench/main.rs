@@ -1,16 +1,24 @@
 // Times the calls of the library beside the same calls in plain Rust.
 //   bench [MILLISECONDS]   verify, then all rows as a Markdown table, about so long for each
+//   bench verify CARDS     the two sides compared on so many random cards
 //   bench blocks           blocks stored and taken by each call, as a Markdown table
 //   bench rows             the names of the rows, one on a line
 //   bench cards FOLDER     stores the cards of all rows
 //   bench once FOLDER      each row once on each side, with these cards, for a counter of instructions
 mod baseline;
 mod call;
+// the benchmark pads no name
+#[allow(dead_code)]
+#[path = "../rust/declared.rs"]
+mod declared;
 mod library;
+mod numbers;
 mod row;
 mod verify;
 
 use call::{make, Call, Lent, Side};
+use declared::{RECORD_BETA, RECORD_SIZE};
+use numbers::BLOCK;
 use row::{Row, Setting};
 use std::env::args;
 use std::fs;
@@ -23,23 +31,25 @@ const SIDES: [Side; 2] = [Side::Library, Side::Baseline];
 fn main() {
     let command = args().nth(1).unwrap_or_else(|| "200".to_string());
     match command.as_str() {
+        "verify" => compare(argument().parse().expect("a number")),
         "blocks" => blocks(),
         "rows" => row::rows()
             .iter()
             .for_each(|row| println!("{}", row.cells())),
-        "cards" => cards(&folder()),
-        "once" => once(&folder()),
+        "cards" => cards(Path::new(&argument())),
+        "once" => once(Path::new(&argument())),
         _ => match command.parse() {
             Ok(milliseconds) => times(Duration::from_millis(milliseconds)),
             Err(_) => eprintln!(
-                "usage: bench [MILLISECONDS | blocks | rows | cards FOLDER | once FOLDER]"
+                "usage: bench [MILLISECONDS | verify CARDS | blocks | rows | cards FOLDER | once FOLDER]"
             ),
         },
     }
 }
 
-fn folder() -> PathBuf {
-    args().nth(2).expect("a folder").into()
+// The second word of the command.
+fn argument() -> String {
+    args().nth(2).expect("an argument")
 }
 
 // A card and what a call changes in it, so that the change can be undone.
@@ -51,9 +61,9 @@ struct Bench {
 
 // The blocks that differ.
 fn changed(before: &[u8], after: &[u8]) -> Vec<usize> {
-    (0..before.len() / 512)
-        .filter(|p| before[512 * p..512 * p + 512] != after[512 * p..512 * p + 512])
-        .collect()
+    let pairs = before.chunks(BLOCK).zip(after.chunks(BLOCK));
+    let differ = pairs.enumerate().filter(|(_, (x, y))| x != y);
+    differ.map(|(p, _)| p).collect()
 }
 
 impl Bench {
@@ -74,7 +84,7 @@ impl Bench {
         );
         bench.undo = changed(card, &bench.card)
             .iter()
-            .map(|&p| (512 * p, card[512 * p..512 * p + 512].to_vec()))
+            .map(|&p| (BLOCK * p, card[BLOCK * p..][..BLOCK].to_vec()))
             .collect();
         bench.restore();
         assert!(bench.card == card);
@@ -83,7 +93,7 @@ impl Bench {
 
     fn restore(&mut self) {
         for (at, block) in &self.undo {
-            self.card[*at..*at + 512].copy_from_slice(block);
+            self.card[*at..][..BLOCK].copy_from_slice(block);
         }
     }
 
@@ -118,7 +128,7 @@ fn clock() -> f64 {
 // The time to copy so many bytes into the card, in nanoseconds.
 fn copy_time(card: &mut [u8], bytes: usize) -> f64 {
     let from = vec![0x5a; bytes];
-    let at = 512 * (card.len() / 1024);
+    let at = BLOCK * (card.len() / BLOCK / 2);
     let at = at.min(card.len() - bytes);
     let kept = card[at..at + bytes].to_vec();
     let values = (0..301)
@@ -161,12 +171,19 @@ fn file(folder: &Path, s: &Setting) -> PathBuf {
     ))
 }
 
-// The table of times.
-fn times(budget: Duration) {
+// The random cards that are compared before the times are taken.
+const CARDS: u64 = 3000;
+
+fn compare(cards: u64) {
     println!(
         "{} calls on random cards: same answers, same bytes.\n",
-        verify::verify(3000)
+        verify::verify(cards)
     );
+}
+
+// The table of times.
+fn times(budget: Duration) {
+    compare(CARDS);
     println!("| Call | Layout | L | Snapshots | N | Library | Baseline | Ratio | 10th to 90th percentile | Copy |");
     println!("|---|---|---|---|---|---|---|---|---|---|");
     let overhead = clock();
@@ -203,7 +220,7 @@ fn times(budget: Duration) {
         println!(
             "| {} | {} | {} | {} | {:.2} | {:.2} to {:.2} | {} |",
             row.cells(),
-            card.len() / 512,
+            card.len() / BLOCK,
             show(a),
             show(b),
             a / b,
@@ -219,8 +236,12 @@ fn beta(card: &mut [u8]) -> i64 {
     let mut lent = Lent::new();
     lent.records.fill(0);
     make(Side::Library, &Call::List, card, &mut lent).expect("a sound card");
-    let last = lent.records.chunks(28).rfind(|r| r[0] != 0).unwrap();
-    i64::from(u32::from_le_bytes(last[20..24].try_into().unwrap()))
+    let last = lent
+        .records
+        .chunks(RECORD_SIZE)
+        .rfind(|r| r[0] != 0)
+        .unwrap();
+    i64::from(row::number(last, RECORD_BETA))
 }
 
 // The table of blocks: what changed on the card, and how far beta moved.
@@ -238,7 +259,7 @@ fn blocks() {
         let free = if row.kind == row::Kind::Ream {
             0
         } else {
-            512 * beta(&mut before) as usize
+            BLOCK * beta(&mut before) as usize
         };
         before[free..].fill(0xa5);
         let start = if row.kind == row::Kind::Ream {

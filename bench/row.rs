@@ -1,6 +1,7 @@
 // The rows of the benchmark: a call on a prepared card.
 use crate::baseline;
-use crate::call::{name, Call, Name};
+use crate::call::{name, Call};
+use crate::numbers::*;
 
 #[derive(Clone, Copy, PartialEq, Eq, Debug)]
 pub enum Kind {
@@ -31,7 +32,7 @@ pub enum Content {
     Usual,
     // the same without the writes in the last region
     Bare,
-    // 65,536 blocks, all of the volume written, and the free blocks shared out among the regions
+    // as many blocks as may be, all of the volume written, and the free blocks shared out among the regions
     Fullest,
 }
 
@@ -58,8 +59,8 @@ const KINDS: [Kind; 10] = [
 pub fn rows() -> Vec<Row> {
     let mut rows = Vec::new();
     for layout in [1, 2] {
-        for volume in [128, 14336] {
-            for snapshots in [0, 1, 16, 254, 255] {
+        for volume in [TABLE_ENTRIES, MOST_VOLUME] {
+            for snapshots in [0, 1, 16, MOST_SNAPSHOTS - 1, MOST_SNAPSHOTS] {
                 for content in [Content::Usual, Content::Bare] {
                     let setting = Setting {
                         layout,
@@ -78,8 +79,8 @@ pub fn rows() -> Vec<Row> {
         }
         let setting = Setting {
             layout,
-            volume: 14336,
-            snapshots: 255,
+            volume: MOST_VOLUME,
+            snapshots: MOST_SNAPSHOTS,
             content: Content::Fullest,
         };
         rows.push(Row {
@@ -90,18 +91,18 @@ pub fn rows() -> Vec<Row> {
     rows
 }
 
-// 254 snapshots are for the snap that takes the last one; a format does not look at the card.
+// One snapshot less than the most is for the snap that takes the last one; a format does not look at the card.
 fn is_row(row: &Row) -> bool {
     let s = row.setting;
     let fits = match row.kind {
         Kind::Ream => s.snapshots == 0,
         Kind::ReadMiddle | Kind::Revert => s.snapshots > 0,
         Kind::WriteTwo => s.layout == 2,
-        Kind::Snap => s.snapshots != 255,
+        Kind::Snap => s.snapshots != MOST_SNAPSHOTS,
         _ => true,
     };
     fits && (s.content == Content::Bare) == (row.kind == Kind::WriteTwo)
-        && (s.snapshots == 254) == (row.kind == Kind::Snap && s.snapshots == 254)
+        && (row.kind == Kind::Snap || s.snapshots != MOST_SNAPSHOTS - 1)
 }
 
 impl Row {
@@ -179,8 +180,8 @@ impl Row {
     // The bytes of whole blocks that a read or a write moves at least.
     pub fn moved(&self) -> Option<usize> {
         match self.kind {
-            Kind::ReadActive | Kind::ReadMiddle | Kind::Overwrite | Kind::WriteOne => Some(512),
-            Kind::WriteTwo => Some(1024),
+            Kind::ReadActive | Kind::ReadMiddle | Kind::Overwrite | Kind::WriteOne => Some(BLOCK),
+            Kind::WriteTwo => Some(2 * BLOCK),
             _ => None,
         }
     }
@@ -191,28 +192,34 @@ fn visit(k: usize) -> Name {
     name(&format!("visit-{k:03}"))
 }
 
+// A stored number.
+pub fn number(bytes: &[u8], at: usize) -> u32 {
+    u32::from_le_bytes(bytes[at..at + NUMBER].try_into().unwrap())
+}
+
+// The blocks of the descriptors of a sound chain.
+pub fn chain(card: &[u8]) -> Vec<usize> {
+    let mut blocks = vec![0];
+    loop {
+        match number(card, BLOCK * blocks[blocks.len() - 1] + NEXT) as usize {
+            0 => return blocks,
+            next => blocks.push(next),
+        }
+    }
+}
+
 // The first block after the last region.
 fn beta(card: &[u8]) -> usize {
-    let field = |p: usize, at: usize| {
-        u32::from_le_bytes(card[512 * p + at..512 * p + at + 4].try_into().unwrap()) as usize
-    };
-    let mut p = 0;
-    while field(p, 20) != 0 {
-        p = field(p, 20);
-    }
-    field(p, 16)
+    let blocks = chain(card);
+    number(card, BLOCK * blocks[blocks.len() - 1] + BETA) as usize
 }
 
 // The card of a setting, with no more blocks than the calls need.
 pub fn prepare(s: &Setting) -> Vec<u8> {
-    let mut card = vec![0u8; 512 * 65536];
-    let bytes: Vec<u8> = (0..512).map(|i| (i * 5 + 1) as u8).collect();
+    let mut card = vec![0u8; BLOCK * MOST_BLOCKS];
+    let bytes: Vec<u8> = (0..BLOCK).map(|i| (i * 5 + 1) as u8).collect();
     let l = s.volume;
-    let c = if s.layout == 1 {
-        1 + l.div_ceil(128) as usize
-    } else {
-        1
-    };
+    let c = cost(s.layout, l) as usize;
     assert!(baseline::ream(&mut card, s.layout, l, &name("fs")).is_ok());
     let empty = s.content == Content::Bare && s.snapshots == 0;
     let full = s.content == Content::Fullest;
@@ -224,16 +231,16 @@ pub fn prepare(s: &Setting) -> Vec<u8> {
         if full {
             // an equal share of what is left, with all later openings kept free
             let later = s.snapshots - 1 - k;
-            let end = beta(&card) + (65536 - beta(&card) - c * later) / (later + 1);
+            let end = beta(&card) + (MOST_BLOCKS - beta(&card) - c * later) / (later + 1);
             let mut block = k as u32 * 131 % l;
             while beta(&card) + 2 <= end {
                 assert!(baseline::write(&mut card, block, &bytes).is_ok());
                 block = (block + 1) % l;
             }
-            if later == 0 && beta(&card) < 65536 {
+            if later == 0 && beta(&card) < MOST_BLOCKS {
                 // the last block of the card: a write that takes one
                 let block = (block..block + l).map(|b| b % l).find(|&block| {
-                    baseline::write(&mut card, block, &bytes).is_ok() && beta(&card) == 65536
+                    baseline::write(&mut card, block, &bytes).is_ok() && beta(&card) == MOST_BLOCKS
                 });
                 assert!(block.is_some());
             }
@@ -245,7 +252,7 @@ pub fn prepare(s: &Setting) -> Vec<u8> {
     }
     if !full {
         let end = beta(&card) + c.max(2);
-        card.truncate(512 * end);
+        card.truncate(BLOCK * end);
         card.shrink_to_fit();
     }
     assert!(baseline::check(&card).is_ok());

@@ -1,5 +1,9 @@
 // The library and the baseline beside one another on random cards, whole and damaged: same answers, same bytes.
-use crate::call::{make, name, Call, Lent, Name, Side};
+use crate::call::{make, name, Call, Lent, Side};
+use crate::declared::RECORD_SIZE;
+use crate::numbers::*;
+use crate::row::{chain, number};
+use std::collections::BTreeMap;
 
 struct Random(u64);
 
@@ -24,10 +28,24 @@ impl Random {
 struct Pair {
     a: Vec<u8>,
     b: Vec<u8>,
-    given: [u64; 15],
+    given: Given,
 }
 
+// By the number of the answer.
+type Given = BTreeMap<u32, u64>;
+
+// The numbers of the answers to calls.
+const ANSWERS: [u32; 15] = [0, 1, 2, 3, 4, 5, 6, 7, 8, 9, 10, 11, 12, 13, 14];
+
 impl Pair {
+    fn new(area: Vec<u8>, given: Given) -> Pair {
+        Pair {
+            a: area.clone(),
+            b: area,
+            given,
+        }
+    }
+
     fn make(&mut self, call: &Call, lent: &Lent) -> bool {
         let (mut la, mut lb) = (lent.clone(), lent.clone());
         let x = make(Side::Library, call, &mut self.a, &mut la);
@@ -35,7 +53,10 @@ impl Pair {
         assert_eq!(x, y, "answers differ: {call:?}");
         assert!(self.a == self.b, "cards differ after {call:?}");
         assert!(la == lb, "lent bytes differ after {call:?}");
-        self.given[x.err().map_or(0, |r| r.number as usize)] += 1;
+        *self
+            .given
+            .entry(x.err().map_or(0, |r| r.number))
+            .or_default() += 1;
         x.is_ok()
     }
 }
@@ -43,11 +64,11 @@ impl Pair {
 fn some_name(r: &mut Random, most: usize) -> Name {
     let mut n = name(&format!("v{}", r.below(most)));
     if r.one_in(20) {
-        n[r.below(16)] = r.next() as u8;
+        n[r.below(NAME_SIZE)] = r.next() as u8;
     }
     if r.one_in(8) {
         n = *b"abcdefghijklmno-";
-        n[15] = b'a' + r.below(26) as u8;
+        n[NAME_SIZE - 1] = b'a' + r.below(26) as u8;
     }
     n
 }
@@ -85,40 +106,27 @@ fn some_lent(r: &mut Random) -> Lent {
     let mut lent = Lent::new();
     lent.bytes.fill(r.next() as u8);
     if r.one_in(30) {
-        lent.out.truncate(r.below(512));
+        lent.out.truncate(r.below(BLOCK));
         lent.bytes.push(0);
     }
     if r.one_in(8) {
-        lent.records.truncate(r.below(28 * 9));
+        lent.records.truncate(r.below(RECORD_SIZE * 9));
     }
     lent
 }
 
 fn get(card: &[u8], p: usize, at: usize) -> u32 {
-    let at = 512 * p + at;
-    u32::from_le_bytes(card[at..at + 4].try_into().unwrap())
+    number(card, BLOCK * p + at)
 }
 
 fn put(card: &mut [u8], p: usize, at: usize, v: u32) {
-    let at = 512 * p + at;
-    card[at..at + 4].copy_from_slice(&v.to_le_bytes());
-}
-
-// The blocks of the descriptors of a sound chain.
-fn chain_of(card: &[u8]) -> Vec<usize> {
-    let mut blocks = vec![0];
-    loop {
-        match get(card, blocks[blocks.len() - 1], 20) as usize {
-            0 => return blocks,
-            next => blocks.push(next),
-        }
-    }
+    card[BLOCK * p + at..][..NUMBER].copy_from_slice(&v.to_le_bytes());
 }
 
 // One small change in a descriptor or an entry of a sound card; a logical block that it may touch.
 fn damage(r: &mut Random, card: &mut [u8]) -> u32 {
-    let n = card.len() / 512;
-    let chain = chain_of(card);
+    let n = card.len() / BLOCK;
+    let chain = chain(card);
     let k = if r.one_in(2) {
         chain.len() - 1
     } else {
@@ -126,57 +134,81 @@ fn damage(r: &mut Random, card: &mut [u8]) -> u32 {
     };
     let p = chain[k];
     let other = chain[r.below(chain.len())];
-    let (layout, volume) = (get(card, p, 4), get(card, p, 8));
-    let (alpha, beta) = (get(card, p, 12), get(card, p, 16));
-    let group = r.below(volume.div_ceil(128) as usize);
+    let (layout, volume) = (get(card, p, LAYOUT), get(card, p, VOLUME));
+    let (alpha, beta) = (get(card, p, ALPHA), get(card, p, BETA));
+    let entries = TABLE_ENTRIES as usize;
+    let group = r.below(tables(volume) as usize);
     let last = if r.one_in(4) {
-        128
+        entries
     } else {
-        volume.min(128) as usize
+        entries.min(volume as usize)
     };
     let j = r.below(last);
-    let l = (128 * group + j) as u32;
+    let l = (entries * group + j) as u32;
+    let c = cost(layout, volume) as usize;
+    if r.one_in(20) && k == chain.len() - 1 && beta as usize + c <= n {
+        // a descriptor more, which is sound unless it is one too many
+        let (from, to) = (BLOCK * p, BLOCK * beta as usize);
+        card.copy_within(from..from + BLOCK * c, to);
+        put(card, p, NEXT, beta);
+        card[from + NAME..from + NAME_END].copy_from_slice(&name("one-more"));
+        put(card, beta as usize, ALPHA, beta);
+        put(card, beta as usize, BETA, beta + c as u32);
+        return l;
+    }
     if r.one_in(3) {
         // the descriptor
         match r.below(9) {
-            0 => card[512 * p + r.below(64)] ^= 1 << r.below(8),
-            1 => card[512 * p + 40 + r.below(472)] ^= 1 << r.below(8),
-            2 => card.copy_within(512 * other + 24..512 * other + 40, 512 * p + 24),
+            0 => card[BLOCK * p + r.below(PHI)] ^= 1 << r.below(8),
+            1 => card[BLOCK * p + NAME_END + r.below(BLOCK - NAME_END)] ^= 1 << r.below(8),
+            2 => {
+                let from = BLOCK * other;
+                card.copy_within(from + NAME..from + NAME_END, BLOCK * p + NAME)
+            }
             3 => put(
                 card,
                 p,
-                16,
+                BETA,
                 beta.wrapping_add(r.below(3) as u32).wrapping_sub(1),
             ),
-            4 => put(card, p, 16, [n, n + 1, p, p + 1][r.below(4)] as u32),
-            5 => put(card, p, 20, [beta as usize, p, n, other][r.below(4)] as u32),
-            6 => put(card, p, 12, other as u32),
-            7 => put(card, p, 4, 3 - layout),
-            _ => put(card, p, 8, volume + 1),
+            4 => put(card, p, BETA, [n, n + 1, p, p + 1][r.below(4)] as u32),
+            5 => put(
+                card,
+                p,
+                NEXT,
+                [beta as usize, p, n, other][r.below(4)] as u32,
+            ),
+            6 => put(card, p, ALPHA, other as u32),
+            7 => put(card, p, LAYOUT, 3 - layout),
+            _ => put(card, p, VOLUME, volume + 1),
         }
         if r.one_in(4) {
             // a region that ends with the card, and a next there
-            put(card, p, 16, n as u32);
-            put(card, p, 20, n as u32);
+            put(card, p, BETA, n as u32);
+            put(card, p, NEXT, n as u32);
         }
         return l;
     }
     let table = match layout {
         1 => p + 1 + group,
-        _ => get(card, p, 64 + 4 * group) as usize,
+        _ => get(card, p, PHI + NUMBER * group) as usize,
     };
     let (holder, at) = if table == 0 || layout == 2 && r.one_in(3) {
-        let i = if r.one_in(4) { r.below(112) } else { group };
-        (p, 64 + 4 * i)
+        let i = if r.one_in(4) {
+            r.below(PHI_ENTRIES)
+        } else {
+            group
+        };
+        (p, PHI + NUMBER * i)
     } else {
-        (table.min(n - 1), 4 * j)
+        (table.min(n - 1), NUMBER * j)
     };
     let v = match r.below(9) {
         0 => other as u32,
         1 => other as u32 + 1,
         2 => alpha + r.below(3) as u32,
         3 => (beta + r.below(3) as u32).saturating_sub(1),
-        4 => get(card, holder, 4 * r.below(128)),
+        4 => get(card, holder, NUMBER * r.below(entries)),
         5 => r.below(n) as u32,
         6 => r.next() as u32,
         7 => table as u32,
@@ -187,13 +219,8 @@ fn damage(r: &mut Random, card: &mut [u8]) -> u32 {
 }
 
 // A card on which only one rule of check is broken: an old table, named by no other descriptor, with a new block in it.
-fn old_table(given: [u64; 15]) -> [u64; 15] {
-    let area = vec![0; 512 * 16];
-    let mut pair = Pair {
-        a: area.clone(),
-        b: area,
-        given,
-    };
+fn old_table(given: Given) -> Given {
+    let mut pair = Pair::new(vec![0; BLOCK * 16], given);
     let lent = Lent::new();
     let fs = name("fs");
     let ream = Call::Ream {
@@ -207,26 +234,52 @@ fn old_table(given: [u64; 15]) -> [u64; 15] {
         assert!(pair.make(&call, &lent));
     }
     // block 2 has the snapshot's data; the active region is from 3 to 6
-    pair.a[1024..1536].fill(0);
+    pair.a[2 * BLOCK..3 * BLOCK].fill(0);
     put(&mut pair.a, 2, 0, 6);
-    put(&mut pair.a, 3, 16, 7);
-    put(&mut pair.a, 3, 68, 2);
+    put(&mut pair.a, 3, BETA, 7);
+    put(&mut pair.a, 3, PHI + NUMBER, 2);
     pair.b.copy_from_slice(&pair.a);
     assert!(!pair.make(&Call::Check, &lent));
     pair.given
 }
 
+// A chain up to and past its limit where the card has the blocks for it, with data that many descriptors name.
+fn long_chain(r: &mut Random, pair: &mut Pair, blocks: usize, volume: u32) {
+    let lent = Lent::new();
+    let (layout, most) = match blocks > 2 * MOST_DESCRIPTORS + 20 {
+        true => (1, TABLE_ENTRIES),
+        false => (2, MOST_VOLUME),
+    };
+    let volume = volume.clamp(1, most);
+    let fs = name("fs");
+    let ream = Call::Ream {
+        layout,
+        volume,
+        name: fs,
+    };
+    pair.make(&ream, &lent);
+    for k in 0..=MOST_SNAPSHOTS {
+        if k < 3 || r.one_in(20) {
+            let block = r.below(volume as usize) as u32;
+            pair.make(&Call::Write { block }, &lent);
+        }
+        let name = name(&format!("v{k}"));
+        pair.make(&Call::Snap { name }, &lent);
+    }
+    pair.make(&Call::Check, &lent);
+}
+
 // Compares the two sides on `cards` random cards; the number of calls compared.
 pub fn verify(cards: u64) -> u64 {
     let mut r = Random(0x1234_5678_9abc_def1);
-    let mut given = old_table([0; 15]);
+    let mut given = old_table(Given::new());
     for i in 0..cards {
         let blocks = match i % 8 {
             0 => r.below(4),
             1 => 300 + r.below(300),
             _ => 2 + r.below(60),
         };
-        let mut area = vec![0u8; 512 * blocks];
+        let mut area = vec![0u8; BLOCK * blocks];
         if r.one_in(2) {
             area.iter_mut().for_each(|b| *b = r.next() as u8);
         }
@@ -237,8 +290,8 @@ pub fn verify(cards: u64) -> u64 {
             0 => 1,
             1 => 127 + r.below(4),
             2 => 1 + r.below(1000),
-            3 => 14336 - r.below(3),
-            4 if r.one_in(3) => 14337,
+            3 => MOST_VOLUME as usize - r.below(3),
+            4 if r.one_in(3) => MOST_VOLUME as usize + 1,
             _ => 1 + r.below(300),
         } as u32;
         let layout = if r.one_in(40) {
@@ -247,11 +300,7 @@ pub fn verify(cards: u64) -> u64 {
             1 + r.below(2)
         } as u32;
         let names = if i % 8 == 1 { 400 } else { 12 };
-        let mut pair = Pair {
-            a: area.clone(),
-            b: area,
-            given,
-        };
+        let mut pair = Pair::new(area, given);
         pair.make(
             &Call::Ream {
                 layout,
@@ -260,30 +309,15 @@ pub fn verify(cards: u64) -> u64 {
             },
             &Lent::new(),
         );
-        if i % 16 == 1 {
-            // a long chain, up to and past its limit
-            pair.make(
-                &Call::Ream {
-                    layout: 2,
-                    volume: 1,
-                    name: name("fs"),
-                },
-                &Lent::new(),
-            );
-            for k in 0..256 {
-                pair.make(
-                    &Call::Snap {
-                        name: name(&format!("v{k}")),
-                    },
-                    &Lent::new(),
-                );
-            }
+        let is_long = i % 16 == 1;
+        if is_long {
+            long_chain(&mut r, &mut pair, blocks, volume);
         }
         for _ in 0..60 {
             let call = some_call(&mut r, volume, names);
             let lent = some_lent(&mut r);
             pair.make(&call, &lent);
-            if i % 2 == 0
+            if (i % 2 == 0 || is_long)
                 && r.one_in(3)
                 && make(Side::Library, &Call::Check, &mut pair.a, &mut lent.clone()).is_ok()
             {
@@ -314,8 +348,8 @@ pub fn verify(cards: u64) -> u64 {
         given = pair.given;
     }
     assert!(
-        given.iter().all(|&n| n > 0),
-        "an answer was never given: {given:?}"
+        given.keys().eq(&ANSWERS),
+        "an answer was never given, or a strange one was: {given:?}"
     );
-    given.iter().sum()
+    given.values().sum()
 }
