@@ -72,14 +72,14 @@ fn is_name(name: &Name) -> bool {
 
 fn check_area(card: &[u8]) -> Result<&[Block], Refusal> {
     match card.as_chunks() {
-        (blocks, []) if (FEWEST_BLOCKS..=MOST_BLOCKS).contains(&blocks.len()) => Ok(blocks),
+        (blocks, []) if (LEAST_BLOCKS..=MOST_BLOCKS).contains(&blocks.len()) => Ok(blocks),
         _ => refuse(1),
     }
 }
 
 fn check_area_mut(card: &mut [u8]) -> Result<&mut [Block], Refusal> {
     match card.as_chunks_mut() {
-        (blocks, []) if (FEWEST_BLOCKS..=MOST_BLOCKS).contains(&blocks.len()) => Ok(blocks),
+        (blocks, []) if (LEAST_BLOCKS..=MOST_BLOCKS).contains(&blocks.len()) => Ok(blocks),
         _ => refuse(1),
     }
 }
@@ -183,7 +183,7 @@ impl Chain {
         let first = &blocks[0];
         self.layout = get(first, LAYOUT);
         self.volume = get(first, VOLUME);
-        if first[..LAYOUT] != MARK
+        if first[..LAYOUT] != MARK[..]
             || !matches!(self.layout, 1 | 2)
             || !matches!(self.volume, 1..=MOST_VOLUME)
         {
@@ -293,7 +293,7 @@ pub fn ream(card: &mut [u8], layout: u32, volume: u32, name: &[u8]) -> Answer {
     };
     opening.as_flattened_mut().fill(0);
     let b = &mut opening[0];
-    b[..LAYOUT].copy_from_slice(&MARK);
+    b[..LAYOUT].copy_from_slice(MARK);
     put(b, LAYOUT, layout);
     put(b, VOLUME, volume);
     put(b, BETA, c);
