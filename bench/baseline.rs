@@ -167,7 +167,7 @@ impl Chain {
         Chain {
             starts: Starts {
                 count: 0,
-                blocks: [MaybeUninit::uninit(); MOST_DESCRIPTORS],
+                blocks: [const { MaybeUninit::uninit() }; MOST_DESCRIPTORS],
             },
             layout: 0,
             volume: 0,
@@ -420,23 +420,14 @@ pub fn list(card: &[u8], records: &mut [u8]) -> Answer {
 
 // A mark for each block but block 0: the last turn, one for each descriptor, in which an entry named it; or the highest,
 // for a block that no entry may name.
-struct Marks {
-    marks: Vec<u8>,
+struct Marks<'a> {
+    marks: &'a mut [u8],
     turn: u8,
 }
 
 const OPENING: u8 = u8::MAX;
 
-impl Marks {
-    fn new(blocks: usize, chain: &Chain) -> Marks {
-        let mut marks = Marks {
-            marks: vec![0; blocks - 1],
-            turn: 0,
-        };
-        marks.open(chain);
-        marks
-    }
-
+impl Marks<'_> {
     fn open(&mut self, chain: &Chain) {
         let c = chain.cost as usize;
         self.marks[..c - 1].fill(OPENING);
@@ -524,7 +515,15 @@ pub fn check(card: &[u8]) -> Answer {
     let blocks = check_area(card)?;
     let mut chain = Chain::new();
     chain.walk(blocks, None)?;
-    let mut marks = Marks::new(blocks.len(), &chain);
+    let mut room = [const { MaybeUninit::uninit() }; MOST_BLOCKS - 1];
+    let room = &mut room[..blocks.len() - 1];
+    room.fill(MaybeUninit::new(0));
+    let mut marks = Marks {
+        // SAFETY: this part has just been set.
+        marks: unsafe { room.assume_init_mut() },
+        turn: 0,
+    };
+    marks.open(&chain);
     for &p in chain.starts.all() {
         marks.next_turn(&chain);
         check_one(blocks, &chain, &mut marks, p)?;
