@@ -10,44 +10,44 @@ enum { STACK = 1 << 20, BLOCKS = 4096 };
 
 static uint8_t *stack;
 static uint8_t *card;
-static uint8_t block[512];
+static uint8_t block[MANTREUY_BLOCK_SIZE];
 static uint8_t records[MANTREUY_MOST_RECORDS * MANTREUY_RECORD_SIZE];
 static uint32_t place;
 static uint32_t number;
 static uint8_t *top;
 static int which;
-static const uint8_t fs[16] = "fs";
-static const uint8_t mon[16] = "mon";
-static const uint8_t tue[16] = "tue";
+static const uint8_t fs[MANTREUY_NAME_SIZE] = "fs";
+static const uint8_t mon[MANTREUY_NAME_SIZE] = "mon";
+static const uint8_t tue[MANTREUY_NAME_SIZE] = "tue";
 
 /* The call itself; `top` is where its frame starts. */
 static __attribute__((noinline)) void make(void)
 {
-	const size_t n = 512 * (size_t)BLOCKS;
+	const size_t n = MANTREUY_BLOCK_SIZE * (size_t)BLOCKS;
 	top = __builtin_frame_address(0);
 	switch (which) {
-	case 0: number = mantreuy_ream(card, n, 1, 14336, fs, 16, &place); break;
-	case 1: number = mantreuy_ream(card, n, 2, 14336, fs, 16, &place); break;
-	case 2: number = mantreuy_read(card, n, 0, fs, 16, 5, block, 512, &place); break;
-	case 3: number = mantreuy_read(card, n, 1, mon, 16, 5, block, 512, &place); break;
-	case 4: number = mantreuy_write(card, n, 5, block, 512, &place); break;
-	case 5: number = mantreuy_write(card, n, 6, block, 512, &place); break;
-	case 6: number = mantreuy_write(card, n, 500, block, 512, &place); break;
-	case 7: number = mantreuy_snap(card, n, tue, 16, &place); break;
-	case 8: number = mantreuy_revert(card, n, mon, 16, &place); break;
+	case 0: number = mantreuy_ream(card, n, 1, MANTREUY_MOST_VOLUME, fs, sizeof fs, &place); break;
+	case 1: number = mantreuy_ream(card, n, 2, MANTREUY_MOST_VOLUME, fs, sizeof fs, &place); break;
+	case 2: number = mantreuy_read(card, n, 0, fs, sizeof fs, 5, block, sizeof block, &place); break;
+	case 3: number = mantreuy_read(card, n, 1, mon, sizeof mon, 5, block, sizeof block, &place); break;
+	case 4: number = mantreuy_write(card, n, 5, block, sizeof block, &place); break;
+	case 5: number = mantreuy_write(card, n, 6, block, sizeof block, &place); break;
+	case 6: number = mantreuy_write(card, n, 500, block, sizeof block, &place); break;
+	case 7: number = mantreuy_snap(card, n, tue, sizeof tue, &place); break;
+	case 8: number = mantreuy_revert(card, n, mon, sizeof mon, &place); break;
 	case 9: number = mantreuy_list(card, n, records, sizeof records, &place); break;
 	case 10: number = mantreuy_check(card, n, &place); break;
-	case 11: number = mantreuy_ream(card, n, 3, 14336, fs, 16, &place); break;
-	case 12: number = mantreuy_read(card, n, 1, tue, 16, 5, block, 512, &place); break;
-	case 13: number = mantreuy_read(card, n, 1, mon, 16, 5, block, 512, &place); break;
-	case 14: number = mantreuy_write(card, n, 14336, block, 512, &place); break;
-	case 15: number = mantreuy_snap(card, n, mon, 16, &place); break;
-	case 16: number = mantreuy_revert(card, n, tue, 16, &place); break;
+	case 11: number = mantreuy_ream(card, n, 3, MANTREUY_MOST_VOLUME, fs, sizeof fs, &place); break;
+	case 12: number = mantreuy_read(card, n, 1, tue, sizeof tue, 5, block, sizeof block, &place); break;
+	case 13: number = mantreuy_read(card, n, 1, mon, sizeof mon, 5, block, sizeof block, &place); break;
+	case 14: number = mantreuy_write(card, n, MANTREUY_MOST_VOLUME, block, sizeof block, &place); break;
+	case 15: number = mantreuy_snap(card, n, mon, sizeof mon, &place); break;
+	case 16: number = mantreuy_revert(card, n, tue, sizeof tue, &place); break;
 	case 17: number = mantreuy_list(card, n, records, MANTREUY_RECORD_SIZE, &place); break;
-	case 18: number = mantreuy_check(card, 1023, &place); break;
-	case 19: number = mantreuy_check(card, 1024, &place); break;
+	case 18: number = mantreuy_check(card, 2 * MANTREUY_BLOCK_SIZE - 1, &place); break;
+	case 19: number = mantreuy_check(card, 2 * MANTREUY_BLOCK_SIZE, &place); break;
 	case 20: number = mantreuy_check(card, n, &place); break;
-	case 21: number = mantreuy_check(card, 512 * 2048, &place); break;
+	case 21: number = mantreuy_check(card, MANTREUY_BLOCK_SIZE * 2048, &place); break;
 	default: break;
 	}
 }
@@ -74,18 +74,18 @@ static const struct {
 static void prepare(uint32_t layout)
 {
 	uint32_t n = 0;
-	const size_t length = 512 * (size_t)BLOCKS;
-	n |= mantreuy_ream(card, length, layout, 14336, fs, 16, &place);
-	n |= mantreuy_write(card, length, 5, block, 512, &place);
-	n |= mantreuy_snap(card, length, mon, 16, &place);
-	n |= mantreuy_write(card, length, 5, block, 512, &place);
+	const size_t length = MANTREUY_BLOCK_SIZE * (size_t)BLOCKS;
+	n |= mantreuy_ream(card, length, layout, MANTREUY_MOST_VOLUME, fs, sizeof fs, &place);
+	n |= mantreuy_write(card, length, 5, block, sizeof block, &place);
+	n |= mantreuy_snap(card, length, mon, sizeof mon, &place);
+	n |= mantreuy_write(card, length, 5, block, sizeof block, &place);
 	if (n != 0)
 		abort();
 }
 
 int main(void)
 {
-	card = calloc(BLOCKS, 512);
+	card = calloc(BLOCKS, MANTREUY_BLOCK_SIZE);
 	if (card == NULL || posix_memalign((void **)&stack, 4096, STACK) != 0)
 		return 1;
 	printf("| Call | Layout | Stack, bytes |\n|---|---|---|\n");
@@ -101,7 +101,7 @@ int main(void)
 			prepare(layout);
 			/* the snapshot's first entry that is set: in its first table block, or in Phi */
 			if (which == 13 || which == 20)
-				memset(card + (layout == 1 ? 512 + 4 * 5 : 64), 0xff, 4);
+				memset(card + (layout == 1 ? MANTREUY_BLOCK_SIZE + 4 * 5 : 64), 0xff, 4);
 			memset(stack, 0xa5, STACK);
 			pthread_attr_init(&attributes);
 			if (pthread_attr_setstack(&attributes, stack, STACK) != 0 || pthread_create(&thread, &attributes, work, NULL) != 0)
