@@ -2,25 +2,18 @@
 
 use crate::boundary::Ask;
 use crate::lent::Lent;
-use crate::lists::{random_name, random_shape, unformatted, Maker};
+use crate::lists::{random_name, started, Maker};
 use crate::numbers::{BLOCK, MOST_SNAPSHOTS};
 use crate::pair::Pair;
-use crate::rng::Rng;
 use crate::table::Table;
 
 /// The list of a seed.
 pub fn one(seed: u64, table: &mut Table) -> Result<(), String> {
-    let mut rng = Rng::new(seed);
-    let (shape, big) = random_shape(&mut rng, true);
-    let before = unformatted(&mut rng, shape.blocks);
-    let card = Lent::new(&mut rng, &before, 1_100);
-    let sizes = (shape.layout, shape.volume, shape.blocks);
-    let length = shape.length;
-    let mut pair = Pair::new(card);
-    let mut maker = Maker::new(rng, shape);
+    let (mut pair, mut maker, big) = started(seed, true);
+    let (sizes, length) = (maker.shape.words(), maker.shape.length);
     let named = |k: u64, ask: &Ask, area: usize, reason: String| {
         format!(
-            "layout, volume, blocks {sizes:?}: call {k}, {} on {area} bytes: {reason}",
+            "{sizes}: call {k}, {} on {area} bytes: {reason}",
             ask.words()
         )
     };
@@ -32,9 +25,8 @@ pub fn one(seed: u64, table: &mut Table) -> Result<(), String> {
     };
     for k in 0..length {
         if big && k == early + 1 {
-            fill(&mut maker, &mut pair, table).map_err(|reason| {
-                format!("layout, volume, blocks {sizes:?}: the filling: {reason}")
-            })?;
+            fill(&mut maker, &mut pair, table)
+                .map_err(|reason| format!("{sizes}: the filling: {reason}"))?;
         }
         let first = k == early;
         let ask = match first {

@@ -33,7 +33,7 @@ pub fn one(seed: u64, table: &mut Table) -> Result<(), String> {
         true => wide_shape(&mut rng),
         false => random_shape(&mut rng, false).0,
     };
-    let sizes = (shape.layout, shape.volume, shape.blocks);
+    let (layout, volume, sizes) = (shape.layout, shape.volume, shape.words());
     let length = shape.length;
     let mut card = unformatted(&mut rng, shape.blocks);
     let mut maker = Maker::new(rng, shape);
@@ -65,18 +65,16 @@ pub fn one(seed: u64, table: &mut Table) -> Result<(), String> {
             };
             let ask = maker.make(kind, pair.own.part());
             let (answer, _) = pair.call(area, &ask, table).map_err(|reason| {
-                format!(
-                    "layout, volume, blocks {sizes:?}: round {round}, call {k}, {} on {area} bytes: {reason}",
-                    ask.words()
-                )
+                let words = ask.words();
+                format!("{sizes}: round {round}, call {k}, {words} on {area} bytes: {reason}")
             })?;
             maker.after(&ask, answer.0);
         }
         // The next round takes the good card again.
         maker.names = names;
         maker.hot = hot;
-        maker.shape.layout = sizes.0;
-        maker.shape.volume = sizes.1;
+        maker.shape.layout = layout;
+        maker.shape.volume = volume;
     }
     Ok(())
 }

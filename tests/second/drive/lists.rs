@@ -5,6 +5,7 @@ use crate::call::Kind;
 use crate::declared::RECORD_SIZE;
 use crate::lent::{noise, Lent};
 use crate::numbers::*;
+use crate::pair::Pair;
 use crate::rng::Rng;
 use crate::store::{self, opening_cost, Logical, Name};
 
@@ -21,6 +22,14 @@ pub struct Shape {
     /// How many calls the list has.
     pub length: u64,
     pub snap_weight: u64,
+}
+
+impl Shape {
+    /// In a few words.
+    pub fn words(&self) -> String {
+        let sizes = (self.layout, self.volume, self.blocks);
+        format!("layout, volume, blocks {sizes:?}")
+    }
 }
 
 pub struct Maker {
@@ -426,6 +435,16 @@ impl Maker {
         };
         self.lent(&name)
     }
+}
+
+/// A card that is not yet formatted, on both sides, and the maker of its calls; whether the
+/// card is a large one.
+pub fn started(seed: u64, large: bool) -> (Pair, Maker, bool) {
+    let mut rng = Rng::new(seed);
+    let (shape, big) = random_shape(&mut rng, large);
+    let before = unformatted(&mut rng, shape.blocks);
+    let card = Lent::new(&mut rng, &before, 1_100);
+    (Pair::new(card), Maker::new(rng, shape), big)
 }
 
 /// The sizes of a list for `calls` and `rollback`; `large` says whether large cards come.

@@ -4,8 +4,7 @@
 //! run itself stands beside the own store.
 
 use crate::boundary::{by_library, listed_beta, Ask};
-use crate::lent::Lent;
-use crate::lists::{random_shape, unformatted, Maker};
+use crate::lists::started;
 use crate::numbers::BLOCK;
 use crate::pair::Pair;
 use crate::rng::Rng;
@@ -16,22 +15,16 @@ const MOST_SHORTER: usize = 12;
 
 /// The list of a seed.
 pub fn one(seed: u64, table: &mut Table) -> Result<(), String> {
-    let mut rng = Rng::new(seed);
-    let (shape, _) = random_shape(&mut rng, false);
-    let before = unformatted(&mut rng, shape.blocks);
-    let card = Lent::new(&mut rng, &before, 1_100);
-    let sizes = (shape.layout, shape.volume, shape.blocks);
-    let length = shape.length;
-    let mut pair = Pair::new(card);
+    let (mut pair, mut maker, _) = started(seed, false);
+    let (sizes, length) = (maker.shape.words(), maker.shape.length);
     let area = pair.own.length();
-    let mut maker = Maker::new(rng, shape);
     maker.steady = true;
     let ream = maker.first_ream();
     let (answer, _) = pair
         .call(area, &ream, table)
-        .map_err(|reason| format!("{sizes:?}: the first ream: {reason}"))?;
+        .map_err(|reason| format!("{sizes}: the first ream: {reason}"))?;
     if answer.0 != 0 {
-        return Err(format!("{sizes:?}: the first ream: {answer:?}"));
+        return Err(format!("{sizes}: the first ream: {answer:?}"));
     }
     let mut run = Run {
         start: pair.library.part().to_vec(),
@@ -42,12 +35,9 @@ pub fn one(seed: u64, table: &mut Table) -> Result<(), String> {
     };
     for k in 0..length {
         let ask = maker.next(run.pair.own.part());
-        let number = run.step(&ask, &mut maker.rng, table).map_err(|reason| {
-            format!(
-                "layout, volume, blocks {sizes:?}: call {k}, {}: {reason}",
-                ask.words()
-            )
-        })?;
+        let number = run
+            .step(&ask, &mut maker.rng, table)
+            .map_err(|reason| format!("{sizes}: call {k}, {}: {reason}", ask.words()))?;
         maker.after(&ask, number);
         run.calls.push(ask);
     }
