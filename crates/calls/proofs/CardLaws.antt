@@ -133,6 +133,9 @@ module _ (c : List ℕ) (r : Regions) (is : r ≡ regionsOf (chain c)) where
         ∙ ap (λ (n : ℕ). getD ds (n - 1) noDescriptor) (sym card-count)
         ∙ card-at (r .count - 1) (omega (arith, card-some))
 
+    pub card-active-through : Through c (r .starts) (r .count) (r .active)
+    card-active-through = card-through (r .count - 1) (omega (arith, card-some)) (r .active) card-active
+
     pub card-snapshots : descriptorsAt c (take (r .count - 1) (r .starts)) ≡ snapshotsOf ds
     card-snapshots =
         rw (regions-are .2, card-count)

@@ -26,7 +26,7 @@ use Rattle.calls.specs.Check.{orElse, checkAll, checkCard, isFault, faul
 use Rattle.calls.specs.Ladder.{admission, firstRow, checkRows}
 use Rattle.calls.specs.Meaning.{rowsOf, answerOf}
 use Rattle.calls.proofs.CardLaws.{card-few, card-some, card-count, card-at, card-active, card-through}
-use Rattle.calls.proofs.RowLaws.{admitted, row-given, last-passed, admitted, chain-given, chain-passed}
+use Rattle.calls.proofs.RowLaws.{admitted, row-given, last-passed, admitted, chain-given, Reached, reached}
 use Rattle.calls.specs.declared.answer.Answer.{Answer}
 
 -- the walk over a descriptor and those after it: its verdict is the definition's where that is so of both parts
@@ -123,15 +123,15 @@ module _ (c : List ℕ) (a : Answer) (asked : a ≡ firstRow (admission c)) (car
   unfolding answerOf rowsOf checkRows
   check-6 h = admitted c a asked _ card ∙ chain-given _ c r walked h
 
-  module _ (whole : not (r .sound) ≡ false) (v : Verdict) (verdict : v ≡ checkCard c) where
-    to-fault : answerOf Check c ≡ firstRow (drop 1 (checkRows c))
-    unfolding answerOf rowsOf checkRows
-    to-fault = admitted c a asked _ card ∙ chain-passed _ c r walked whole
+  pub check-reached : not (r .sound) ≡ false → Reached Check c (drop 1 (checkRows c)) r
+  unfolding answerOf rowsOf checkRows
+  check-reached whole = reached Check c _ a asked card r walked whole (admitted c a asked _ card)
 
-    pub check-0 : v ≡ Passed → answerOf Check c ≡ accepted
-    unfolding checkRows isFault
-    check-0 e = to-fault ∙ last-passed _ (rw (← verdict, e))
+module _ (c : List ℕ) (r : Regions) (h : Reached Check c (drop 1 (checkRows c)) r) (v : Verdict) (verdict : v ≡ checkCard c) where
+  pub check-0 : v ≡ Passed → answerOf Check c ≡ accepted
+  unfolding checkRows isFault
+  check-0 e = h .rest ∙ last-passed _ (rw (← verdict, e))
 
-    pub check-10 : (h : Physical) → v ≡ Fault h → answerOf Check c ≡ answer 10 (h .0)
-    unfolding checkRows isFault faultHolder
-    check-10 h e = to-fault ∙ rw (← verdict, e) (row-given _ _ refl)
+  pub check-10 : (p : Physical) → v ≡ Fault p → answerOf Check c ≡ answer 10 (p .0)
+  unfolding checkRows isFault faultHolder
+  check-10 p e = h .rest ∙ rw (← verdict, e) (row-given _ _ refl)

@@ -6,7 +6,7 @@ use Prim.Native.Nat.{ℕ, _+_, _-_, _≤_, _<_}
 use native.Mathlib.Omega.{arith}
 use lib.ListN.{length, take, drop, getD}
 use lib.Dec.{eqb}
-use borrow.Author.Tests.{eq-eqb, ne-eqb, lt-ltb, le-ltb, eqb-true, eqb-false, not-false}
+use borrow.Author.Tests.{eq-eqb, ne-eqb, lt-ltb, le-ltb, eqb-true, eqb-false}
 use Rattle.blocks.specs.Pick.{pick}
 use Rattle.blocks.specs.Bytes.{blockCount, blockAt, zeroBlock, splice, storeAll}
 use Rattle.blocks.specs.Name.{isName}
@@ -33,7 +33,7 @@ use Rattle.calls.specs.Meaning.{rowsOf, answerOf, lentOf, filledOf, stor
 use Rattle.calls.specs.Step.{Done, step, done}
 use Rattle.calls.proofs.StepLaws.{step-refused, step-accepted}
 use Rattle.calls.proofs.CardLaws.{card-some, card-snapshots, card-snapshot-count, card-snapshot, card-found, card-active, card-through}
-use Rattle.calls.proofs.RowLaws.{admitted, admitted-card, row-given, row-passed, admitted, block-given, block-passed, chain-given, chain-passed, volume-given, volume-passed}
+use Rattle.calls.proofs.RowLaws.{admitted, row-given, row-passed, admitted, block-given, block-passed, chain-given, volume-given, volume-passed, Reached, reached}
 
 -- the index of what is read
 module _ (ss : List Descriptor) (name : List ℕ) (n : ℕ) (counted : length ss ≡ n) where
@@ -113,92 +113,97 @@ module _ (c : List ℕ) (target : Target) (name : List ℕ) (l : ℕ) (block : L
       unfolding readRows
       read-6 h = to-chain ∙ chain-given _ c r walked h
 
-      module _ (whole : not (r .sound) ≡ false) (k : ℕ) (index : k ≡ targetIndex (descriptorsAt c (take (r .count - 1) (r .starts))) target name) where
-        abbrev ds : List Descriptor
-        ds = descriptors (chain c)
+      pub read-reached : not (r .sound) ≡ false → Reached call c (drop 3 (readRows c target name l block)) r
+      unfolding readRows
+      read-reached whole = reached call c _ a asked card r walked whole to-chain
 
-        good : areaBad c ≡ false
-        good = admitted-card c a asked card
+-- the rows that follow that of the chain
+module _ (c : List ℕ) (target : Target) (name : List ℕ) (l : ℕ) (block : List ℕ) (r : Regions) (h : Reached (Read target name l block) c (drop 3 (readRows c target name l block)) r) where
+  walked : r ≡ regionsOf (chain c)
+  walked = h .walked
 
-        ok : r .sound ≡ true
-        ok = not-false (r .sound) whole
+  good : areaBad c ≡ false
+  good = h .area
 
-        index-is : k ≡ targetIndex (snapshotsOf ds) target name
-        index-is = index ∙ ap (λ (ss : List Descriptor). targetIndex ss target name) (card-snapshots c r walked good ok)
+  ok : r .sound ≡ true
+  ok = h .sound
 
-        count-is : length (snapshotsOf ds) + 1 ≡ r .count
-        count-is = omega (arith, card-snapshot-count c r walked good ok, card-some c r walked good ok)
+  module _ (k : ℕ) (index : k ≡ targetIndex (descriptorsAt c (take (r .count - 1) (r .starts))) target name) where
+    abbrev ds : List Descriptor
+    ds = descriptors (chain c)
 
-        missing : (isSnapshot target && not (named (snapshotsOf ds) name)) ≡ eqb k (r .count)
-        missing = missing-is (snapshotsOf ds) name target ∙ rw (← index-is, count-is)
+    index-is : k ≡ targetIndex (snapshotsOf ds) target name
+    index-is = index ∙ ap (λ (ss : List Descriptor). targetIndex ss target name) (card-snapshots c r walked good ok)
 
-        to-snapshot : answerOf call c ≡ firstRow (drop 3 (readRows c target name l block))
+    count-is : length (snapshotsOf ds) + 1 ≡ r .count
+    count-is = omega (arith, card-snapshot-count c r walked good ok, card-some c r walked good ok)
+
+    missing : (isSnapshot target && not (named (snapshotsOf ds) name)) ≡ eqb k (r .count)
+    missing = missing-is (snapshotsOf ds) name target ∙ rw (← index-is, count-is)
+
+    pub read-7 : k ≡ r .count → answerOf (Read target name l block) c ≡ answer 7 0
+    unfolding readRows
+    read-7 e = h .rest ∙ row-given _ _ (missing ∙ eq-eqb k (r .count) e)
+
+    -- which descriptor is read
+    place-of : (t : Target) → k ≡ targetIndex (snapshotsOf ds) t name → (k ≡ r .count → ⊥) → (k < r .count) × (targetOf ds t name ≡ descriptorAt c (getD (r .starts) k 0))
+    unfolding targetOf targetIndex
+    place-of Active e n =
+        let q : k ≡ r .count - 1 = omega (arith, card-snapshot-count c r walked good ok) in
+        (omega (arith, card-some c r walked good ok), rw q (sym (card-found c r walked good ok) ∙ card-active c r walked good ok))
+    place-of Snapshot e n =
+        let f = found-index (snapshotsOf ds) name (λ h. n (e ∙ h ∙ count-is)) in
+        let q : k ≡ indexOf (snapshotsOf ds) name = e ∙ f .1 in
+        let s : k < r .count - 1 = omega (arith, f .0, card-snapshot-count c r walked good ok) in
+        (omega arith, rw (← q) (card-snapshot c r walked good ok k s))
+
+    pub index-inside : (k ≡ r .count → ⊥) → k < r .count
+    index-inside n = place-of target index-is n .0
+
+    module _ (some : k ≡ r .count → ⊥) where
+      to-volume : answerOf (Read target name l block) c ≡ firstRow (drop 4 (readRows c target name l block))
+      unfolding readRows
+      to-volume = h .rest ∙ row-passed _ _ (missing ∙ ne-eqb k (r .count) some)
+
+      pub read-8 : r .active .volume ≤ l → answerOf (Read target name l block) c ≡ answer 8 0
+      unfolding readRows
+      read-8 e = to-volume ∙ volume-given _ c r walked good ok l e
+
+      module _ (below : l < r .active .volume) (d : Descriptor) (d-is : d ≡ descriptorAt c (getD (r .starts) k 0)) where
+        target-is : targetOf ds target name ≡ d
+        target-is = place-of target index-is some .1 ∙ sym d-is
+
+        pub read-below : l < d .volume
+        read-below =
+            let one = through-region c (r .starts) (r .count) d (card-through c r walked good ok k (index-inside some) d d-is) in
+            let other = through-region c (r .starts) (r .count) (r .active) (card-through c r walked good ok (r .count - 1) (omega (arith, card-some c r walked good ok)) (r .active) (card-active c r walked good ok)) in
+            omega (arith, region-volume (descriptorAt c 0) (blockCount c) _ d (one .region), region-volume (descriptorAt c 0) (blockCount c) _ (r .active) (other .region))
+
+        abbrev found : Found
+        found = find c ds d l
+
+        to-found : answerOf (Read target name l block) c ≡ firstRow (drop 5 (readRows c target name l block))
         unfolding readRows
-        to-snapshot = to-chain ∙ chain-passed _ c r walked whole
+        to-found = to-volume ∙ volume-passed _ c r walked good ok l below
 
-        pub read-7 : k ≡ r .count → answerOf call c ≡ answer 7 0
-        unfolding readRows
-        read-7 e = to-snapshot ∙ row-given _ _ (missing ∙ eq-eqb k (r .count) e)
+        rest : answerOf (Read target name l block) c ≡ pick (isMisplaced found) (answer 10 (holderOf found)) accepted
+        unfolding readRows firstRow
+        rest = to-found ∙ rw target-is
 
-        -- which descriptor is read
-        place-of : (t : Target) → k ≡ targetIndex (snapshotsOf ds) t name → (k ≡ r .count → ⊥) → (k < r .count) × (targetOf ds t name ≡ descriptorAt c (getD (r .starts) k 0))
-        unfolding targetOf targetIndex
-        place-of Active e n =
-            let q : k ≡ r .count - 1 = omega (arith, card-snapshot-count c r walked good ok) in
-            (omega (arith, card-some c r walked good ok), rw q (sym (card-found c r walked good ok) ∙ card-active c r walked good ok))
-        place-of Snapshot e n =
-            let f = found-index (snapshotsOf ds) name (λ h. n (e ∙ h ∙ count-is)) in
-            let q : k ≡ indexOf (snapshotsOf ds) name = e ∙ f .1 in
-            let s : k < r .count - 1 = omega (arith, f .0, card-snapshot-count c r walked good ok) in
-            (omega arith, rw (← q) (card-snapshot c r walked good ok k s))
+        done-by : (t : Bool) → isMisplaced found ≡ t → (a : Answer) (out : List ℕ)
+            → _≡_ {A = Delivered} (record { answer = a; block = out }) (pick t (record { answer = answer 10 (holderOf found); block = block }) (record { answer = accepted; block = blockFound c found }))
+            → _≡_ {A = Done} (done a (Block out) c) (step (Read target name l block) c)
+        unfolding lentOf filledOf storesOf givenOf storeAll
+        done-by true e a out h =
+            let a-is : a ≡ answer 10 (holderOf found) = ap (λ (x : Delivered). x .answer) h in
+            let out-is : out ≡ block = ap (λ (x : Delivered). x .block) h in
+            rw (a-is, out-is) (step-refused (Read target name l block) c 10 (holderOf found) (rest ∙ rw e) refl)
+        done-by false e a out h =
+            let a-is : a ≡ accepted = ap (λ (x : Delivered). x .answer) h in
+            let out-is : out ≡ blockFound c found = ap (λ (x : Delivered). x .block) h in
+            rw (a-is, out-is) (step-accepted (Read target name l block) c (rest ∙ rw e) (Block (blockFound c found)) (rw target-is) c refl refl)
 
-        pub index-inside : (k ≡ r .count → ⊥) → k < r .count
-        index-inside n = place-of target index-is n .0
-
-        module _ (some : k ≡ r .count → ⊥) where
-          to-volume : answerOf call c ≡ firstRow (drop 4 (readRows c target name l block))
-          unfolding readRows
-          to-volume = to-snapshot ∙ row-passed _ _ (missing ∙ ne-eqb k (r .count) some)
-
-          pub read-8 : r .active .volume ≤ l → answerOf call c ≡ answer 8 0
-          unfolding readRows
-          read-8 h = to-volume ∙ volume-given _ c r walked good ok l h
-
-          module _ (below : l < r .active .volume) (d : Descriptor) (d-is : d ≡ descriptorAt c (getD (r .starts) k 0)) where
-            target-is : targetOf ds target name ≡ d
-            target-is = place-of target index-is some .1 ∙ sym d-is
-
-            pub read-below : l < d .volume
-            read-below =
-                let one = through-region c (r .starts) (r .count) d (card-through c r walked good ok k (index-inside some) d d-is) in
-                let other = through-region c (r .starts) (r .count) (r .active) (card-through c r walked good ok (r .count - 1) (omega (arith, card-some c r walked good ok)) (r .active) (card-active c r walked good ok)) in
-                omega (arith, region-volume (descriptorAt c 0) (blockCount c) _ d (one .region), region-volume (descriptorAt c 0) (blockCount c) _ (r .active) (other .region))
-
-            abbrev found : Found
-            found = find c ds d l
-
-            to-found : answerOf call c ≡ firstRow (drop 5 (readRows c target name l block))
-            unfolding readRows
-            to-found = to-volume ∙ volume-passed _ c r walked good ok l below
-
-            rest : answerOf call c ≡ pick (isMisplaced found) (answer 10 (holderOf found)) accepted
-            unfolding readRows firstRow
-            rest = to-found ∙ rw target-is
-
-            done-by : (t : Bool) → isMisplaced found ≡ t → (a : Answer) (out : List ℕ)
-                → _≡_ {A = Delivered} (record { answer = a; block = out }) (pick t (record { answer = answer 10 (holderOf found); block = block }) (record { answer = accepted; block = blockFound c found }))
-                → _≡_ {A = Done} (done a (Block out) c) (step call c)
-            unfolding lentOf filledOf storesOf givenOf storeAll
-            done-by true e a out h =
-                let a-is : a ≡ answer 10 (holderOf found) = ap (λ (x : Delivered). x .answer) h in
-                let out-is : out ≡ block = ap (λ (x : Delivered). x .block) h in
-                rw (a-is, out-is) (step-refused call c 10 (holderOf found) (rest ∙ rw e) refl)
-            done-by false e a out h =
-                let a-is : a ≡ accepted = ap (λ (x : Delivered). x .answer) h in
-                let out-is : out ≡ blockFound c found = ap (λ (x : Delivered). x .block) h in
-                rw (a-is, out-is) (step-accepted call c (rest ∙ rw e) (Block (blockFound c found)) (rw target-is) c refl refl)
-
-            pub read-done : (a : Answer) (out : List ℕ) → _≡_ {A = Delivered} (record { answer = a; block = out }) (delivered c found block)
-                → _≡_ {A = Done} (done a (Block out) c) (step call c)
-            unfolding delivered
-            read-done a out h = done-by (isMisplaced found) refl a out h
+        pub read-done : (a : Answer) (out : List ℕ) → _≡_ {A = Delivered} (record { answer = a; block = out }) (delivered c found block)
+            → _≡_ {A = Done} (done a (Block out) c) (step (Read target name l block) c)
+        unfolding delivered
+        read-done a out h = done-by (isMisplaced found) refl a out h

@@ -6,7 +6,7 @@ use Prim.Native.Nat.{ℕ, _-_, _<_}
 use native.Mathlib.Omega.{arith}
 use lib.ListN.{take, drop, getD}
 use lib.Dec.{ltb}
-use borrow.Author.Tests.{lt-ltb, le-ltb, not-false}
+use borrow.Author.Tests.{lt-ltb, le-ltb}
 use Rattle.blocks.specs.Bytes.{storeBlock, storeAll}
 use Rattle.blocks.specs.Name.{isName}
 use Rattle.blocks.specs.Descriptor.{physical, descriptorAt, tailAt, descriptorBlock, renamedOf, linkedOf}
@@ -20,17 +20,25 @@ use Rattle.calls.specs.Effect.{reverting, revertStores}
 use Rattle.calls.specs.Meaning.{rowsOf, answerOf, storesOf}
 use Rattle.calls.proofs.StepLaws.{stored-one}
 use Rattle.calls.proofs.CardLaws.{card-snapshots, card-snapshot-count, card-snapshot, card-alpha, card-at, card-found}
-use Rattle.calls.proofs.RowLaws.{admitted-card, row-given, last-passed, named-passed}
+use Rattle.calls.proofs.RowLaws.{row-given, last-passed, Reached, reached, admitted, name-passed}
 use Rattle.calls.specs.declared.answer.Answer.{Answer}
 
 -- the row of a revert that follows the chain's, in the order of the code
-module _ (c : List ℕ) (name : List ℕ) (a : Answer) (asked : a ≡ firstRow (admission c)) (card : a .number ≡ 0) (n : Bool) (called : n ≡ isName name) (is-name : not n ≡ false)
-    (r : Regions) (walked : r ≡ regionsOf (chain c)) (whole : not (r .sound) ≡ false) (k : ℕ) (index : k ≡ indexOf (descriptorsAt c (take (r .count - 1) (r .starts))) name) where
+pub revert-reached : (c name : List ℕ) (a : Answer) → a ≡ firstRow (admission c) → a .number ≡ 0 → (n : Bool) → n ≡ isName name → not n ≡ false → (r : Regions) → r ≡ regionsOf (chain c)
+    → not (r .sound) ≡ false → Reached (Revert name) c (drop 2 (revertRows c name)) r
+unfolding answerOf rowsOf revertRows
+revert-reached c name a asked card n called is-name r walked whole =
+    reached (Revert name) c _ a asked card r walked whole (admitted c a asked _ card ∙ name-passed _ name n called is-name)
+
+module _ (c : List ℕ) (name : List ℕ) (r : Regions) (h : Reached (Revert name) c (drop 2 (revertRows c name)) r) (k : ℕ) (index : k ≡ indexOf (descriptorsAt c (take (r .count - 1) (r .starts))) name) where
+  walked : r ≡ regionsOf (chain c)
+  walked = h .walked
+
   good : areaBad c ≡ false
-  good = admitted-card c a asked card
+  good = h .area
 
   ok : r .sound ≡ true
-  ok = not-false (r .sound) whole
+  ok = h .sound
 
   index-is : k ≡ indexOf (snapshotsOf (descriptors (chain c))) name
   index-is = index ∙ ap (λ (ds : List Descriptor). indexOf ds name) (card-snapshots c r walked good ok)
@@ -39,18 +47,14 @@ module _ (c : List ℕ) (name : List ℕ) (a : Answer) (asked : a ≡ firstRow (
   unfolding named
   found-is = rw (← index-is, card-snapshot-count c r walked good ok)
 
-  to-found : answerOf (Revert name) c ≡ firstRow (drop 2 (revertRows c name))
-  unfolding answerOf rowsOf revertRows
-  to-found = named-passed _ c name a asked card n called is-name r walked whole
-
   pub revert-7 : k ≡ r .count - 1 → answerOf (Revert name) c ≡ answer 7 0
   unfolding revertRows
-  revert-7 e = to-found ∙ row-given _ _ (rw (found-is, le-ltb k (r .count - 1) (omega arith)))
+  revert-7 e = h .rest ∙ row-given _ _ (rw (found-is, le-ltb k (r .count - 1) (omega arith)))
 
   module _ (inside : k < r .count - 1) where
     pub revert-0 : answerOf (Revert name) c ≡ accepted
     unfolding revertRows
-    revert-0 = to-found ∙ last-passed _ (rw (found-is, lt-ltb k (r .count - 1) inside))
+    revert-0 = h .rest ∙ last-passed _ (rw (found-is, lt-ltb k (r .count - 1) inside))
 
     -- the snapshot, and where it stands
     snapshot-is : withName (snapshotsOf (descriptors (chain c))) name ≡ descriptorAt c (getD (r .starts) k 0)

@@ -266,3 +266,15 @@ module _ (rs : List Row) (c : List ℕ) (name : List ℕ) (a : Answer) (asked : 
 
     pub named-passed : not (r .sound) ≡ false → firstRow (admission c ++ (nameRow name ∷ chainRow c ∷ rs)) ≡ firstRow rs
     named-passed h = to-chain ∙ chain-passed _ c r walked h
+
+-- a call that has passed all rows before rs, that of the chain among them: r is what the walk found
+pub record Reached (k : Call) (c : List ℕ) (rs : List Row) (r : Regions) : Type 0 where
+  pub rest : answerOf k c ≡ firstRow rs
+  pub area : areaBad c ≡ false
+  pub walked : r ≡ regionsOf (chain c)
+  pub sound : r .sound ≡ true
+
+pub reached : (k : Call) (c : List ℕ) (rs : List Row) (a : Answer) → a ≡ firstRow (admission c) → a .number ≡ 0 → (r : Regions) → r ≡ regionsOf (chain c) → not (r .sound) ≡ false
+    → answerOf k c ≡ firstRow (chainRow c ∷ rs) → Reached k c rs r
+reached k c rs a asked card r walked whole to-chain =
+    record { rest = to-chain ∙ chain-passed rs c r walked whole; area = admitted-card c a asked card; walked = walked; sound = not-false (r .sound) whole }

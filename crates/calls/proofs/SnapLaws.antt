@@ -6,7 +6,7 @@ use Prim.Native.Nat.{ℕ, zero, suc, _+_, _*_, _-_, _/_, _≤_, _<_}
 use native.Mathlib.Numerals.{add-one}
 use native.Mathlib.Omega.{arith}
 use lib.ListN.{length, take, drop}
-use borrow.Author.Tests.{lt-ltb, le-ltb, le-leb, lt-leb, not-false}
+use borrow.Author.Tests.{lt-ltb, le-ltb, le-leb, lt-leb}
 use Rattle.blocks.specs.Bytes.{Store, store, part, blockCount, blockAt, storeBlock, storeAll}
 use Rattle.blocks.specs.Name.{isName}
 use Rattle.blocks.specs.Descriptor.{costOf, tailAt, descriptorBlock, renamedOf, linkedOf, reopenedOf, copying}
@@ -22,7 +22,7 @@ use Rattle.calls.specs.Effect.{snapping, snapStores}
 use Rattle.calls.specs.Meaning.{rowsOf, answerOf, storesOf}
 use Rattle.calls.proofs.StepLaws.{stored-append, stored-one}
 use Rattle.calls.proofs.CardLaws.{card-some, card-all, card-snapshot-count, card-found}
-use Rattle.calls.proofs.RowLaws.{admitted-card, row-given, row-passed, last-passed, named-passed}
+use Rattle.calls.proofs.RowLaws.{row-given, row-passed, last-passed, Reached, reached, admitted, name-passed}
 use Rattle.calls.specs.declared.answer.Answer.{Answer}
 
 -- copies of blocks that stand before where they go
@@ -114,29 +114,33 @@ module _ (c c₁ : List ℕ) (d : Descriptor) (k : ℕ) (some : 1 ≤ k) (below 
       (ap (descriptorBlock e) (ap (λ (y : List ℕ). tailAt y (d .alpha .0)) q ∙ tail-second o o-is n)) copied q s
 
 -- the rows of a snap that follow the chain's, in the order of the code
-module _ (c : List ℕ) (name : List ℕ) (a : Answer) (asked : a ≡ firstRow (admission c)) (card : a .number ≡ 0) (n : Bool) (called : n ≡ isName name) (is-name : not n ≡ false)
-    (r : Regions) (walked : r ≡ regionsOf (chain c)) (whole : not (r .sound) ≡ false) (u : Bool) (used : u ≡ named (descriptorsAt c (take (r .count) (r .starts))) name) where
+pub snap-reached : (c name : List ℕ) (a : Answer) → a ≡ firstRow (admission c) → a .number ≡ 0 → (n : Bool) → n ≡ isName name → not n ≡ false → (r : Regions) → r ≡ regionsOf (chain c)
+    → not (r .sound) ≡ false → Reached (Snap name) c (drop 2 (snapRows c name)) r
+unfolding answerOf rowsOf snapRows
+snap-reached c name a asked card n called is-name r walked whole =
+    reached (Snap name) c _ a asked card r walked whole (admitted c a asked _ card ∙ name-passed _ name n called is-name)
+
+module _ (c : List ℕ) (name : List ℕ) (r : Regions) (h : Reached (Snap name) c (drop 2 (snapRows c name)) r) (u : Bool) (used : u ≡ named (descriptorsAt c (take (r .count) (r .starts))) name) where
+  walked : r ≡ regionsOf (chain c)
+  walked = h .walked
+
   good : areaBad c ≡ false
-  good = admitted-card c a asked card
+  good = h .area
 
   ok : r .sound ≡ true
-  ok = not-false (r .sound) whole
+  ok = h .sound
 
   used-is : named (descriptors (chain c)) name ≡ u
   used-is = ap (λ (ds : List Descriptor). named ds name) (sym (card-all c r walked good ok)) ∙ sym used
 
-  to-name : answerOf (Snap name) c ≡ firstRow (drop 2 (snapRows c name))
-  unfolding answerOf rowsOf snapRows
-  to-name = named-passed _ c name a asked card n called is-name r walked whole
-
   pub snap-12 : u ≡ true → answerOf (Snap name) c ≡ answer 12 0
   unfolding snapRows
-  snap-12 e = to-name ∙ row-given _ _ (used-is ∙ e)
+  snap-12 e = h .rest ∙ row-given _ _ (used-is ∙ e)
 
   module _ (unused : u ≡ false) where
     to-count : answerOf (Snap name) c ≡ firstRow (drop 3 (snapRows c name))
     unfolding snapRows
-    to-count = to-name ∙ row-passed _ _ (used-is ∙ unused)
+    to-count = h .rest ∙ row-passed _ _ (used-is ∙ unused)
 
     pub snap-13 : 255 < r .count → answerOf (Snap name) c ≡ answer 13 0
     unfolding snapRows

@@ -6,7 +6,7 @@ use Prim.Native.Nat.{ℕ, _+_, _*_, _-_, _/_, _≤_, _<_}
 use native.Mathlib.Omega.{arith}
 use lib.ListN.{length, drop}
 use lib.Dec.{eqb, ltb, leb}
-use borrow.Author.Tests.{eq-eqb, ne-eqb, lt-ltb, le-ltb, eqb-false, not-false}
+use borrow.Author.Tests.{eq-eqb, ne-eqb, lt-ltb, le-ltb, eqb-false}
 use Rattle.blocks.specs.Pick.{pick}
 use Rattle.blocks.specs.Bytes.{blockCount, blockAt, storeBlock, storeAll}
 use Rattle.blocks.specs.Descriptor.{tailAt}
@@ -31,7 +31,7 @@ use Rattle.calls.specs.Meaning.{rowsOf, answerOf, lentOf, filledOf, stor
 use Rattle.calls.specs.Step.{Done, step, done}
 use Rattle.calls.proofs.StepLaws.{step-refused, step-accepted}
 use Rattle.calls.proofs.CardLaws.{card-some, card-found, card-active, card-through, card-small}
-use Rattle.calls.proofs.RowLaws.{admitted, admitted-card, admitted, block-given, block-passed, chain-given, chain-passed, volume-given, volume-passed}
+use Rattle.calls.proofs.RowLaws.{admitted, admitted, block-given, block-passed, chain-given, volume-given, volume-passed, Reached, reached}
 
 -- need, where a set entry is not overwritten, says whether the table block is new
 new-by : (s t : Bool) (n : ℕ) → n ≡ pick s 0 (pick t 2 1) → (n ≡ 0 → ⊥) → t ≡ eqb n 2
@@ -108,6 +108,20 @@ module _ (c : List ℕ) (d : Descriptor) (m p : Physical) (l : ℕ) (block : Lis
           ∙ ap (storeAll (storeBlock c (d .beta .0) block)) kept
           ∙ rw (← need-is, ne-eqb n 0 some, need-new (d .alpha .0) n m p need-is some, ne-eqb n 2 z))
 
+-- what a write through an entry must know, of a descriptor of a sound chain
+pub write-ready : (c starts : List ℕ) (count : ℕ) (d : Descriptor) (t : Through c starts count d) (l : ℕ) (block : List ℕ) → length block ≡ 512 → l < d .volume
+    → (f : Found) → f ≡ find c (descriptors (chain c)) d l → (m p : Physical) → f ≡ Entry m p → WriteReady c d (m .0) (p .0) l block
+write-ready c starts count d t l block long below f found-is m p e =
+    record {
+      small = t .small;
+      region = omega (arith, through-beta c starts count d t, cost-least (d .layout) (d .volume));
+      upto = through-end c starts count d t;
+      table = found-table c starts count d t l below f found-is m p e;
+      entry = found-entry c starts count d t l f found-is m p e;
+      number = omega (arith, through-volume c starts count d t);
+      whole = long;
+    }
+
 -- the rows of a write that follow admission, in the order of the code
 module _ (c : List ℕ) (l : ℕ) (block : List ℕ) (a : Answer) (asked : a ≡ firstRow (admission c)) (card : a .number ≡ 0) where
   abbrev call : Call
@@ -126,72 +140,61 @@ module _ (c : List ℕ) (l : ℕ) (block : List ℕ) (a : Answer) (asked : a ≡
     unfolding writeRows
     write-6 h = to-chain ∙ chain-given _ c r walked h
 
-    module _ (whole : not (r .sound) ≡ false) where
-      abbrev d : Descriptor
-      d = r .active
+    pub write-reached : not (r .sound) ≡ false → Reached call c (drop 2 (writeRows c l block)) r
+    unfolding writeRows
+    write-reached whole = reached call c _ a asked card r walked whole to-chain
 
-      abbrev ds : List Descriptor
-      ds = descriptors (chain c)
+-- the rows that follow that of the chain
+module _ (c : List ℕ) (l : ℕ) (block : List ℕ) (r : Regions) (h : Reached (Write l block) c (drop 2 (writeRows c l block)) r) where
+  walked : r ≡ regionsOf (chain c)
+  walked = h .walked
 
-      good : areaBad c ≡ false
-      good = admitted-card c a asked card
+  good : areaBad c ≡ false
+  good = h .area
 
-      ok : r .sound ≡ true
-      ok = not-false (r .sound) whole
+  ok : r .sound ≡ true
+  ok = h .sound
 
-      active-is : activeOf ds ≡ d
-      active-is = sym (card-found c r walked good ok)
+  abbrev d : Descriptor
+  d = r .active
 
-      pub write-through : Through c (r .starts) (r .count) d
-      write-through = card-through c r walked good ok (r .count - 1) (omega (arith, card-some c r walked good ok)) d (card-active c r walked good ok)
+  abbrev ds : List Descriptor
+  ds = descriptors (chain c)
 
-      to-volume : answerOf call c ≡ firstRow (drop 2 (writeRows c l block))
-      unfolding writeRows
-      to-volume = to-chain ∙ chain-passed _ c r walked whole
+  active-is : activeOf ds ≡ d
+  active-is = sym (card-found c r walked good ok)
 
-      pub write-8 : d .volume ≤ l → answerOf call c ≡ answer 8 0
-      unfolding writeRows
-      write-8 h = to-volume ∙ volume-given _ c r walked good ok l h
+  pub write-8 : d .volume ≤ l → answerOf (Write l block) c ≡ answer 8 0
+  unfolding writeRows
+  write-8 e = h .rest ∙ volume-given _ c r walked good ok l e
 
-      module _ (below : l < d .volume) (f : Found) (found-is : f ≡ find c ds d l) where
-        to-found : answerOf call c ≡ firstRow (drop 3 (writeRows c l block))
-        unfolding writeRows
-        to-found = to-volume ∙ volume-passed _ c r walked good ok l below
+  module _ (below : l < d .volume) (f : Found) (found-is : f ≡ find c ds d l) where
+    to-found : answerOf (Write l block) c ≡ firstRow (drop 3 (writeRows c l block))
+    unfolding writeRows
+    to-found = h .rest ∙ volume-passed _ c r walked good ok l below
 
-        rest : answerOf call c ≡ pick (isMisplaced f) (answer 10 (holderOf f)) (pick (ltb (blockCount c) (d .beta .0 + need (d .alpha .0) f)) (answer 11 0) accepted)
-        unfolding writeRows firstRow
-        rest = to-found ∙ rw (active-is, found-is)
+    rest : answerOf (Write l block) c ≡ pick (isMisplaced f) (answer 10 (holderOf f)) (pick (ltb (blockCount c) (d .beta .0 + need (d .alpha .0) f)) (answer 11 0) accepted)
+    unfolding writeRows firstRow
+    rest = to-found ∙ rw (active-is, found-is)
 
-        pub write-10 : (h : Physical) → f ≡ Misplaced h → answerOf call c ≡ answer 10 (h .0)
-        unfolding isMisplaced holderOf
-        write-10 h e = rest ∙ rw e
+    pub write-10 : (h : Physical) → f ≡ Misplaced h → answerOf (Write l block) c ≡ answer 10 (h .0)
+    unfolding isMisplaced holderOf
+    write-10 h e = rest ∙ rw e
 
-        pub write-ready : (m p : Physical) → f ≡ Entry m p → WriteReady c d (m .0) (p .0) l block
-        write-ready m p e =
-            record {
-              small = card-small c good;
-              region = omega (arith, through-beta c (r .starts) (r .count) d write-through, cost-least (d .layout) (d .volume));
-              upto = through-end c (r .starts) (r .count) d write-through;
-              table = found-table c (r .starts) (r .count) d write-through l below f found-is m p e;
-              entry = found-entry c (r .starts) (r .count) d write-through l f found-is m p e;
-              number = omega (arith, through-volume c (r .starts) (r .count) d write-through);
-              whole = long;
-            }
+    done-by : (t : Bool) → ltb (blockCount c) (d .beta .0 + need (d .alpha .0) f) ≡ t → isMisplaced f ≡ false → (a : Answer) (c′ : List ℕ)
+        → _≡_ {A = Written} (record { answer = a; card = c′ }) (pick t (record { answer = answer 11 0; card = c }) (record { answer = accepted; card = storeAll c (writing c d f l block) }))
+        → _≡_ {A = Done} (done a (Block block) c′) (step (Write l block) c)
+    unfolding lentOf filledOf storesOf givenOf writeStores
+    done-by true e g a c′ h =
+        let a-is : a ≡ answer 11 0 = ap (λ (x : Written). x .answer) h in
+        let c-is : c′ ≡ c = ap (λ (x : Written). x .card) h in
+        rw (a-is, c-is) (step-refused (Write l block) c 11 0 (rest ∙ rw (g, e)) refl)
+    done-by false e g a c′ h =
+        let a-is : a ≡ accepted = ap (λ (x : Written). x .answer) h in
+        let c-is : c′ ≡ storeAll c (writing c d f l block) = ap (λ (x : Written). x .card) h in
+        rw a-is (step-accepted (Write l block) c (rest ∙ rw (g, e)) (Block block) refl c′ (c-is ∙ rw (active-is, found-is)) refl)
 
-        done-by : (t : Bool) → ltb (blockCount c) (d .beta .0 + need (d .alpha .0) f) ≡ t → isMisplaced f ≡ false → (a : Answer) (c′ : List ℕ)
-            → _≡_ {A = Written} (record { answer = a; card = c′ }) (pick t (record { answer = answer 11 0; card = c }) (record { answer = accepted; card = storeAll c (writing c d f l block) }))
-            → _≡_ {A = Done} (done a (Block block) c′) (step call c)
-        unfolding lentOf filledOf storesOf givenOf writeStores
-        done-by true e g a c′ h =
-            let a-is : a ≡ answer 11 0 = ap (λ (x : Written). x .answer) h in
-            let c-is : c′ ≡ c = ap (λ (x : Written). x .card) h in
-            rw (a-is, c-is) (step-refused call c 11 0 (rest ∙ rw (g, e)) refl)
-        done-by false e g a c′ h =
-            let a-is : a ≡ accepted = ap (λ (x : Written). x .answer) h in
-            let c-is : c′ ≡ storeAll c (writing c d f l block) = ap (λ (x : Written). x .card) h in
-            rw a-is (step-accepted call c (rest ∙ rw (g, e)) (Block block) refl c′ (c-is ∙ rw (active-is, found-is)) refl)
-
-        pub write-done : (m p : Physical) → f ≡ Entry m p → (a : Answer) (c′ : List ℕ) → _≡_ {A = Written} (record { answer = a; card = c′ }) (written c d (Entry m p) l block)
-            → _≡_ {A = Done} (done a (Block block) c′) (step call c)
-        unfolding written isMisplaced
-        write-done m p e a c′ h = done-by (ltb (blockCount c) (d .beta .0 + need (d .alpha .0) f)) refl (rw e) a c′ (rw e h)
+    pub write-done : (m p : Physical) → f ≡ Entry m p → (a : Answer) (c′ : List ℕ) → _≡_ {A = Written} (record { answer = a; card = c′ }) (written c d (Entry m p) l block)
+        → _≡_ {A = Done} (done a (Block block) c′) (step (Write l block) c)
+    unfolding written isMisplaced
+    write-done m p e a c′ h = done-by (ltb (blockCount c) (d .beta .0 + need (d .alpha .0) f)) refl (rw e) a c′ (rw e h)

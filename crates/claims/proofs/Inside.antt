@@ -162,10 +162,7 @@ module _ (c : List ℕ) (area : areaBad c ≡ false) (sound : chainSound (chain 
     unfolding writing blockCount
     write-by (Misplaced h) is room = none
     write-by (Entry m p) is room =
-        let low = subst (λ (d : Descriptor). l < d .volume) (sym found-is) below in
-        let same = subst (λ (d : Descriptor). Entry m p ≡ find c (descriptorsOf c) d l) (sym found-is) is in
-        let ready = write-ready c l block accepted (admission-0 c (areaBad c) refl area) refl long r refl (rw ok) low (Entry m p) same m p refl in
-        entry-inside c active m p l block (subst (λ (d : Descriptor). WriteReady c d (m .0) (p .0) l block) found-is ready) active-name room
+        entry-inside c active m p l block (write-ready c (r .starts) (r .count) active active-through l block long below (Entry m p) is m p refl) active-name room
 
     write-inside : active .beta .0 + need (active .alpha .0) (foundThrough c active l) ≤ blockCount c → Whole (length c) (writing c active (foundThrough c active l) l block)
     write-inside room = write-by (foundThrough c active l) refl room

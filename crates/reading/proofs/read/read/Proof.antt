@@ -1,12 +1,14 @@
 -- `read` meets its contract, row by row.
 use mathlib.Core.Path.{refl}
 use borrow.Author.Needs.{needs}
-use borrow.Author.Tests.{not-false}
+use lib.ListN.{drop}
+use Rattle.calls.specs.Call.{Read}
+use Rattle.calls.specs.Ladder.{readRows}
 use Rattle.calls.specs.Meaning.{lentOf}
 use Rattle.calls.proofs.StepLaws.{step-barred, step-refused}
 use Rattle.calls.proofs.CardLaws.{card-some, card-inside, card-long, card-through, card-whole}
-use Rattle.calls.proofs.RowLaws.{admitted-card}
-use Rattle.calls.proofs.ReadLaws.{read-4, read-9, read-6, read-7, read-8, read-below, read-done, index-inside}
+use Rattle.calls.proofs.RowLaws.{Reached}
+use Rattle.calls.proofs.ReadLaws.{read-reached, read-4, read-9, read-6, read-7, read-8, read-below, read-done, index-inside}
 use Rattle.reading.proofs.read.read.Statement.{statement}
 use Rattle.reading.proofs.read.read.Tie as tie
 
@@ -35,39 +37,39 @@ returns-4 : tie.Need-returns-4
 unfolding lentOf
 returns-4 c = step-refused _ _ _ _ (search read-6) refl
 
+-- what the tests have shown where the chain is sound
+past-chain : (c : tie.Else4) → let s = c .before .before .before .before .before .before .before .before .before .before .before .args in
+    Reached (Read (s .target) (s .name) (s .l .0) (s .out .now)) (s .card .now) (drop 3 (readRows (s .card .now) (s .target) (s .name) (s .l .0) (s .out .now))) (c .before .before .walk-chain .result)
+past-chain c =
+    read-reached _ _ _ _ _ _ (c .before .before .before .before .before .before .before .before .admit .ensures) (c .before .before .before .before .before .before .if1 .left) _ (c .before .before .before .before .before .is-unnamed .ensures) (c .before .before .before .before .if2 .left) (c .before .before .before .if3 .left) _ (c .before .before .walk-chain .ensures) (c .if4 .left)
+
 target-index-requires : tie.Need-target-index-requires
 target-index-requires c κs =
-    let w = c .before .before .before .before .before .walk-chain in
-    let good = admitted-card _ _ (c .before .before .before .before .before .before .before .before .before .before .before .admit .ensures) (c .before .before .before .before .before .before .before .before .before .if1 .left) in
-    let ok = not-false (w .result .sound) (c .before .before .before .if4 .left) in
-    (card-some _ _ (w .ensures) good ok, card-long _ _ (w .ensures) good ok, λ j h. card-inside _ _ (w .ensures) good ok j h)
+    let past = past-chain (c .before .before .before) in
+    (card-some _ _ (past .walked) (past .area) (past .sound), card-long _ _ (past .walked) (past .area) (past .sound), λ j h. card-inside _ _ (past .walked) (past .area) (past .sound) j h)
 
 returns-5 : tie.Need-returns-5
 unfolding lentOf
 returns-5 c =
-    step-refused _ _ _ _ (read-7 _ _ _ _ _ _ (c .before .before .before .before .before .before .before .before .before .before .before .before .before .admit .ensures) (c .before .before .before .before .before .before .before .before .before .before .before .if1 .left) _ (c .before .before .before .before .before .before .before .before .before .before .is-unnamed .ensures) (c .before .before .before .before .before .before .before .before .before .if2 .left) (c .before .before .before .before .before .before .before .before .if3 .left) _ (c .before .before .before .before .before .before .before .walk-chain .ensures) (c .before .before .before .before .before .if4 .left) _ (c .before .target-index .ensures) (c .if5 .taken)) refl
+    step-refused _ _ _ _ (read-7 _ _ _ _ _ _ (past-chain (c .before .before .before .before .before)) _ (c .before .target-index .ensures) (c .if5 .taken)) refl
 
 returns-6 : tie.Need-returns-6
 unfolding lentOf
 returns-6 c =
-    step-refused _ _ _ _ (read-8 _ _ _ _ _ _ (c .before .before .before .before .before .before .before .before .before .before .before .before .before .before .before .before .admit .ensures) (c .before .before .before .before .before .before .before .before .before .before .before .before .before .before .if1 .left) _ (c .before .before .before .before .before .before .before .before .before .before .before .before .before .is-unnamed .ensures) (c .before .before .before .before .before .before .before .before .before .before .before .before .if2 .left) (c .before .before .before .before .before .before .before .before .before .before .before .if3 .left) _ (c .before .before .before .before .before .before .before .before .before .before .walk-chain .ensures) (c .before .before .before .before .before .before .before .before .if4 .left) _ (c .before .before .before .before .target-index .ensures) (c .before .before .before .if5 .left) (c .if6 .taken)) refl
+    step-refused _ _ _ _ (read-8 _ _ _ _ _ _ (past-chain (c .before .before .before .before .before .before .before .before)) _ (c .before .before .before .before .target-index .ensures) (c .before .before .before .if5 .left) (c .if6 .taken)) refl
 
 descriptor-of-requires : tie.Need-descriptor-of-requires
 descriptor-of-requires c κs =
-    let w = c .before .before .before .before .before .before .before .before .before .before .before .before .before .walk-chain in
-    let good = admitted-card _ _ (c .before .before .before .before .before .before .before .before .before .before .before .before .before .before .before .before .before .before .before .admit .ensures) (c .before .before .before .before .before .before .before .before .before .before .before .before .before .before .before .before .before .if1 .left) in
-    let ok = not-false (w .result .sound) (c .before .before .before .before .before .before .before .before .before .before .before .if4 .left) in
-    (card-whole _ _ (w .ensures) good ok, index-inside _ _ _ 0 (c .before .before .before .before .before .before .before .before .before .before .before .before .before .before .before .before .before .before .before .before .before .before .args .out .now) _ (c .before .before .before .before .before .before .before .before .before .before .before .before .before .before .before .before .before .before .before .admit .ensures) (c .before .before .before .before .before .before .before .before .before .before .before .before .before .before .before .before .before .if1 .left) _ (c .before .before .before .before .before .before .before .before .before .before .before .before .before .before .before .before .is-unnamed .ensures) (c .before .before .before .before .before .before .before .before .before .before .before .before .before .before .before .if2 .left) (c .before .before .before .before .before .before .before .before .before .before .before .before .before .before .if3 .left) _ (w .ensures) (c .before .before .before .before .before .before .before .before .before .before .before .if4 .left) _ (c .before .before .before .before .before .before .before .target-index .ensures) (c .before .before .before .before .before .before .if5 .left))
+    let past = past-chain (c .before .before .before .before .before .before .before .before .before .before .before) in
+    (card-whole _ _ (past .walked) (past .area) (past .sound), index-inside _ _ _ _ _ _ (past-chain (c .before .before .before .before .before .before .before .before .before .before .before)) _ (c .before .before .before .before .before .before .before .target-index .ensures) (c .before .before .before .before .before .before .if5 .left))
 
 deliver-requires : tie.Need-deliver-requires
 deliver-requires c κs =
-    let w = c .before .before .before .before .before .before .before .before .before .before .before .before .before .before .before .before .before .before .walk-chain in
-    let good = admitted-card _ _ (c .before .before .before .before .before .before .before .before .before .before .before .before .before .before .before .before .before .before .before .before .before .before .before .before .admit .ensures) (c .before .before .before .before .before .before .before .before .before .before .before .before .before .before .before .before .before .before .before .before .before .before .if1 .left) in
-    let ok = not-false (w .result .sound) (c .before .before .before .before .before .before .before .before .before .before .before .before .before .before .before .before .if4 .left) in
+    let past = past-chain (c .before .before .before .before .before .before .before .before .before .before .before .before .before .before .before .before) in
     let d = c .before .before .before .before .descriptor-of .ensures in
-    let k = index-inside _ _ _ 0 (c .before .before .before .before .before .before .before .before .before .before .before .before .before .before .before .before .before .before .before .before .before .before .before .before .before .before .before .args .out .now) _ (c .before .before .before .before .before .before .before .before .before .before .before .before .before .before .before .before .before .before .before .before .before .before .before .before .admit .ensures) (c .before .before .before .before .before .before .before .before .before .before .before .before .before .before .before .before .before .before .before .before .before .before .if1 .left) _ (c .before .before .before .before .before .before .before .before .before .before .before .before .before .before .before .before .before .before .before .before .before .is-unnamed .ensures) (c .before .before .before .before .before .before .before .before .before .before .before .before .before .before .before .before .before .before .before .before .if2 .left) (c .before .before .before .before .before .before .before .before .before .before .before .before .before .before .before .before .before .before .before .if3 .left) _ (w .ensures) (c .before .before .before .before .before .before .before .before .before .before .before .before .before .before .before .before .if4 .left) _ (c .before .before .before .before .before .before .before .before .before .before .before .before .target-index .ensures) (c .before .before .before .before .before .before .before .before .before .before .before .if5 .left) in (
-      card-through _ _ (w .ensures) good ok _ k _ d,
-      read-below _ _ _ _ (c .before .before .before .before .before .before .before .before .before .before .before .before .before .before .before .before .before .before .before .before .before .before .before .before .before .before .before .args .out .now) _ (c .before .before .before .before .before .before .before .before .before .before .before .before .before .before .before .before .before .before .before .before .before .before .before .before .admit .ensures) (c .before .before .before .before .before .before .before .before .before .before .before .before .before .before .before .before .before .before .before .before .before .before .if1 .left) _ (c .before .before .before .before .before .before .before .before .before .before .before .before .before .before .before .before .before .before .before .before .before .is-unnamed .ensures) (c .before .before .before .before .before .before .before .before .before .before .before .before .before .before .before .before .before .before .before .before .if2 .left) (c .before .before .before .before .before .before .before .before .before .before .before .before .before .before .before .before .before .before .before .if3 .left) _ (w .ensures) (c .before .before .before .before .before .before .before .before .before .before .before .before .before .before .before .before .if4 .left) _ (c .before .before .before .before .before .before .before .before .before .before .before .before .target-index .ensures) (c .before .before .before .before .before .before .before .before .before .before .before .if5 .left) (c .before .before .before .before .before .before .before .before .if6 .left) _ d,
+    let k = index-inside _ _ _ _ _ _ (past-chain (c .before .before .before .before .before .before .before .before .before .before .before .before .before .before .before .before)) _ (c .before .before .before .before .before .before .before .before .before .before .before .before .target-index .ensures) (c .before .before .before .before .before .before .before .before .before .before .before .if5 .left) in (
+      card-through _ _ (past .walked) (past .area) (past .sound) _ k _ d,
+      read-below _ _ _ _ _ _ (past-chain (c .before .before .before .before .before .before .before .before .before .before .before .before .before .before .before .before)) _ (c .before .before .before .before .before .before .before .before .before .before .before .before .target-index .ensures) (c .before .before .before .before .before .before .before .before .before .before .before .if5 .left) (c .before .before .before .before .before .before .before .before .if6 .left) _ d,
       c .before .before .before .before .before .before .before .before .before .before .before .before .before .before .before .before .before .before .before .if3 .left,
     )
 
@@ -76,7 +78,7 @@ same-length c = search needs
 
 returns-7 : tie.Need-returns-7
 returns-7 c =
-    read-done _ _ _ _ _ _ (c .before .before .before .before .before .before .before .before .before .before .before .before .before .before .before .before .before .before .before .before .before .before .before .before .before .before .before .admit .ensures) (c .before .before .before .before .before .before .before .before .before .before .before .before .before .before .before .before .before .before .before .before .before .before .before .before .before .if1 .left) _ (c .before .before .before .before .before .before .before .before .before .before .before .before .before .before .before .before .before .before .before .before .before .before .before .before .is-unnamed .ensures) (c .before .before .before .before .before .before .before .before .before .before .before .before .before .before .before .before .before .before .before .before .before .before .before .if2 .left) (c .before .before .before .before .before .before .before .before .before .before .before .before .before .before .before .before .before .before .before .before .before .before .if3 .left) _ (c .before .before .before .before .before .before .before .before .before .before .before .before .before .before .before .before .before .before .before .before .before .walk-chain .ensures) (c .before .before .before .before .before .before .before .before .before .before .before .before .before .before .before .before .before .before .before .if4 .left) _ (c .before .before .before .before .before .before .before .before .before .before .before .before .before .before .before .target-index .ensures) (c .before .before .before .before .before .before .before .before .before .before .before .before .before .before .if5 .left) (c .before .before .before .before .before .before .before .before .before .before .before .if6 .left) _ (c .before .before .before .before .before .before .before .descriptor-of .ensures) _ _ (c .before .before .deliver .ensures)
+    read-done _ _ _ _ _ _ (past-chain (c .before .before .before .before .before .before .before .before .before .before .before .before .before .before .before .before .before .before .before)) _ (c .before .before .before .before .before .before .before .before .before .before .before .before .before .before .before .target-index .ensures) (c .before .before .before .before .before .before .before .before .before .before .before .before .before .before .if5 .left) (c .before .before .before .before .before .before .before .before .before .before .before .if6 .left) _ (c .before .before .before .before .before .before .before .descriptor-of .ensures) _ _ (c .before .before .deliver .ensures)
 
 pub read-spec : {M : Type 1} → statement M
 read-spec =

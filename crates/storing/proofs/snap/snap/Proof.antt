@@ -2,15 +2,16 @@
 use mathlib.Core.Path.{refl}
 use native.Mathlib.Omega.{arith}
 use borrow.Author.Needs.{needs}
-use borrow.Author.Tests.{not-false}
+use lib.ListN.{drop}
+use Rattle.calls.specs.Call.{Snap}
 use Rattle.calls.specs.Ladder.{snapRows}
 use Rattle.calls.specs.Meaning.{rowsOf, answerOf, lentOf, filledOf, givenOf}
 use Rattle.blocks.proofs.ChainLaws.{cost-least}
 use Rattle.entries.proofs.EntryLaws.{through-beta}
 use Rattle.calls.proofs.StepLaws.{step-barred, step-refused, step-accepted}
-use Rattle.calls.proofs.CardLaws.{card-some, card-inside, card-long, card-active, card-through, card-small}
-use Rattle.calls.proofs.RowLaws.{admitted-card, named-4, named-6}
-use Rattle.calls.proofs.SnapLaws.{snap-12, snap-13, snap-11, snap-0, snap-stores}
+use Rattle.calls.proofs.CardLaws.{card-active-through, card-inside, card-long, card-small}
+use Rattle.calls.proofs.RowLaws.{Reached, named-4, named-6}
+use Rattle.calls.proofs.SnapLaws.{snap-reached, snap-12, snap-13, snap-11, snap-0, snap-stores}
 use Rattle.storing.proofs.snap.snap.Statement.{statement}
 use Rattle.storing.proofs.snap.snap.Tie as tie
 
@@ -44,26 +45,28 @@ returns-3 : tie.Need-returns-3
 unfolding lentOf answerOf rowsOf snapRows
 returns-3 c = step-refused _ _ _ _ (search named-6) refl
 
+-- what the tests have shown where the chain is sound
+past-chain : (c : tie.Else3) → let s = c .before .before .before .before .before .before .before .before .before .before .args in Reached (Snap (s .name)) (s .card .now) (drop 2 (snapRows (s .card .now) (s .name))) (c .before .walk-chain .result)
+past-chain c = snap-reached _ _ _ (c .before .before .before .before .before .before .before .admit .ensures) (c .before .before .before .before .before .if1 .left) _ (c .before .before .before .before .is-name .ensures) (c .before .before .before .if2 .left) _ (c .before .walk-chain .ensures) (c .if3 .left)
+
 is-named-requires : tie.Need-is-named-requires
 is-named-requires c κs =
-    let w = c .before .before .before .before .before .walk-chain in
-    let good = admitted-card _ _ (c .before .before .before .before .before .before .before .before .before .before .before .admit .ensures) (c .before .before .before .before .before .before .before .before .before .if1 .left) in
-    let ok = not-false (w .result .sound) (c .before .before .before .before .if3 .left) in
-    (card-long _ _ (w .ensures) good ok, λ j h. card-inside _ _ (w .ensures) good ok j h)
+    let past = past-chain (c .before .before .before .before) in
+    (card-long _ _ (past .walked) (past .area) (past .sound), λ j h. card-inside _ _ (past .walked) (past .area) (past .sound) j h)
 
 same-length-4 : tie.Need-same-length-4
 same-length-4 c = search needs
 
 returns-4 : tie.Need-returns-4
 unfolding lentOf
-returns-4 c = step-refused _ _ _ _ (snap-12 _ _ _ (c .before .before .before .before .before .before .before .before .before .before .before .before .before .admit .ensures) (c .before .before .before .before .before .before .before .before .before .before .before .if1 .left) _ (c .before .before .before .before .before .before .before .before .before .before .is-name .ensures) (c .before .before .before .before .before .before .before .before .before .if2 .left) _ (c .before .before .before .before .before .before .before .walk-chain .ensures) (c .before .before .before .before .before .before .if3 .left) _ (c .before .is-named .ensures) (c .if4 .taken)) refl
+returns-4 c = step-refused _ _ _ _ (snap-12 _ _ _ (past-chain (c .before .before .before .before .before .before)) _ (c .before .is-named .ensures) (c .if4 .taken)) refl
 
 same-length-5 : tie.Need-same-length-5
 same-length-5 c = search needs
 
 returns-5 : tie.Need-returns-5
 unfolding lentOf
-returns-5 c = step-refused _ _ _ _ (snap-13 _ _ _ (c .before .before .before .before .before .before .before .before .before .before .before .before .before .before .admit .ensures) (c .before .before .before .before .before .before .before .before .before .before .before .before .if1 .left) _ (c .before .before .before .before .before .before .before .before .before .before .before .is-name .ensures) (c .before .before .before .before .before .before .before .before .before .before .if2 .left) _ (c .before .before .before .before .before .before .before .before .walk-chain .ensures) (c .before .before .before .before .before .before .before .if3 .left) _ (c .before .before .is-named .ensures) (c .before .if4 .left) (c .if5 .taken)) refl
+returns-5 c = step-refused _ _ _ _ (snap-13 _ _ _ (past-chain (c .before .before .before .before .before .before .before)) _ (c .before .before .is-named .ensures) (c .before .if4 .left) (c .if5 .taken)) refl
 
 opening-cost-requires : tie.Need-opening-cost-requires
 opening-cost-requires c κs = search needs
@@ -83,16 +86,15 @@ same-length-6 c = search needs
 returns-6 : tie.Need-returns-6
 unfolding lentOf
 returns-6 c =
-    step-refused _ _ _ _ (snap-11 _ _ _ (c .before .before .before .before .before .before .before .before .before .before .before .before .before .before .before .before .before .before .admit .ensures) (c .before .before .before .before .before .before .before .before .before .before .before .before .before .before .before .before .if1 .left) _ (c .before .before .before .before .before .before .before .before .before .before .before .before .before .before .before .is-name .ensures) (c .before .before .before .before .before .before .before .before .before .before .before .before .before .before .if2 .left) _ (c .before .before .before .before .before .before .before .before .before .before .before .before .walk-chain .ensures) (c .before .before .before .before .before .before .before .before .before .before .before .if3 .left) _ (c .before .before .before .before .before .before .is-named .ensures) (c .before .before .before .before .before .if4 .left) (c .before .before .before .before .if5 .left) _ (c .before .before .opening-cost .ensures) (c .if6 .taken)) refl
+    step-refused _ _ _ _ (snap-11 _ _ _ (past-chain (c .before .before .before .before .before .before .before .before .before .before .before)) _ (c .before .before .before .before .before .before .is-named .ensures) (c .before .before .before .before .before .if4 .left) (c .before .before .before .before .if5 .left) _ (c .before .before .opening-cost .ensures) (c .if6 .taken)) refl
 
 take-snapshot-requires : tie.Need-take-snapshot-requires
 take-snapshot-requires c κs =
-    let w = c .before .before .before .before .before .before .before .before .before .before .before .before .before .walk-chain in
-    let good = admitted-card _ _ (c .before .before .before .before .before .before .before .before .before .before .before .before .before .before .before .before .before .before .before .admit .ensures) (c .before .before .before .before .before .before .before .before .before .before .before .before .before .before .before .before .before .if1 .left) in
-    let ok = not-false (w .result .sound) (c .before .before .before .before .before .before .before .before .before .before .before .before .if3 .left) in
-    let t = card-through _ _ (w .ensures) good ok _ (omega (arith, card-some _ _ (w .ensures) good ok)) _ (card-active _ _ (w .ensures) good ok) in
+    let past = past-chain (c .before .before .before .before .before .before .before .before .before .before .before .before) in
+    let t = card-active-through _ _ (past .walked) (past .area) (past .sound) in
     let k = c .before .before .before .opening-cost .ensures in
-    (k, omega (arith, through-beta _ _ _ _ t, k), omega (arith, k), omega (arith, card-small _ good), omega (arith, k, cost-least (w .result .active .layout) (w .result .active .volume)))
+    let d = c .before .before .before .before .before .before .before .before .before .before .before .before .before .walk-chain .result .active in
+    (k, omega (arith, through-beta _ _ _ _ t, k), omega (arith, k), omega (arith, card-small _ (past .area)), omega (arith, k, cost-least (d .layout) (d .volume)))
 
 same-length-7 : tie.Need-same-length-7
 same-length-7 c = search needs
@@ -101,9 +103,9 @@ returns-7 : tie.Need-returns-7
 unfolding filledOf givenOf
 returns-7 c =
     step-accepted _ _
-    (snap-0 _ _ _ (c .before .before .before .before .before .before .before .before .before .before .before .before .before .before .before .before .before .before .before .before .before .before .admit .ensures) (c .before .before .before .before .before .before .before .before .before .before .before .before .before .before .before .before .before .before .before .before .if1 .left) _ (c .before .before .before .before .before .before .before .before .before .before .before .before .before .before .before .before .before .before .before .is-name .ensures) (c .before .before .before .before .before .before .before .before .before .before .before .before .before .before .before .before .before .before .if2 .left) _ (c .before .before .before .before .before .before .before .before .before .before .before .before .before .before .before .before .walk-chain .ensures) (c .before .before .before .before .before .before .before .before .before .before .before .before .before .before .before .if3 .left) _ (c .before .before .before .before .before .before .before .before .before .before .is-named .ensures) (c .before .before .before .before .before .before .before .before .before .if4 .left) (c .before .before .before .before .before .before .before .before .if5 .left) _ (c .before .before .before .before .before .before .opening-cost .ensures) (c .before .before .before .before .if6 .left))
+    (snap-0 _ _ _ (past-chain (c .before .before .before .before .before .before .before .before .before .before .before .before .before .before .before)) _ (c .before .before .before .before .before .before .before .before .before .before .is-named .ensures) (c .before .before .before .before .before .before .before .before .before .if4 .left) (c .before .before .before .before .before .before .before .before .if5 .left) _ (c .before .before .before .before .before .before .opening-cost .ensures) (c .before .before .before .before .if6 .left))
     _ refl _
-    (snap-stores _ _ _ (c .before .before .before .before .before .before .before .before .before .before .before .before .before .before .before .before .before .before .before .before .before .before .admit .ensures) (c .before .before .before .before .before .before .before .before .before .before .before .before .before .before .before .before .before .before .before .before .if1 .left) _ (c .before .before .before .before .before .before .before .before .before .before .before .before .before .before .before .before .before .before .before .is-name .ensures) (c .before .before .before .before .before .before .before .before .before .before .before .before .before .before .before .before .before .before .if2 .left) _ (c .before .before .before .before .before .before .before .before .before .before .before .before .before .before .before .before .walk-chain .ensures) (c .before .before .before .before .before .before .before .before .before .before .before .before .before .before .before .if3 .left) _ (c .before .before .before .before .before .before .before .before .before .before .is-named .ensures) (c .before .before .before .before .before .before .before .before .before .if4 .left) (c .before .before .before .before .before .before .before .before .if5 .left) _ (c .before .before .before .before .before .before .opening-cost .ensures) _ (c .before .before .take-snapshot .ensures))
+    (snap-stores _ _ _ (past-chain (c .before .before .before .before .before .before .before .before .before .before .before .before .before .before .before)) _ (c .before .before .before .before .before .before .before .before .before .before .is-named .ensures) (c .before .before .before .before .before .before .before .before .before .if4 .left) (c .before .before .before .before .before .before .before .before .if5 .left) _ (c .before .before .before .before .before .before .opening-cost .ensures) _ (c .before .before .take-snapshot .ensures))
     refl
 
 pub snap-spec : {M : Type 1} → statement M
