@@ -9,6 +9,7 @@ use Rattle.blocks.specs.Bytes.{blockSize, zeroBlock, part, u32At, le32, 
 use Rattle.blocks.specs.Name.{nameSize, noName}
 use Rattle.blocks.specs.declared.numbers.Physical.{Physical}
 use Rattle.blocks.specs.declared.descriptor.Descriptor.{Descriptor}
+use Rattle.blocks.specs.declared.descriptor.Format.{Format}
 
 abbrev pub physical : ℕ → Physical
 physical p = record { 0 = p }
@@ -93,14 +94,22 @@ reservedOk bytes = allZero bytes
 unfoldable pub phiOk : ℕ → List ℕ → Bool
 phiOk layout bytes = pick (eqb layout 1) (allZero bytes) true
 
+-- layout, L and name as a format takes them
+abbrev pub asFormat : ℕ → ℕ → List ℕ → Format
+asFormat layout volume name = record { layout = layout; volume = volume; name = name }
+
+-- c of a format
+abbrev pub costIn : Format → ℕ
+costIn format = cost (format .layout) (format .volume)
+
 -- the descriptor that a format makes
-abbrev pub firstOf : ℕ → ℕ → List ℕ → Descriptor
-firstOf layout volume name =
-    record { layout = layout; volume = volume; alpha = physical 0; beta = physical (cost layout volume); next = physical 0; name = name }
+abbrev pub firstOf : Format → Descriptor
+firstOf format =
+    record { layout = format .layout; volume = format .volume; alpha = physical 0; beta = physical (costIn format); next = physical 0; name = format .name }
 
 -- what stands for a descriptor where there is none
 abbrev pub noDescriptor : Descriptor
-noDescriptor = firstOf 0 0 noName
+noDescriptor = firstOf (asFormat 0 0 noName)
 
 -- stores of zeros to the n blocks from block p, rising
 unfoldable pub clearing : ℕ → ℕ → List Store
@@ -113,6 +122,5 @@ copying c from p zero = []
 copying c from p (suc n) = store p (blockAt c from) ∷ copying c (suc from) (suc p) n
 
 -- the stores of a format: the c - 1 table blocks after the descriptor, rising, then the first descriptor with a cleared Phi
-unfoldable pub opening : ℕ → ℕ → List ℕ → List Store
-opening layout volume name =
-    clearing 1 (cost layout volume - 1) ++ (store 0 (descriptorBlock (firstOf layout volume name) (replicate 472 0)) ∷ [])
+unfoldable pub opening : Format → List Store
+opening format = clearing 1 (costIn format - 1) ++ (store 0 (descriptorBlock (firstOf format) (replicate 472 0)) ∷ [])

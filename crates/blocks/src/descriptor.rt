@@ -7,6 +7,13 @@ ghost use lib.ListN.{length};
 ghost use Rattle.blocks.specs.Bytes.{splice, storeBlock};
 ghost use Rattle.blocks.specs.Descriptor.{tableCount, cost, costOf, renamedOf, linkedOf, extendedOf, reopenedOf, descriptorAt, headBytes, tailAt, descriptorBlock};
 
+// What a format takes.
+pub struct Format {
+    pub layout: u32,
+    pub volume: u32,
+    pub name: [u8; 16],
+}
+
 // The fields of a descriptor block, the paper's SDB.
 pub struct Descriptor {
     pub layout: u32,

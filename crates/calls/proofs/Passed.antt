@@ -8,7 +8,7 @@ use lib.ListN.{length}
 use borrow.Author.Tests.{eqb-true, ltb-false, leb-false, not-false}
 use Rattle.blocks.specs.Bytes.{blockSize, blockCount}
 use Rattle.blocks.specs.Name.{isName}
-use Rattle.blocks.specs.Descriptor.{cost, costOf}
+use Rattle.blocks.specs.Descriptor.{costOf, costIn}
 use Rattle.blocks.specs.Chain.{chain, chainSound, named, activeOf}
 use Rattle.entries.specs.Entry.{need}
 use Rattle.calls.specs.declared.answer.Target.{Target}
@@ -20,12 +20,13 @@ use Rattle.calls.specs.Ladder.{firstRow, admission, reamRows, readRows, 
 use Rattle.calls.specs.Meaning.{rowsOf, answerOf}
 use Rattle.calls.specs.Step.{isAccepted}
 use Rattle.calls.proofs.RowLaws.{holdsOf, rows-passed}
+use Rattle.blocks.specs.declared.descriptor.Format.{Format}
 
 -- a format: the name is one, and the first region fits the card
-pub record ReamPassed (c : List ℕ) (layout volume : ℕ) (name : List ℕ) : Type 0 where
+pub record ReamPassed (c : List ℕ) (format : Format) : Type 0 where
   pub area : areaBad c ≡ false
-  pub called : isName name ≡ true
-  pub room : cost layout volume ≤ blockCount c
+  pub called : isName (format .name) ≡ true
+  pub room : costIn format ≤ blockCount c
 
 -- a read: a snapshot that is named is there, the number is below L, and what is followed is in place
 pub record ReadPassed (c : List ℕ) (target : Target) (name : List ℕ) (l : ℕ) : Type 0 where
@@ -72,10 +73,10 @@ pub record CheckPassed (c : List ℕ) : Type 0 where
   pub sound : chainSound (chain c) ≡ true
   pub faultless : isFault (checkCard c) ≡ false
 
-pub ream-passed : (c : List ℕ) (layout volume : ℕ) (name : List ℕ) → isAccepted (answerOf (Ream layout volume name) c) ≡ true → ReamPassed c layout volume name
+pub ream-passed : (c : List ℕ) (format : Format) → isAccepted (answerOf (Ream format) c) ≡ true → ReamPassed c format
 unfolding rowsOf admission reamRows holdsOf
-ream-passed c layout volume name e =
-    let row = rows-passed (Ream layout volume name) c e in
+ream-passed c format e =
+    let row = rows-passed (Ream format) c e in
     record { area = row 1; called = not-false _ (row 4); room = ltb-false _ _ (row 5) }
 
 pub read-passed : (c : List ℕ) (target : Target) (name : List ℕ) (l : ℕ) (block : List ℕ) → isAccepted (answerOf (Read target name l block) c) ≡ true → ReadPassed c target name l

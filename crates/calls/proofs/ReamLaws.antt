@@ -9,7 +9,7 @@ use lib.Dec.{eqb}
 use borrow.Author.Tests.{eq-eqb, ne-eqb, lt-ltb, le-ltb, eqb-false}
 use Rattle.blocks.specs.Bytes.{splice, store, storeBlock, storeAll, blockCount}
 use Rattle.blocks.specs.Name.{isName}
-use Rattle.blocks.specs.Descriptor.{physical, cost, headBytes, descriptorBlock, clearing, opening}
+use Rattle.blocks.specs.Descriptor.{physical, headBytes, descriptorBlock, clearing, opening, costIn}
 use Rattle.blocks.specs.declared.descriptor.Descriptor.{Descriptor}
 use Rattle.blocks.proofs.ByteLaws.{splice-start}
 use Rattle.blocks.proofs.NameLaws.{drop-replicate}
@@ -19,6 +19,7 @@ use Rattle.calls.specs.Meaning.{rowsOf, answerOf}
 use Rattle.calls.proofs.StepLaws.{stored-append, stored-one}
 use Rattle.calls.proofs.RowLaws.{admitted, row-given, row-passed, last-passed, admitted, name-given, name-passed}
 use Rattle.calls.specs.declared.answer.Answer.{Answer}
+use Rattle.blocks.specs.declared.descriptor.Format.{Format}
 
 -- a head put into a block of zeros
 pub head-on-zeros : (d : Descriptor) (b : List ℕ) → length (headBytes d) ≡ 40 → b ≡ splice (replicate 512 0) 0 (headBytes d) → b ≡ descriptorBlock d (replicate 472 0)
@@ -27,10 +28,11 @@ head-on-zeros d b n e =
     e ∙ splice-start (replicate 512 0) (headBytes d) ∙ ap (λ (k : ℕ). headBytes d ++ drop k (replicate 512 0)) n ∙ ap (λ (l : List ℕ). headBytes d ++ l) (drop-replicate 512 40)
 
 -- tables, then the first descriptor
-pub opened : (c c₁ c₂ : List ℕ) (layout volume k : ℕ) (name b : List ℕ) → k ≡ cost layout volume → b ≡ descriptorBlock (record { layout = layout; volume = volume; alpha = physical 0; beta = physical k; next = physical 0; name = name }) (replicate 472 0)
-    → c₁ ≡ storeAll c (clearing 1 (k - 1)) → c₂ ≡ storeBlock c₁ 0 b → c₂ ≡ storeAll c (opening layout volume name)
+pub opened : (c c₁ c₂ : List ℕ) (format : Format) (k : ℕ) (b : List ℕ) → k ≡ costIn format
+    → b ≡ descriptorBlock (record { layout = format .layout; volume = format .volume; alpha = physical 0; beta = physical k; next = physical 0; name = format .name }) (replicate 472 0)
+    → c₁ ≡ storeAll c (clearing 1 (k - 1)) → c₂ ≡ storeBlock c₁ 0 b → c₂ ≡ storeAll c (opening format)
 unfolding opening
-opened c c₁ c₂ layout volume k name b e f g h =
+opened c c₁ c₂ format k b e f g h =
     h
     ∙ ap (λ (x : List ℕ). storeBlock x 0 b) g
     ∙ sym (stored-one (storeAll c (clearing 1 (k - 1))) 0 b)
@@ -38,54 +40,54 @@ opened c c₁ c₂ layout volume k name b e f g h =
     ∙ rw (f, e)
 
 -- the rows of a ream that follow admission, in the order of the code
-module _ (c : List ℕ) (layout volume : ℕ) (name : List ℕ) (a : Answer) (asked : a ≡ firstRow (admission c)) (card : a .number ≡ 0) where
-  to-layout : answerOf (Ream layout volume name) c ≡ firstRow (drop 0 (reamRows c layout volume name))
+module _ (c : List ℕ) (format : Format) (a : Answer) (asked : a ≡ firstRow (admission c)) (card : a .number ≡ 0) where
+  to-layout : answerOf (Ream format) c ≡ firstRow (drop 0 (reamRows c format))
   unfolding answerOf rowsOf reamRows
   to-layout = admitted c a asked _ card
 
-  pub ream-2-low : layout ≡ 0 → answerOf (Ream layout volume name) c ≡ answer 2 0
+  pub ream-2-low : format .layout ≡ 0 → answerOf (Ream format) c ≡ answer 2 0
   unfolding reamRows
   ream-2-low e = to-layout ∙ row-given _ _ (rw e)
 
-  pub ream-2-high : 2 < layout → answerOf (Ream layout volume name) c ≡ answer 2 0
+  pub ream-2-high : 2 < format .layout → answerOf (Ream format) c ≡ answer 2 0
   unfolding reamRows
-  ream-2-high h = to-layout ∙ row-given _ _ (rw (ne-eqb layout 1 (omega arith), ne-eqb layout 2 (omega arith)))
+  ream-2-high h = to-layout ∙ row-given _ _ (rw (ne-eqb (format .layout) 1 (omega arith), ne-eqb (format .layout) 2 (omega arith)))
 
-  module _ (some : layout ≡ 0 → ⊥) (low : layout ≤ 2) where
-    layout-by : (t : Bool) → eqb layout 1 ≡ t → (eqb layout 1 || eqb layout 2) ≡ true
+  module _ (some : format .layout ≡ 0 → ⊥) (low : format .layout ≤ 2) where
+    layout-by : (t : Bool) → eqb (format .layout) 1 ≡ t → (eqb (format .layout) 1 || eqb (format .layout) 2) ≡ true
     layout-by true e = rw e
-    layout-by false e = rw (e, eq-eqb layout 2 (omega (arith, some, eqb-false layout 1 e)))
+    layout-by false e = rw (e, eq-eqb (format .layout) 2 (omega (arith, some, eqb-false (format .layout) 1 e)))
 
-    to-volume : answerOf (Ream layout volume name) c ≡ firstRow (drop 1 (reamRows c layout volume name))
+    to-volume : answerOf (Ream format) c ≡ firstRow (drop 1 (reamRows c format))
     unfolding reamRows
-    to-volume = to-layout ∙ row-passed _ _ (rw (layout-by (eqb layout 1) refl))
+    to-volume = to-layout ∙ row-passed _ _ (rw (layout-by (eqb (format .layout) 1) refl))
 
-    pub ream-3-none : volume ≡ 0 → answerOf (Ream layout volume name) c ≡ answer 3 0
+    pub ream-3-none : format .volume ≡ 0 → answerOf (Ream format) c ≡ answer 3 0
     unfolding reamRows
     ream-3-none e = to-volume ∙ row-given _ _ (rw e)
 
-    pub ream-3-large : 14336 < volume → answerOf (Ream layout volume name) c ≡ answer 3 0
+    pub ream-3-large : 14336 < format .volume → answerOf (Ream format) c ≡ answer 3 0
     unfolding reamRows
-    ream-3-large h = to-volume ∙ row-given _ _ (rw (ne-eqb volume 0 (omega arith), lt-ltb 14336 volume h))
+    ream-3-large h = to-volume ∙ row-given _ _ (rw (ne-eqb (format .volume) 0 (omega arith), lt-ltb 14336 (format .volume) h))
 
-    module _ (least : volume ≡ 0 → ⊥) (most : volume ≤ 14336) (n : Bool) (called : n ≡ isName name) where
-      to-name : answerOf (Ream layout volume name) c ≡ firstRow (drop 2 (reamRows c layout volume name))
+    module _ (least : format .volume ≡ 0 → ⊥) (most : (format .volume) ≤ 14336) (n : Bool) (called : n ≡ isName (format .name)) where
+      to-name : answerOf (Ream format) c ≡ firstRow (drop 2 (reamRows c format))
       unfolding reamRows
-      to-name = to-volume ∙ row-passed _ _ (rw (ne-eqb volume 0 least, le-ltb 14336 volume most))
+      to-name = to-volume ∙ row-passed _ _ (rw (ne-eqb (format .volume) 0 least, le-ltb 14336 (format .volume) most))
 
-      pub ream-4 : not n ≡ true → answerOf (Ream layout volume name) c ≡ answer 4 0
+      pub ream-4 : not n ≡ true → answerOf (Ream format) c ≡ answer 4 0
       unfolding reamRows
-      ream-4 h = to-name ∙ name-given _ name n called h
+      ream-4 h = to-name ∙ name-given _ (format .name) n called h
 
-      module _ (is : not n ≡ false) (k : ℕ) (cost-is : k ≡ cost layout volume) where
-        to-cost : answerOf (Ream layout volume name) c ≡ firstRow (drop 3 (reamRows c layout volume name))
+      module _ (is : not n ≡ false) (k : ℕ) (cost-is : k ≡ costIn format) where
+        to-cost : answerOf (Ream format) c ≡ firstRow (drop 3 (reamRows c format))
         unfolding reamRows
-        to-cost = to-name ∙ name-passed _ name n called is
+        to-cost = to-name ∙ name-passed _ (format .name) n called is
 
-        pub ream-5 : length c / 512 < k → answerOf (Ream layout volume name) c ≡ answer 5 0
+        pub ream-5 : length c / 512 < k → answerOf (Ream format) c ≡ answer 5 0
         unfolding reamRows blockCount
         ream-5 h = to-cost ∙ row-given _ _ (rw (← cost-is) (lt-ltb (length c / 512) k h))
 
-        pub ream-0 : k ≤ length c / 512 → answerOf (Ream layout volume name) c ≡ accepted
+        pub ream-0 : k ≤ length c / 512 → answerOf (Ream format) c ≡ accepted
         unfolding reamRows blockCount
         ream-0 h = to-cost ∙ last-passed _ (rw (← cost-is) (le-ltb (length c / 512) k h))

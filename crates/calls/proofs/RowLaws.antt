@@ -37,7 +37,7 @@ holdsOf n (r ∷ rs) = pick (eqb (r .number) n) (r .holds) (holdsOf n rs)
 -- so it is in each call's list
 pub rows-numbered : (k : Call) (c : List ℕ) → numbered (rowsOf k c) ≡ true
 unfolding numbered fresh rowsOf admission reamRows readRows writeRows snapRows revertRows listRows checkRows
-rows-numbered (Ream layout volume name) c = refl
+rows-numbered (Ream format) c = refl
 rows-numbered (Read target name l block) c = refl
 rows-numbered (Write l block) c = refl
 rows-numbered (Snap name) c = refl

@@ -4,11 +4,12 @@ use Prim.Native.Nat.{ℕ}
 use Rattle.calls.specs.declared.answer.Answer.{Answer}
 use Rattle.calls.specs.declared.answer.Target.{Target}
 use Rattle.calls.specs.declared.answer.Record.{Record}
+use Rattle.blocks.specs.declared.descriptor.Format.{Format}
 
 -- Each call stands with its arguments and the content, at its entry, of what is lent besides the card: a read's block, a write's block, a list.
 -- A name is any sixteen bytes; a block and a list have any length. The name beside a read of the active store is not looked at.
 pub data Call : Type 0 where
-  Ream : (layout volume : ℕ) → (name : List ℕ) → Call
+  Ream : (format : Format) → Call
   Read : (target : Target) → (name : List ℕ) → (l : ℕ) → (block : List ℕ) → Call
   Write : (l : ℕ) → (block : List ℕ) → Call
   Snap : (name : List ℕ) → Call

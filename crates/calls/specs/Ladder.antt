@@ -7,7 +7,7 @@ use lib.Dec.{eqb, ltb, leb}
 use Rattle.blocks.specs.Pick.{pick}
 use Rattle.blocks.specs.Bytes.{blockSize, blockCount}
 use Rattle.blocks.specs.Name.{isName}
-use Rattle.blocks.specs.Descriptor.{cost, costOf, mostVolume}
+use Rattle.blocks.specs.Descriptor.{costOf, mostVolume, costIn}
 use Rattle.blocks.specs.Chain.{chain, chainSound, chainPlace, named, activeOf}
 use Rattle.entries.specs.Entry.{need}
 use Rattle.calls.specs.declared.answer.Answer.{Answer}
@@ -16,6 +16,7 @@ use Rattle.calls.specs.declared.answer.Record.{Record}
 use Rattle.calls.specs.Call.{answer, accepted}
 use Rattle.calls.specs.Parts.{areaBad, descriptorsOf, snapshotsOf, targetOf, isSnapshot, foundThrough, isMisplaced, holderOf, mostSnapshots}
 use Rattle.calls.specs.Check.{checkCard, isFault, faultHolder}
+use Rattle.blocks.specs.declared.descriptor.Format.{Format}
 
 -- a row: its condition, the number that it gives and the place
 pub record Row : Type 0 where
@@ -53,12 +54,12 @@ abbrev pub volumeRow : List ℕ → ℕ → Row
 volumeRow c l = row (leb (activeOf (descriptorsOf c) .volume) l) 8 0
 
 -- the rows of each call after those of admission
-unfoldable pub reamRows : List ℕ → ℕ → ℕ → List ℕ → List Row
-reamRows c layout volume name =
-    row (not (eqb layout 1 || eqb layout 2)) 2 0
-    ∷ row (eqb volume 0 || ltb mostVolume volume) 3 0
-    ∷ nameRow name
-    ∷ row (ltb (blockCount c) (cost layout volume)) 5 0
+unfoldable pub reamRows : List ℕ → Format → List Row
+reamRows c format =
+    row (not (eqb (format .layout) 1 || eqb (format .layout) 2)) 2 0
+    ∷ row (eqb (format .volume) 0 || ltb mostVolume (format .volume)) 3 0
+    ∷ nameRow (format .name)
+    ∷ row (ltb (blockCount c) (costIn format)) 5 0
     ∷ []
 
 unfoldable pub readRows : List ℕ → Target → List ℕ → ℕ → List ℕ → List Row

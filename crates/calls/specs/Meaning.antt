@@ -27,7 +27,7 @@ abbrev pub changing : (List ℕ → List Row) → (List ℕ → List Store) → 
 changing rows stores lent = record { rows = rows; stores = stores; lent = lent; filled = λ c. lent; given = λ c. NoneGiven }
 
 unfoldable pub meaningOf : Call → Meaning
-meaningOf (Ream layout volume name) = changing (λ c. reamRows c layout volume name) (λ c. opening layout volume name) None
+meaningOf (Ream format) = changing (λ c. reamRows c format) (λ c. opening format) None
 meaningOf (Read target name l block) =
     looking (λ c. readRows c target name l block) (Block block) (λ c. Block (blockFound c (foundThrough c (targetOf (descriptorsOf c) target name) l)))
 meaningOf (Write l block) = changing (λ c. writeRows c l block) (λ c. writeStores c l block) (Block block)

@@ -35,6 +35,7 @@ use Rattle.claims.proofs.Local.{Below, below-linked, linked-chain}
 use Rattle.claims.proofs.LocalEntries.{Region, local-find, local-block, local-check}
 use Rattle.claims.proofs.ChainBlocks.{own-inside, few-tables}
 use Rattle.calls.specs.declared.answer.Record.{Record}
+use Rattle.blocks.specs.declared.descriptor.Format.{Format}
 
 -- the last region ends at the active beta
 pub end-from : (p : ℕ) (d : Descriptor) (ds : List Descriptor) → regionStart p (d ∷ ds) (length (d ∷ ds)) ≡ activeOf (d ∷ ds) .beta .0
@@ -191,9 +192,9 @@ module _ (s t : List ℕ) (agree : Agree s t) where
   unfolding admission
   agree-admission = rw agree-area
 
-  pub ream-rows : (layout volume : ℕ) (name : List ℕ) → SameRows (reamRows s layout volume name) (reamRows t layout volume name)
+  pub ream-rows : (format : Format) → SameRows (reamRows s format) (reamRows t format)
   unfolding reamRows
-  ream-rows layout volume name = let e : reamRows s layout volume name ≡ reamRows t layout volume name = rw agree-count in same-rows e
+  ream-rows format = let e : reamRows s format ≡ reamRows t format = rw agree-count in same-rows e
 
   pub read-rows : (target : Target) (name : List ℕ) (l : ℕ) (block : List ℕ) → SameRows (readRows s target name l block) (readRows t target name l block)
   unfolding readRows

@@ -10,7 +10,7 @@ use borrow.Author.Tests.{eqb-true, leb-true}
 use Rattle.blocks.specs.Pick.{pick, allZero}
 use Rattle.blocks.specs.Bytes.{part, splice, le32, blockAt, blockCount, zeroBlock, Store, store, storeBlock, storeAll}
 use Rattle.blocks.specs.Name.{nameByte, nameLength, isName}
-use Rattle.blocks.specs.Descriptor.{physical, tableSize, mark, cost, costOf, headBytes, tailAt, descriptorBlock, renamedOf, linkedOf, extendedOf, reopenedOf, firstOf, clearing, copying, opening}
+use Rattle.blocks.specs.Descriptor.{physical, tableSize, mark, costOf, headBytes, tailAt, descriptorBlock, renamedOf, linkedOf, extendedOf, reopenedOf, firstOf, clearing, copying, opening, costIn}
 use Rattle.blocks.specs.Chain.{chain, chainSound, activeOf}
 use Rattle.blocks.specs.declared.descriptor.Descriptor.{Descriptor}
 use Rattle.blocks.proofs.Tests.{and-left, and-right}
@@ -29,6 +29,7 @@ use Rattle.calls.proofs.Passed.{WritePassed, SnapPassed, RevertPassed}
 use Rattle.claims.specs.Kinds.{Kind}
 use Rattle.claims.proofs.Changes.{storesBy, Allowed, to-format, to-leave, to-write, to-snap, to-revert}
 use Rattle.claims.proofs.Steps.{step-cases}
+use Rattle.blocks.specs.declared.descriptor.Format.{Format}
 
 -- lists of bytes: their parts and joins
 bytes-nil : AreBytes []
@@ -172,11 +173,11 @@ unfolding copying
 stores-copying c h from p zero = nothing
 stores-copying c h from p (suc n) = also p (blockAt c from) (bytes-block c from h) (stores-copying c h (suc from) (suc p) n)
 
-stores-opening : (layout volume : ℕ) (name : List ℕ) → AreBytes name → ByteStores (opening layout volume name)
+stores-opening : (format : Format) → AreBytes (format .name) → ByteStores (opening format)
 unfolding opening
-stores-opening layout volume name h =
-    stores-append (stores-clearing 1 (cost layout volume - 1))
-    (also 0 (descriptorBlock (firstOf layout volume name) (replicate 472 0)) (bytes-descriptor (firstOf layout volume name) (replicate 472 0) h (bytes-zeros 472)) nothing)
+stores-opening format h =
+    stores-append (stores-clearing 1 (costIn format - 1))
+    (also 0 (descriptorBlock (firstOf format) (replicate 472 0)) (bytes-descriptor (firstOf format) (replicate 472 0) h (bytes-zeros 472)) nothing)
 
 -- the stores of a call, on a card of bytes
 module _ (c : List ℕ) (card : AreBytes c) where
@@ -258,12 +259,12 @@ bytes-run [] c h none = h
 bytes-run (k ∷ ks) c h (more f w r) = bytes-run ks (step k c .card) (bytes-step k c h w f) (standing-length c (step k c .card) (sym (step-length k c)) ks r)
 
 -- a format
-format-name : (area : List ℕ) (layout volume : ℕ) (name : List ℕ) → formattable area layout volume name ≡ true → isName name ≡ true
+format-name : (area : List ℕ) (format : Format) → formattable area format ≡ true → isName (format .name) ≡ true
 unfolding formattable
-format-name area layout volume name h =
-    let before = not (areaBad area) && (eqb layout 1 || eqb layout 2) && ltb 0 volume && leb volume 14336 in
-    and-right before (isName name) (and-left (before && isName name) (leb (cost layout volume) (blockCount area)) h)
+format-name area format h =
+    let before = not (areaBad area) && (eqb (format .layout) 1 || eqb (format .layout) 2) && ltb 0 (format .volume) && leb (format .volume) 14336 in
+    and-right before (isName (format .name)) (and-left (before && isName (format .name)) (leb (costIn format) (blockCount area)) h)
 
-pub bytes-format : (area : List ℕ) (layout volume : ℕ) (name : List ℕ) → AreBytes area → formattable area layout volume name ≡ true → AreBytes (formatted area layout volume name)
+pub bytes-format : (area : List ℕ) (format : Format) → AreBytes area → formattable area format ≡ true → AreBytes (formatted area format)
 unfolding formatted
-bytes-format area layout volume name h f = bytes-stored area h (stores-opening layout volume name (bytes-name name (format-name area layout volume name f)))
+bytes-format area format h f = bytes-stored area h (stores-opening format (bytes-name (format .name) (format-name area format f)))

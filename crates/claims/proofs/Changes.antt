@@ -9,10 +9,11 @@ use Rattle.calls.proofs.Passed.{ReamPassed, WritePassed, SnapPassed, RevertPass
 use Rattle.claims.specs.Kinds.{Kind, Formats, Leaves, Writes, Snaps, Reverts}
 use Rattle.claims.proofs.StoreLists.{Whole, none}
 use Rattle.claims.proofs.Inside.{ream-whole, write-whole, snap-whole, revert-whole}
+use Rattle.blocks.specs.declared.descriptor.Format.{Format}
 
 -- the stores of a change
 unfoldable pub storesBy : Kind → List ℕ → List Store
-storesBy (Formats layout volume name) c = opening layout volume name
+storesBy (Formats format) c = opening format
 storesBy Leaves c = []
 storesBy (Writes l block) c = writeStores c l block
 storesBy (Snaps name) c = snapStores c name
@@ -20,7 +21,7 @@ storesBy (Reverts name) c = revertStores c name
 
 -- what holds of a card on which a change is made
 pub data Allowed (c : List ℕ) : Kind → Type 0 where
-  to-format : {layout volume : ℕ} {name : List ℕ} → ReamPassed c layout volume name → Allowed c (Formats layout volume name)
+  to-format : {format : Format} → ReamPassed c format → Allowed c (Formats format)
   to-leave : Allowed c Leaves
   to-write : {l : ℕ} {block : List ℕ} → WritePassed c l block → Allowed c (Writes l block)
   to-snap : {name : List ℕ} → SnapPassed c name → Allowed c (Snaps name)
@@ -29,7 +30,7 @@ pub data Allowed (c : List ℕ) : Kind → Type 0 where
 -- every store of a change is a whole block of the card
 pub change-inside : {x : Kind} (c : List ℕ) → Allowed c x → Whole (length c) (storesBy x c)
 unfolding storesBy
-change-inside c (to-format {layout = layout} {volume = volume} {name = name} h) = ream-whole c layout volume name h
+change-inside c (to-format {format = format} h) = ream-whole c format h
 change-inside c to-leave = none
 change-inside c (to-write {l = l} {block = block} h) = write-whole c l block h
 change-inside c (to-snap {name = name} h) = snap-whole c name h

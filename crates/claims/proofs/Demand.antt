@@ -17,6 +17,7 @@ use Rattle.claims.proofs.Latest.{latest-nowhere, latest-at}
 use Rattle.claims.proofs.Format.{formatted-passes, formatted-descriptors}
 use Rattle.claims.proofs.CardBytes.{bytes-run, bytes-format}
 use Rattle.claims.proofs.Rollback.{s-named, s-accepted, forgets-start, earlier, forgets-snap}
+use Rattle.blocks.specs.declared.descriptor.Format.{Format}
 
 forgets-by : (s : List ℕ) (ks : List Call) → AreBytes s → chainSound (chain s) ≡ true → Standing s ks → (k : ℕ) (v : List ℕ) → RevertedAt s ks k v
     → (place : Position) → latestSnap v s (take k ks) ≡ place → Forgets s v ks k place
@@ -33,17 +34,17 @@ unfolding RollbackClaim
 rollback-claim s ks bytes ok standing k v reverted = forgets-by s ks bytes ok standing k v reverted (latestSnap v s (take k ks)) refl
 
 -- on a card that a format made, an accepted revert has its visit's snap among the calls before it
-module _ (area : List ℕ) (layout volume : ℕ) (name : List ℕ) (can : formattable area layout volume name ≡ true) (ks : List Call) (standing : Standing (formatted area layout volume name) ks)
-    (k : ℕ) (v : List ℕ) (reverted : RevertedAt (formatted area layout volume name) ks k v) where
+module _ (area : List ℕ) (format : Format) (can : formattable area format ≡ true) (ks : List Call) (standing : Standing (formatted area format) ks)
+    (k : ℕ) (v : List ℕ) (reverted : RevertedAt (formatted area format) ks k v) where
   abbrev card : List ℕ
-  card = formatted area layout volume name
+  card = formatted area format
 
   card-sound : chainSound (chain card) ≡ true
-  card-sound = formatted-passes area layout volume name can .sound
+  card-sound = formatted-passes area format can .sound
 
   none-named : named (snapshotsOf (descriptorsOf card)) v ≡ false
   unfolding snapshotsOf
-  none-named = ap (λ (ds : List Descriptor). named (snapshotsOf ds) v) (formatted-descriptors area layout volume name can) ∙ named-none v
+  none-named = ap (λ (ds : List Descriptor). named (snapshotsOf ds) v) (formatted-descriptors area format can) ∙ named-none v
 
   snap-by : (place : Position) → latestSnap v card (take k ks) ≡ place → (i : ℕ) × (i < k) × (latestSnap v card (take k ks) ≡ At i) × LastSnap v card (take k ks) i
   snap-by Nowhere e = no (sym none-named ∙ s-named card ks card-sound standing k v reverted (latest-nowhere v card (take k ks) e))
@@ -60,13 +61,13 @@ module _ (area : List ℕ) (layout volume : ℕ) (name : List ℕ) (can : format
         f .2,
         f .3,
         forgets-snap card ks card-sound standing k v reverted (f .0) (f .3)
-            (bytes-run (take (f .0) ks) card (bytes-format area layout volume name bytes can) (standing-take card ks (f .0) standing)),
+            (bytes-run (take (f .0) ks) card (bytes-format area format bytes can) (standing-take card ks (f .0) standing)),
       )
 
 pub snapshot-claim : SnapshotClaim
 unfolding SnapshotClaim
-snapshot-claim area layout volume name can ks standing k v reverted = found area layout volume name can ks standing k v reverted
+snapshot-claim area format can ks standing k v reverted = found area format can ks standing k v reverted
 
 pub demand-3 : Demand3
 unfolding Demand3
-demand-3 area layout volume name bytes can ks standing k v reverted = whole area layout volume name can ks standing k v reverted bytes
+demand-3 area format bytes can ks standing k v reverted = whole area format can ks standing k v reverted bytes

@@ -13,7 +13,7 @@ use borrow.Author.Tests.{ne-eqb, lt-ltb, le-leb, eqb-true, eqb-false, leb-true, 
 use Rattle.blocks.specs.Pick.{pick, allZero}
 use Rattle.blocks.specs.Bytes.{part, u32At, splice, store, blockCount, blockAt, zeroBlock, storeBlock, storeAll}
 use Rattle.blocks.specs.Name.{isName}
-use Rattle.blocks.specs.Descriptor.{physical, mark, tableCount, cost, firstOf, noDescriptor, descriptorAt, descriptorBlock, reservedOk, phiOk, clearing, opening}
+use Rattle.blocks.specs.Descriptor.{physical, mark, tableCount, cost, firstOf, noDescriptor, descriptorAt, descriptorBlock, reservedOk, phiOk, clearing, opening, costIn}
 use Rattle.blocks.specs.Chain.{formOk, sound, Sound, chain, chainSound, descriptors, activeOf}
 use Rattle.blocks.specs.declared.numbers.Physical.{Physical}
 use Rattle.blocks.specs.declared.descriptor.Descriptor.{Descriptor}
@@ -41,6 +41,7 @@ use Rattle.claims.proofs.Stored.{block-tail, stored-descriptor, stored-
 use Rattle.claims.proofs.Changed.{layout-small}
 use Rattle.claims.proofs.StoreLists.{isStored, stored-length, stored-other}
 use Rattle.claims.proofs.Inside.{inside-clearing, block-whole}
+use Rattle.blocks.specs.declared.descriptor.Format.{Format}
 
 -- a store before block b leaves the bytes from block b on
 store-past : (c : List ℕ) (p : ℕ) (bytes : List ℕ) (b : ℕ) → length bytes ≡ 512 → 512 * p + 512 ≤ length c → p < b → drop (512 * b) (storeBlock c p bytes) ≡ drop (512 * b) c
@@ -133,113 +134,113 @@ nil-read c true m h = refl
 nil-read c false m h = refl
 
 -- an area that can be formatted
-module _ (area : List ℕ) (layout volume : ℕ) (name : List ℕ) (ok : formattable area layout volume name ≡ true) where
+module _ (area : List ℕ) (format : Format) (ok : formattable area format ≡ true) where
   abbrev to-layout : Bool
-  to-layout = not (areaBad area) && (eqb layout 1 || eqb layout 2)
+  to-layout = not (areaBad area) && (eqb (format .layout) 1 || eqb (format .layout) 2)
 
   abbrev to-most : Bool
-  to-most = to-layout && ltb 0 volume && leb volume 14336
+  to-most = to-layout && ltb 0 (format .volume) && leb (format .volume) 14336
 
   abbrev to-name : Bool
-  to-name = to-most && isName name
+  to-name = to-most && isName (format .name)
 
   name-ok : to-name ≡ true
   unfolding formattable
-  name-ok = and-left to-name (leb (cost layout volume) (blockCount area)) ok
+  name-ok = and-left to-name (leb (costIn format) (blockCount area)) ok
 
-  format-room : cost layout volume ≤ blockCount area
+  format-room : costIn format ≤ blockCount area
   unfolding formattable
-  format-room = leb-true _ _ (and-right to-name (leb (cost layout volume) (blockCount area)) ok)
+  format-room = leb-true _ _ (and-right to-name (leb (costIn format) (blockCount area)) ok)
 
-  format-name : isName name ≡ true
-  format-name = and-right to-most (isName name) name-ok
+  format-name : isName (format .name) ≡ true
+  format-name = and-right to-most (isName (format .name)) name-ok
 
-  room-bytes : 512 * cost layout volume ≤ length area
+  room-bytes : 512 * costIn format ≤ length area
   unfolding blockCount
   room-bytes = omega (arith, format-room)
 
   abbrev first : Descriptor
-  first = firstOf layout volume name
+  first = firstOf format
 
   abbrev firstBytes : List ℕ
   firstBytes = descriptorBlock first (replicate 472 0)
 
   abbrev cleared : List ℕ
-  cleared = storeAll area (clearing 1 (cost layout volume - 1))
+  cleared = storeAll area (clearing 1 (costIn format - 1))
 
   first-long : length firstBytes ≡ 512
-  first-long = block-whole first (replicate 472 0) (name-size name format-name) (length-replicate {A = ℕ} 472 0)
+  first-long = block-whole first (replicate 472 0) (name-size (format .name) format-name) (length-replicate {A = ℕ} 472 0)
 
-  cleared-room : 512 * (1 + (cost layout volume - 1)) ≤ length area
-  cleared-room = omega (arith, room-bytes, cost-least layout volume)
+  cleared-room : 512 * (1 + (costIn format - 1)) ≤ length area
+  cleared-room = omega (arith, room-bytes, cost-least (format .layout) (format .volume))
 
   cleared-length : length cleared ≡ length area
-  cleared-length = stored-length (length area) area refl (inside-clearing (length area) 1 (cost layout volume - 1) cleared-room)
+  cleared-length = stored-length (length area) area refl (inside-clearing (length area) 1 (costIn format - 1) cleared-room)
 
   first-inside : 512 * 0 + 512 ≤ length cleared
-  first-inside = omega (arith, cleared-length, room-bytes, cost-least layout volume)
+  first-inside = omega (arith, cleared-length, room-bytes, cost-least (format .layout) (format .volume))
 
   abbrev card : List ℕ
-  card = formatted area layout volume name
+  card = formatted area format
 
   stored-last : card ≡ storeBlock cleared 0 firstBytes
   unfolding formatted opening
-  stored-last = stored-append area (clearing 1 (cost layout volume - 1)) (store 0 firstBytes ∷ []) ∙ stored-one cleared 0 firstBytes
+  stored-last = stored-append area (clearing 1 (costIn format - 1)) (store 0 firstBytes ∷ []) ∙ stored-one cleared 0 firstBytes
 
   -- the area keeps its length
-  pub formatted-length : length (formatted area layout volume name) ≡ length area
+  pub formatted-length : length (formatted area format) ≡ length area
   formatted-length = ap length stored-last ∙ store-length cleared 0 firstBytes first-long first-inside ∙ cleared-length
 
   -- the bytes after the first region stay
-  pub formatted-rest : drop (512 * cost layout volume) (formatted area layout volume name) ≡ drop (512 * cost layout volume) area
+  pub formatted-rest : drop (512 * costIn format) (formatted area format) ≡ drop (512 * costIn format) area
   formatted-rest =
-      ap (drop (512 * cost layout volume)) stored-last
-      ∙ store-past cleared 0 firstBytes (cost layout volume) first-long first-inside (omega (arith, cost-least layout volume))
-      ∙ clearing-past area 1 (cost layout volume - 1) (cost layout volume) (omega (arith, cost-least layout volume)) cleared-room
+      ap (drop (512 * costIn format)) stored-last
+      ∙ store-past cleared 0 firstBytes (costIn format) first-long first-inside (omega (arith, cost-least (format .layout) (format .volume)))
+      ∙ clearing-past area 1 (costIn format - 1) (costIn format) (omega (arith, cost-least (format .layout) (format .volume))) cleared-room
 
   -- the blocks after the descriptor are zeros
-  pub formatted-zero : (p : ℕ) → 0 < p → p < cost layout volume → blockAt (formatted area layout volume name) p ≡ zeroBlock
+  pub formatted-zero : (p : ℕ) → 0 < p → p < costIn format → blockAt (formatted area format) p ≡ zeroBlock
   formatted-zero p some low =
       ap (λ (c : List ℕ). blockAt c p) stored-last
       ∙ store-other cleared 0 firstBytes first-long first-inside p (omega arith)
-      ∙ cleared-block area 1 (cost layout volume - 1) p (omega arith) (omega arith) cleared-room
+      ∙ cleared-block area 1 (costIn format - 1) p (omega arith) (omega arith) cleared-room
 
   -- block 0 is the first descriptor's
-  pub formatted-first : blockAt (formatted area layout volume name) 0 ≡ descriptorBlock (firstOf layout volume name) (replicate 472 0)
+  pub formatted-first : blockAt (formatted area format) 0 ≡ descriptorBlock (firstOf format) (replicate 472 0)
   formatted-first = ap (λ (c : List ℕ). blockAt c 0) stored-last ∙ store-same cleared 0 firstBytes first-long first-inside
 
   -- the first descriptor's fields
   most-ok : to-most ≡ true
-  most-ok = and-left to-most (isName name) name-ok
+  most-ok = and-left to-most (isName (format .name)) name-ok
 
-  format-most : volume ≤ 14336
-  format-most = leb-true _ _ (and-right (to-layout && ltb 0 volume) (leb volume 14336) most-ok)
+  format-most : (format .volume) ≤ 14336
+  format-most = leb-true _ _ (and-right (to-layout && ltb 0 (format .volume)) (leb (format .volume) 14336) most-ok)
 
-  format-least : 0 < volume
-  format-least = ltb-true _ _ (and-right to-layout (ltb 0 volume) (and-left (to-layout && ltb 0 volume) (leb volume 14336) most-ok))
+  format-least : 0 < (format .volume)
+  format-least = ltb-true _ _ (and-right to-layout (ltb 0 (format .volume)) (and-left (to-layout && ltb 0 (format .volume)) (leb (format .volume) 14336) most-ok))
 
   layout-parts : to-layout ≡ true
-  layout-parts = and-left to-layout (ltb 0 volume) (and-left (to-layout && ltb 0 volume) (leb volume 14336) most-ok)
+  layout-parts = and-left to-layout (ltb 0 (format .volume)) (and-left (to-layout && ltb 0 (format .volume)) (leb (format .volume) 14336) most-ok)
 
-  format-layout : (eqb layout 1 || eqb layout 2) ≡ true
-  format-layout = and-right (not (areaBad area)) (eqb layout 1 || eqb layout 2) layout-parts
+  format-layout : (eqb (format .layout) 1 || eqb (format .layout) 2) ≡ true
+  format-layout = and-right (not (areaBad area)) (eqb (format .layout) 1 || eqb (format .layout) 2) layout-parts
 
   format-area : areaBad area ≡ false
-  format-area = not-true (areaBad area) (and-left (not (areaBad area)) (eqb layout 1 || eqb layout 2) layout-parts)
+  format-area = not-true (areaBad area) (and-left (not (areaBad area)) (eqb (format .layout) 1 || eqb (format .layout) 2) layout-parts)
 
   first-fits : Fits first
   first-fits =
       record {
-        layout = omega (arith, layout-small layout format-layout);
+        layout = omega (arith, layout-small (format .layout) format-layout);
         volume = omega (arith, format-most);
         alpha = omega arith;
         beta = omega (arith, format-room, card-most area format-area);
         next = omega arith;
-        name = name-size name format-name;
+        name = name-size (format .name) format-name;
       }
 
   formatted-inside : 512 * 0 + 512 ≤ length card
-  formatted-inside = omega (arith, formatted-length, room-bytes, cost-least layout volume)
+  formatted-inside = omega (arith, formatted-length, room-bytes, cost-least (format .layout) (format .volume))
 
   tail-whole : length {A = ℕ} (replicate 472 0) ≡ 472
   tail-whole = length-replicate {A = ℕ} 472 0
@@ -260,14 +261,14 @@ module _ (area : List ℕ) (layout volume : ℕ) (name : List ℕ) (ok : formatt
         stored-mark card 0 formatted-inside first (replicate 472 0) formatted-first first-fits tail-whole,
         same-self mark,
         format-layout,
-        lt-ltb 0 volume format-least,
-        le-leb volume 14336 format-most,
+        lt-ltb 0 (format .volume) format-least,
+        le-leb (format .volume) 14336 format-most,
         format-name,
         formatted-tail 0 24 (omega arith),
         zero-part 472 0 24,
         formatted-tail 24 448 (omega arith),
       )
-      (phi-clear layout (part (replicate 472 0) 24 448) (zero-part 472 24 448))
+      (phi-clear (format .layout) (part (replicate 472 0) 24 448) (zero-part 472 24 448))
 
   formatted-count : blockCount card ≡ blockCount area
   unfolding blockCount
@@ -285,10 +286,10 @@ module _ (area : List ℕ) (layout volume : ℕ) (name : List ℕ) (ok : formatt
       )
 
   -- the chain is the first descriptor
-  pub formatted-chain : chain (formatted area layout volume name) ≡ Sound (firstOf layout volume name ∷ [])
+  pub formatted-chain : chain (formatted area format) ≡ Sound (firstOf format ∷ [])
   formatted-chain = linked-chain card (first ∷ []) (last (sym formatted-descriptor) formatted-sound refl) (omega arith)
 
-  pub formatted-descriptors : descriptorsOf (formatted area layout volume name) ≡ firstOf layout volume name ∷ []
+  pub formatted-descriptors : descriptorsOf (formatted area format) ≡ firstOf format ∷ []
   unfolding descriptors
   formatted-descriptors = ap descriptors formatted-chain
 
@@ -303,44 +304,44 @@ module _ (area : List ℕ) (layout volume : ℕ) (name : List ℕ) (ok : formatt
       ∙ u32-part (replicate 472 0) (24 + 4 * i) 4 0 (omega arith)
       ∙ zero-number 472 (24 + 4 * i + 0)
 
-  entry-zero : (m j : ℕ) → 0 < m → m < cost layout volume → j < 128 → entryAt card m j ≡ 0
+  entry-zero : (m j : ℕ) → 0 < m → m < costIn format → j < 128 → entryAt card m j ≡ 0
   unfolding entryAt blockAt
   entry-zero m j some low h =
       sym (u32-part card (512 * m) 512 (4 * j) (omega arith)) ∙ ap (λ (b : List ℕ). u32At b (4 * j)) (formatted-zero m some low) ∙ zero-number 512 (4 * j)
 
-  tables-few : tableCount volume ≤ 112
+  tables-few : tableCount (format .volume) ≤ 112
   unfolding tableCount
   tables-few = omega (arith, format-most)
 
-  tables-hold : volume ≤ 128 * tableCount volume
+  tables-hold : (format .volume) ≤ 128 * tableCount (format .volume)
   unfolding tableCount
   tables-hold = omega arith
 
   -- layout 1: the tables follow the descriptor
-  module _ (one : eqb layout 1 ≡ true) where
+  module _ (one : eqb (format .layout) 1 ≡ true) where
     one-table : (i : ℕ) → tableOf card first i ≡ 1 + i
     unfolding tableOf
     one-table i = rw one (omega arith)
 
-    one-cost : cost layout volume ≡ 1 + tableCount volume
+    one-cost : costIn format ≡ 1 + tableCount (format .volume)
     unfolding cost
     one-cost = rw one
 
-    one-entry : (l : ℕ) → l < 128 * tableCount volume → entryAt card (tableOf card first (l / 128)) (l % 128) ≡ 0
+    one-entry : (l : ℕ) → l < 128 * tableCount (format .volume) → entryAt card (tableOf card first (l / 128)) (l % 128) ≡ 0
     one-entry l h = rw (one-table (l / 128)) (entry-zero (1 + l / 128) (l % 128) (omega arith) (omega (arith, one-cost)) (omega arith))
 
   -- layout 2: Phi names no table
-  two-table : eqb layout 1 ≡ false → (i : ℕ) → i < 112 → tableOf card first i ≡ 0
+  two-table : eqb (format .layout) 1 ≡ false → (i : ℕ) → i < 112 → tableOf card first i ≡ 0
   unfolding tableOf
   two-table two i h = rw two (phi-zero i h)
 
-  entry-by : (z : Bool) → eqb layout 1 ≡ z → (l : ℕ) → l < 128 * tableCount volume → entryOf card first l ≡ 0
+  entry-by : (z : Bool) → eqb (format .layout) 1 ≡ z → (l : ℕ) → l < 128 * tableCount (format .volume) → entryOf card first l ≡ 0
   unfolding entryOf
   entry-by true e l h = pick-nil (eqb (tableOf card first (l / 128)) 0) _ (one-entry e l h)
   entry-by false e l h = rw (two-table e (l / 128) (omega (arith, tables-few)))
 
-  entries-nil : (l : ℕ) → l < 128 * tableCount volume → entryOf card first l ≡ 0
-  entries-nil l h = entry-by (eqb layout 1) refl l h
+  entries-nil : (l : ℕ) → l < 128 * tableCount (format .volume) → entryOf card first l ≡ 0
+  entries-nil l h = entry-by (eqb (format .layout) 1) refl l h
 
   formatted-phi : PhiRules card (first ∷ []) first
   formatted-phi =
@@ -372,7 +373,7 @@ module _ (area : List ℕ) (layout volume : ℕ) (name : List ℕ) (ok : formatt
   rules-at (suc k) h = absurd (omega arith)
 
   -- the card passes
-  pub formatted-passes : Passes (formatted area layout volume name)
+  pub formatted-passes : Passes (formatted area format)
   unfolding chainSound
   formatted-passes =
       record {
@@ -382,31 +383,31 @@ module _ (area : List ℕ) (layout volume : ℕ) (name : List ℕ) (ok : formatt
       }
 
   -- a read gives zeros
-  read-by : (z : Bool) → eqb layout 1 ≡ z → (ds : List Descriptor) (l : ℕ) → l < volume → blockFound card (find card ds first l) ≡ zeroBlock
+  read-by : (z : Bool) → eqb (format .layout) 1 ≡ z → (ds : List Descriptor) (l : ℕ) → l < (format .volume) → blockFound card (find card ds first l) ≡ zeroBlock
   unfolding find entryFound
   read-by true e ds l h = rw (e, one-entry e l (omega (arith, tables-hold))) (nil-read card (inPlace ds first 0) _ _)
   read-by false e ds l h = rw (e, two-table e (l / 128) (omega (arith, tables-few, tables-hold))) (nil-read card (inPlace ds first 0) _ _)
 
-  cells-zero : (n l : ℕ) → l + n ≤ volume → cellsFrom card first n l ≡ replicate n zeroBlock
+  cells-zero : (n l : ℕ) → l + n ≤ (format .volume) → cellsFrom card first n l ≡ replicate n zeroBlock
   unfolding cellsFrom
   cells-zero zero l h = refl
   cells-zero (suc n) l h =
-      rw (read-by (eqb layout 1) refl (descriptorsOf card) l (omega arith))
+      rw (read-by (eqb (format .layout) 1) refl (descriptorsOf card) l (omega arith))
       (ap (λ (cs : List (List ℕ)). zeroBlock ∷ cs) (cells-zero n (suc l) (omega arith)))
 
   -- the ledger: no snapshots and a volume of zeros
-  pub formatted-ledger : ledgerOf (formatted area layout volume name) ≡ record { snapshots = []; active = record { name = name; cells = replicate volume zeroBlock } }
+  pub formatted-ledger : ledgerOf (formatted area format) ≡ record { snapshots = []; active = record { name = (format .name); cells = replicate (format .volume) zeroBlock } }
   unfolding ledgerOf volumesOf volumeOf snapshotsOf activeOf
-  formatted-ledger = rw (formatted-descriptors, cells-zero volume 0 (omega arith))
+  formatted-ledger = rw (formatted-descriptors, cells-zero (format .volume) 0 (omega arith))
 
 -- the claim, whole
 pub format-claim : FormatClaim
 unfolding FormatClaim
-format-claim area layout volume name ok = (
-  formatted-passes area layout volume name ok,
-  formatted-ledger area layout volume name ok,
-  formatted-descriptors area layout volume name ok,
-  formatted-first area layout volume name ok,
-  formatted-zero area layout volume name ok,
-  formatted-rest area layout volume name ok,
+format-claim area format ok = (
+  formatted-passes area format ok,
+  formatted-ledger area format ok,
+  formatted-descriptors area format ok,
+  formatted-first area format ok,
+  formatted-zero area format ok,
+  formatted-rest area format ok,
 )

@@ -24,7 +24,7 @@ length-kept k c false e = rw e
 
 stores-nothing : (x : Kind) (c : List ℕ) → leaves x ≡ true → storeAll c (storesBy x c) ≡ c
 unfolding leaves storesBy storeAll
-stores-nothing (Formats layout volume name) c q = no q
+stores-nothing (Formats format) c q = no q
 stores-nothing Leaves c q = refl
 stores-nothing (Writes l block) c q = no q
 stores-nothing (Snaps name) c q = no q

@@ -1,5 +1,5 @@
 -- What a format, a write, a snap and a revert store: whole blocks of the card, given what their tests have shown.
-use mathlib.Core.Path.{_≡_, refl, sym, _∙_, subst}
+use mathlib.Core.Path.{_≡_, refl, sym, _∙_}
 use mathlib.Core.Bool.{Bool, true, false}
 use mathlib.Core.List.{List, [], _∷_}
 use Prim.Native.Nat.{ℕ, zero, suc, _+_, _*_, _-_, _/_, _%_, _≤_, _<_}
@@ -10,7 +10,7 @@ use borrow.Author.Tests.{eqb-true, eqb-false}
 use Rattle.blocks.specs.Pick.{pick}
 use Rattle.blocks.specs.Bytes.{store, blockCount, blockAt, zeroBlock}
 use Rattle.blocks.specs.Name.{isName}
-use Rattle.blocks.specs.Descriptor.{physical, cost, costOf, descriptorAt, firstOf, headBytes, tailAt, descriptorBlock, renamedOf, linkedOf, extendedOf, reopenedOf, clearing, copying, opening}
+use Rattle.blocks.specs.Descriptor.{physical, costOf, descriptorAt, firstOf, headBytes, tailAt, descriptorBlock, renamedOf, linkedOf, extendedOf, reopenedOf, clearing, copying, opening, costIn}
 use Rattle.blocks.specs.Chain.{Chain, Sound, Unsound, chain, chainSound, indexOf, named, regionsOf, activeOf}
 use Rattle.blocks.specs.declared.numbers.Physical.{Physical}
 use Rattle.blocks.specs.declared.descriptor.Descriptor.{Descriptor}
@@ -32,8 +32,7 @@ use Rattle.calls.proofs.CardLaws.{card-some, card-found, card-active, card-thro
 use Rattle.calls.proofs.WriteLaws.{put-inside, write-ready}
 use Rattle.calls.proofs.Passed.{ReamPassed, WritePassed, SnapPassed, RevertPassed}
 use Rattle.claims.proofs.StoreLists.{Whole, none, also, whole-append}
-use Rattle.calls.proofs.RowLaws.{admission-0}
-use Rattle.calls.specs.Call.{accepted}
+use Rattle.blocks.specs.declared.descriptor.Format.{Format}
 
 pub inside-clearing : (n p k : ℕ) → 512 * (p + k) ≤ n → Whole n (clearing p k)
 unfolding clearing
@@ -51,13 +50,13 @@ unfolding descriptorBlock
 block-whole d tail n t = length-append (headBytes d) tail ∙ omega (arith, head-length d n, t)
 
 -- a format
-module _ (c : List ℕ) (layout volume : ℕ) (name : List ℕ) where
-  ream-inside : isName name ≡ true → cost layout volume ≤ blockCount c → Whole (length c) (opening layout volume name)
+module _ (c : List ℕ) (format : Format) where
+  ream-inside : isName (format .name) ≡ true → costIn format ≤ blockCount c → Whole (length c) (opening format)
   unfolding opening blockCount
   ream-inside called room =
-      let least = cost-least layout volume in
-      whole-append (inside-clearing (length c) 1 (cost layout volume - 1) (omega arith))
-      (also 0 (descriptorBlock (firstOf layout volume name) (replicate 472 0)) (block-whole (firstOf layout volume name) (replicate 472 0) (name-size name called) (length-replicate {A = ℕ} 472 0)) (omega arith) none)
+      let least = cost-least (format .layout) (format .volume) in
+      whole-append (inside-clearing (length c) 1 (costIn format - 1) (omega arith))
+      (also 0 (descriptorBlock (firstOf format) (replicate 472 0)) (block-whole (firstOf format) (replicate 472 0) (name-size (format .name) called) (length-replicate {A = ℕ} 472 0)) (omega arith) none)
 
 -- a write through an entry
 module _ (c : List ℕ) (d : Descriptor) (m p : Physical) (l : ℕ) (block : List ℕ) (ready : WriteReady c d (m .0) (p .0) l block) (called : length (d .name) ≡ 16) where
@@ -168,8 +167,8 @@ module _ (c : List ℕ) (area : areaBad c ≡ false) (sound : chainSound (chain 
     write-inside room = write-by (foundThrough c active l) refl room
 
 -- the stores of each change of a card
-pub ream-whole : (c : List ℕ) (layout volume : ℕ) (name : List ℕ) → ReamPassed c layout volume name → Whole (length c) (opening layout volume name)
-ream-whole c layout volume name h = ream-inside c layout volume name (h .called) (h .room)
+pub ream-whole : (c : List ℕ) (format : Format) → ReamPassed c format → Whole (length c) (opening format)
+ream-whole c format h = ream-inside c format (h .called) (h .room)
 
 pub write-whole : (c : List ℕ) (l : ℕ) (block : List ℕ) → WritePassed c l block → Whole (length c) (writeStores c l block)
 unfolding writeStores

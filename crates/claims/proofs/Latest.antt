@@ -159,7 +159,7 @@ latest-at n c ks r e = at-by n c ks r (latest-some n ks c 0 r Nowhere e)
 -- a snap under the name
 pub snap-kind : (n : List ℕ) (x : Kind) → snapsAs n x ≡ true → x ≡ Snaps n
 unfolding snapsAs
-snap-kind n (Formats layout volume name) e = no e
+snap-kind n (Formats format) e = no e
 snap-kind n Leaves e = no e
 snap-kind n (Writes l block) e = no e
 snap-kind n (Snaps name) e = ap Snaps (same-equal name n e)

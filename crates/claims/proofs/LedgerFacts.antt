@@ -45,6 +45,7 @@ use Rattle.claims.proofs.CheckClaims.{check-claim}
 use Rattle.claims.proofs.ChainBlocks.{table-phi}
 use Rattle.calls.proofs.Passed.{read-passed, list-passed}
 use Rattle.calls.proofs.RowLaws.{admitted, admission-0}
+use Rattle.blocks.specs.declared.descriptor.Format.{Format}
 
 -- what is followed is in place, by the tests of find
 placed-by : (ds : List Descriptor) (d : Descriptor) (m e : ℕ) (o i z : Bool) → (o ≡ true → z ≡ false) → (o ≡ false → i ≡ true) → inPlace ds d (pick z 0 e) ≡ true
@@ -252,13 +253,13 @@ placeless-first (r ∷ rs) e =
     let parts = placeless-row r (placeless rs) e in
     placeless-by (answer (r .number) (r .place)) (firstRow rs) (r .holds) (parts .0) (placeless-first rs (parts .1))
 
-ream-placeless : (c : List ℕ) (layout volume : ℕ) (name : List ℕ) → placeless (rowsOf (Ream layout volume name) c) ≡ true
+ream-placeless : (c : List ℕ) (format : Format) → placeless (rowsOf (Ream format) c) ≡ true
 unfolding placeless rowsOf admission reamRows
-ream-placeless c layout volume name = refl
+ream-placeless c format = refl
 
-pub ream-place : (c : List ℕ) (layout volume : ℕ) (name : List ℕ) → answerOf (Ream layout volume name) c .place ≡ 0
+pub ream-place : (c : List ℕ) (format : Format) → answerOf (Ream format) c .place ≡ 0
 unfolding answerOf
-ream-place c layout volume name = placeless-first (rowsOf (Ream layout volume name) c) (ream-placeless c layout volume name) .0
+ream-place c format = placeless-first (rowsOf (Ream format) c) (ream-placeless c format) .0
 
 -- the rows of each call after admission, where chain and entries are in order
 read-by : (pl h : ℕ) (a b y s v f : Bool) → y ≡ false → (s ≡ false → v ≡ false → f ≡ false)

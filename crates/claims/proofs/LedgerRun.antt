@@ -99,6 +99,6 @@ ledger-claim c ks p s = whole-run ks c (ledgerOf c) refl p s
 -- from a format
 pub format-ledger-claim : FormatLedgerClaim
 unfolding FormatLedgerClaim FormatClaim
-format-ledger-claim area layout volume name can ks s =
-    let f = format-claim area layout volume name can in
-    whole-run ks (formatted area layout volume name) (firstLedger volume name) (f .1) (f .0) s
+format-ledger-claim area format can ks s =
+    let f = format-claim area format can in
+    whole-run ks (formatted area format) (firstLedger format) (f .1) (f .0) s

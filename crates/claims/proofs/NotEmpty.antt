@@ -12,6 +12,7 @@ use Rattle.claims.specs.Bench.{area, fs, mon}
 use Rattle.claims.specs.Example.{exampleCard, exampleCalls}
 use Rattle.claims.proofs.Running.{running}
 use Rattle.claims.proofs.Demand.{demand-3}
+use Rattle.blocks.specs.Descriptor.{asFormat}
 
 fill-bytes : (n v : ℕ) → v < 256 → AreBytes (replicate n v)
 fill-bytes zero v h i = omega arith
@@ -32,11 +33,11 @@ example-standing c =
     (more refl nil-bytes (more refl nil-bytes (more refl nil-bytes none))))))))
 
 -- the area can be formatted so
-pub can-layout-1 : formattable (area 16) 1 200 fs ≡ true
+pub can-layout-1 : formattable (area 16) (asFormat 1 200 fs) ≡ true
 unfolding running formattable
 can-layout-1 = refl
 
-pub can-layout-2 : formattable (area 16) 2 200 fs ≡ true
+pub can-layout-2 : formattable (area 16) (asFormat 2 200 fs) ≡ true
 unfolding running formattable
 can-layout-2 = refl
 
@@ -63,11 +64,11 @@ positionOf Nowhere = 0
 positionOf (At i) = i
 
 -- demand 3 of the example
-module _ (layout : ℕ) (can : formattable (area 16) layout 200 fs ≡ true) (reverted : RevertedAt (exampleCard layout) exampleCalls 6 mon) (latest : latestSnap mon (exampleCard layout) (take 6 exampleCalls) ≡ At 1) where
+module _ (layout : ℕ) (can : formattable (area 16) (asFormat layout 200 fs) ≡ true) (reverted : RevertedAt (exampleCard layout) exampleCalls 6 mon) (latest : latestSnap mon (exampleCard layout) (take 6 exampleCalls) ≡ At 1) where
   matched : Matched (exampleCard layout) exampleCalls 7 (without exampleCalls 1 6) 1
   unfolding Demand3 positionOf
   matched =
-      let r = demand-3 (area 16) layout 200 fs area-bytes can exampleCalls (example-standing (exampleCard layout)) 6 mon reverted in
+      let r = demand-3 (area 16) (asFormat layout 200 fs) area-bytes can exampleCalls (example-standing (exampleCard layout)) 6 mon reverted in
       subst (λ (i : ℕ). Matched (exampleCard layout) exampleCalls 7 (without exampleCalls i 6) i) (ap positionOf (sym (r .2) ∙ latest)) (r .4)
 
 pub forgotten-layout-1 : Matched (exampleCard 1) exampleCalls 7 (without exampleCalls 1 6) 1

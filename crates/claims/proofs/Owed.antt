@@ -27,6 +27,7 @@ use Rattle.claims.proofs.Agreement.{SameRows, ream-rows, read-rows, wri
 use Rattle.claims.proofs.Places.{ream-six, read-six, write-six, snap-six, revert-six, list-six, check-six}
 use Rattle.claims.proofs.Changes.{storesBy, Allowed, to-format, to-leave, to-write, to-snap, to-revert}
 use Rattle.claims.proofs.LedgerFacts.{placeless, ledgerAnswer, read-answer, write-answer, snap-answer, revert-answer, list-answer, check-answer, ream-place, answer-place}
+use Rattle.blocks.specs.declared.descriptor.Format.{Format}
 
 pub record Owed (k : Call) : Type 0 where
   -- an accepted call makes the change of its kind, and the tests have shown what that asks
@@ -49,23 +50,23 @@ pub record Owed (k : Call) : Type 0 where
   pub placeless : (g : Ledger) → placeless (ledgerRows k g) ≡ true
   pub place : (c : List ℕ) → Passes c → answerOf k c .place ≡ 0
 
-ream-owed : (layout volume : ℕ) (name : List ℕ) → Owed (Ream layout volume name)
+ream-owed : (format : Format) → Owed (Ream format)
 unfolding storesOf storesBy kindOf isFormat isReam answerOf rowsOf admission reamRows areaBad blockCount lentOf lentAtEntry filledOf givenOf fresh ledgerRows placeless
-ream-owed layout volume name =
+ream-owed format =
     record {
       stores = λ c. refl;
-      allowed = λ c e. to-format (ream-passed c layout volume name e);
+      allowed = λ c e. to-format (ream-passed c format e);
       format = λ s t e. rw e;
       lent = refl;
       unfilled = λ q c. refl;
-      room = λ c e. absurd (fresh-never (rowsOf (Ream layout volume name) c) 11 refl (omega arith) e);
-      unsound = λ c q. ream-six c q layout volume name;
-      rows = λ s t g. ream-rows s t g layout volume name;
+      room = λ c e. absurd (fresh-never (rowsOf (Ream format) c) 11 refl (omega arith) e);
+      unsound = λ c q. ream-six c q format;
+      rows = λ s t g. ream-rows s t g format;
       filled = λ s t g e. refl;
       given = λ s t g e. refl;
       ledger = λ c p q. no (sym q);
       placeless = λ g. refl;
-      place = λ c p. ream-place c layout volume name;
+      place = λ c p. ream-place c format;
     }
 
 read-owed : (target : Target) (name : List ℕ) (l : ℕ) (block : List ℕ) → Owed (Read target name l block)
@@ -183,7 +184,7 @@ check-owed =
     }
 
 pub owed : (k : Call) → Owed k
-owed (Ream layout volume name) = ream-owed layout volume name
+owed (Ream format) = ream-owed format
 owed (Read target name l block) = read-owed target name l block
 owed (Write l block) = write-owed l block
 owed (Snap name) = snap-owed name

@@ -34,6 +34,7 @@ use Rattle.calls.proofs.CardLaws.{chain-is}
 use Rattle.claims.proofs.Agreement.{target-member}
 use Rattle.claims.proofs.ChainBlocks.{layout-two}
 use Rattle.calls.specs.declared.answer.Record.{Record}
+use Rattle.blocks.specs.declared.descriptor.Format.{Format}
 
 -- no row of a list holds
 unfoldable clear : List Row → Bool
@@ -192,10 +193,10 @@ module _ (c : List ℕ) (q : ℕ) where
   six-by : (k : Call) (xs ys : List Row) → rowsOf k c ≡ xs ++ (chainRow c ∷ ys) → fresh 6 xs ≡ true → fresh 6 ys ≡ true → clear xs ≡ comesToChain k c → SixExactly k
   six-by k xs ys is f g h = (six k xs ys is f g h, six-given k xs ys is h)
 
-  pub ream-six : (layout volume : ℕ) (name : List ℕ) → SixExactly (Ream layout volume name)
+  pub ream-six : (format : Format) → SixExactly (Ream format)
   unfolding answerOf rowsOf admission reamRows fresh comesToChain
-  ream-six layout volume name = (
-    λ e. absurd (fresh-never (rowsOf (Ream layout volume name) c) 6 refl (λ z. omega arith) (ap (λ (a : Answer). a .number) e)),
+  ream-six format = (
+    λ e. absurd (fresh-never (rowsOf (Ream format) c) 6 refl (λ z. omega arith) (ap (λ (a : Answer). a .number) e)),
     λ s. no (s .0),
   )
 

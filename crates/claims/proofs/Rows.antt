@@ -9,7 +9,7 @@ use borrow.Author.Tests.{lt-ltb, le-ltb, le-leb, lt-leb, eqb-true, eqb-false, lt
 use Rattle.blocks.specs.Pick.{pick}
 use Rattle.blocks.specs.Bytes.{blockCount}
 use Rattle.blocks.specs.Name.{isName}
-use Rattle.blocks.specs.Descriptor.{cost}
+use Rattle.blocks.specs.Descriptor.{costIn}
 use Rattle.calls.specs.Parts.{areaBad}
 use Rattle.calls.specs.declared.answer.Answer.{Answer}
 use Rattle.calls.specs.Call.{Ream, answer, accepted}
@@ -19,6 +19,7 @@ use Rattle.calls.specs.Step.{step, isAccepted}
 use Rattle.claims.specs.History.{formattable, formatted}
 use Rattle.claims.specs.Claims.{ReamClaim, TableClaim}
 use Rattle.calls.proofs.RowLaws.{rows-numbered, given, gives, none, all-passed}
+use Rattle.blocks.specs.declared.descriptor.Format.{Format}
 
 pub table-claim : TableClaim
 unfolding TableClaim answerOf
@@ -48,16 +49,16 @@ at-most : (v m : ℕ) (t : Bool) → ltb m v ≡ t → not t ≡ leb v m
 at-most v m true e = sym (lt-leb v m (ltb-true m v e))
 at-most v m false e = sym (le-leb v m (ltb-false m v e))
 
-ream-accepted : (area : List ℕ) (layout volume : ℕ) (name : List ℕ) → isAccepted (answerOf (Ream layout volume name) area) ≡ formattable area layout volume name
+ream-accepted : (area : List ℕ) (format : Format) → isAccepted (answerOf (Ream format) area) ≡ formattable area format
 unfolding answerOf rowsOf admission reamRows firstRow formattable
-ream-accepted area layout volume name =
-    ream-by (areaBad area) (eqb layout 1 || eqb layout 2) (eqb volume 0) (ltb 14336 volume) (isName name) (ltb (blockCount area) (cost layout volume))
-    ∙ rw (positive volume (eqb volume 0) refl, at-most volume 14336 (ltb 14336 volume) refl, at-most (cost layout volume) (blockCount area) (ltb (blockCount area) (cost layout volume)) refl)
+ream-accepted area format =
+    ream-by (areaBad area) (eqb (format .layout) 1 || eqb (format .layout) 2) (eqb (format .volume) 0) (ltb 14336 (format .volume)) (isName (format .name)) (ltb (blockCount area) (costIn format))
+    ∙ rw (positive (format .volume) (eqb (format .volume) 0) refl, at-most (format .volume) 14336 (ltb 14336 (format .volume)) refl, at-most (costIn format) (blockCount area) (ltb (blockCount area) (costIn format)) refl)
 
-ream-formats : (area : List ℕ) (layout volume : ℕ) (name : List ℕ) → isAccepted (answerOf (Ream layout volume name) area) ≡ true → step (Ream layout volume name) area .card ≡ formatted area layout volume name
+ream-formats : (area : List ℕ) (format : Format) → isAccepted (answerOf (Ream format) area) ≡ true → step (Ream format) area .card ≡ formatted area format
 unfolding step storesOf formatted
-ream-formats area layout volume name e = rw e
+ream-formats area format e = rw e
 
 pub ream-claim : ReamClaim
 unfolding ReamClaim
-ream-claim area layout volume name = (ream-accepted area layout volume name, λ e. ream-formats area layout volume name (ream-accepted area layout volume name ∙ e))
+ream-claim area format = (ream-accepted area format, λ e. ream-formats area format (ream-accepted area format ∙ e))

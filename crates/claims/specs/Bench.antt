@@ -9,6 +9,7 @@ use Rattle.calls.specs.declared.answer.Target.the-variants.{Active}
 use Rattle.calls.specs.Call.{Call, Ream, Read, Write, Snap, Revert, Listing, Lent, None, Block, Records, answer}
 use Rattle.calls.specs.Step.{Done, step}
 use Rattle.claims.specs.History.{betaOf, formatted}
+use Rattle.blocks.specs.Descriptor.{asFormat}
 
 -- what a value says besides number and place: nothing, the card's beta after the call, or the block that was read
 pub data Shown : Type 0 where
@@ -62,10 +63,10 @@ tue = padded (116 ∷ 117 ∷ 101 ∷ [])
 
 -- layout 1, L 129, N 3; layout 2, L 14,336, N 2, and the same after a snap
 abbrev pub small1 : List ℕ
-small1 = formatted (area 3) 1 129 fs
+small1 = formatted (area 3) (asFormat 1 129 fs)
 
 abbrev pub small2 : List ℕ
-small2 = formatted (area 2) 2 14336 fs
+small2 = formatted (area 2) (asFormat 2 14336 fs)
 
 abbrev pub snapped2 : List ℕ
 snapped2 = step (Snap mon) small2 .card
@@ -81,8 +82,8 @@ letters n = replicate n 97
 unfoldable pub values : List Value
 values =
     -- layout 1, L 129: N 3 accepted, beta 3; N 2: 5
-    record { card = area 3; call = Ream 1 129 fs; answer = answer 0 0; shown = Beta 3 }
-    ∷ record { card = area 2; call = Ream 1 129 fs; answer = answer 5 0; shown = Only }
+    record { card = area 3; call = Ream (asFormat 1 129 fs); answer = answer 0 0; shown = Beta 3 }
+    ∷ record { card = area 2; call = Ream (asFormat 1 129 fs); answer = answer 5 0; shown = Only }
     -- on the first, write: 11; read 128: zeros; read 129: 8
     ∷ record { card = small1; call = Write 0 ones; answer = answer 11 0; shown = Only }
     ∷ record { card = small1; call = Read Active noName 128 lent; answer = answer 0 0; shown = Bytes zeroBlock }
@@ -92,9 +93,9 @@ values =
     ∷ record { card = small2; call = Snap mon; answer = answer 0 0; shown = Beta 2 }
     ∷ record { card = snapped2; call = Snap tue; answer = answer 11 0; shown = Only }
     -- L 14,337: 3; a name of 17 bytes: 4, and 16 passes
-    ∷ record { card = area 2; call = Ream 2 14337 fs; answer = answer 3 0; shown = Only }
-    ∷ record { card = area 2; call = Ream 2 14336 (padded (letters 17)); answer = answer 4 0; shown = Only }
-    ∷ record { card = area 2; call = Ream 2 14336 (padded (letters 16)); answer = answer 0 0; shown = Only }
+    ∷ record { card = area 2; call = Ream (asFormat 2 14337 fs); answer = answer 3 0; shown = Only }
+    ∷ record { card = area 2; call = Ream (asFormat 2 14336 (padded (letters 17))); answer = answer 4 0; shown = Only }
+    ∷ record { card = area 2; call = Ream (asFormat 2 14336 (padded (letters 16))); answer = answer 0 0; shown = Only }
     -- revert to the active name: 7; snap with it: 12
     ∷ record { card = small2; call = Revert fs; answer = answer 7 0; shown = Only }
     ∷ record { card = small2; call = Snap fs; answer = answer 12 0; shown = Only }

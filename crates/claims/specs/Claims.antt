@@ -11,7 +11,7 @@ use Rattle.blocks.specs.Pick.{pick, same}
 use lib.Dec.{eqb}
 use Rattle.blocks.specs.Bytes.{blockSize, blockCount, blockAt, zeroBlock}
 use Rattle.blocks.specs.Name.{isName}
-use Rattle.blocks.specs.Descriptor.{physical, noDescriptor, tableSize, tableCount, cost, costOf, firstOf, descriptorAt, descriptorBlock, renamedOf, linkedOf, extendedOf, reopenedOf}
+use Rattle.blocks.specs.Descriptor.{physical, noDescriptor, tableSize, tableCount, costOf, firstOf, descriptorAt, descriptorBlock, renamedOf, linkedOf, extendedOf, reopenedOf, costIn}
 use Rattle.blocks.specs.Chain.{Sound, Unsound, sound, chain, chainSound, indexOf, named, activeOf}
 use Rattle.blocks.specs.declared.descriptor.Descriptor.{Descriptor}
 use Rattle.entries.specs.InPlace.{inPlace}
@@ -30,6 +30,7 @@ use Rattle.calls.specs.Step.{step, after, outcomes, isAccepted}
 use Rattle.claims.specs.Kinds.{Kind, Formats, Leaves, Writes, Snaps, Reverts, kindOf}
 use Rattle.claims.specs.History.{betaOf, Agree, isReam, isFormat, AreBytes, Standing, isSnapOf, Position, Nowhere, At, latestSnap, without, formattable, formatted}
 use Rattle.claims.specs.Ledger.{Ledger, ledgerStep, ledgerNumber, cellRead, ledgerNames, ledgerOf}
+use Rattle.blocks.specs.declared.descriptor.Format.{Format}
 
 -- Areas and names.
 
@@ -45,7 +46,7 @@ NameClaim = (a b : List ℕ) → (same a b ≡ true) ↔ (a ≡ b)
 
 -- the blocks that a call takes on a card: a write's need, a snap's c
 unfoldable pub blocksTaken : Kind → List ℕ → ℕ
-blocksTaken (Formats layout volume name) c = 0
+blocksTaken (Formats format) c = 0
 blocksTaken Leaves c = 0
 blocksTaken (Writes l block) c = let d = activeOf (descriptorsOf c) in need (d .alpha .0) (foundThrough c d l)
 blocksTaken (Snaps name) c = costOf (activeOf (descriptorsOf c))
@@ -57,7 +58,7 @@ blocksNeeded k c = blocksTaken (kindOf k) c
 
 -- what is lent to a call at its entry, besides the card: the block of a read or of a write, the records of a listing
 unfoldable pub lentAtEntry : Call → Lent
-lentAtEntry (Ream layout volume name) = None
+lentAtEntry (Ream format) = None
 lentAtEntry (Read target name l block) = Block block
 lentAtEntry (Write l block) = Block block
 lentAtEntry (Snap name) = None
@@ -75,9 +76,9 @@ RefusalClaim =
 -- A ream is accepted exactly where the area can be formatted so, whatever it holds, and leaves the format.
 unfoldable pub ReamClaim : Type 0
 ReamClaim =
-    (area : List ℕ) (layout volume : ℕ) (name : List ℕ)
-    → (isAccepted (answerOf (Ream layout volume name) area) ≡ formattable area layout volume name)
-    × (formattable area layout volume name ≡ true → step (Ream layout volume name) area .card ≡ formatted area layout volume name)
+    (area : List ℕ) (format : Format)
+    → (isAccepted (answerOf (Ream format) area) ≡ formattable area format)
+    × (formattable area format ≡ true → step (Ream format) area .card ≡ formatted area format)
 
 -- The whole chain after an accepted call: a write moves the active beta by its need, a snap opens a region of c blocks at beta, a revert goes back to
 -- the snapshot's region, with those before it. The active name stays, and every other descriptor is as it was.
@@ -106,7 +107,7 @@ SoundClaim =
 
 -- a call that stores nothing; a call that fills what is lent
 unfoldable pub leaves : Kind → Bool
-leaves (Formats layout volume name) = false
+leaves (Formats format) = false
 leaves Leaves = true
 leaves (Writes l block) = false
 leaves (Snaps name) = false
@@ -117,7 +118,7 @@ unfolding kindOf leaves
 storesNothing k = leaves (kindOf k)
 
 unfoldable pub fills : Call → Bool
-fills (Ream layout volume name) = false
+fills (Ream format) = false
 fills (Read target name l block) = true
 fills (Write l block) = false
 fills (Snap name) = false
@@ -178,7 +179,7 @@ pub data Chained (c : List ℕ) : List Descriptor → ℕ → List Descriptor �
 
 -- whether a call comes to the chain: the area is a card, a name that is given is one, the caller's block has 512 bytes. A ream never does
 unfoldable pub comesToChain : Call → List ℕ → Bool
-comesToChain (Ream layout volume name) c = false
+comesToChain (Ream format) c = false
 comesToChain (Read target name l block) c = not (areaBad c) && (not (isSnapshot target) || isName name) && eqb (length block) blockSize
 comesToChain (Write l block) c = not (areaBad c) && eqb (length block) blockSize
 comesToChain (Snap name) c = not (areaBad c) && isName name
@@ -311,26 +312,26 @@ LedgerClaim =
     × (ledgerOf (after ks c) ≡ ledgerAfter ks c (ledgerOf c))
 
 -- the ledger that a format starts: no snapshots, and a volume of zeros
-abbrev pub firstLedger : ℕ → List ℕ → Ledger
-firstLedger volume name = record { snapshots = []; active = record { name = name; cells = replicate volume zeroBlock } }
+abbrev pub firstLedger : Format → Ledger
+firstLedger format = record { snapshots = []; active = record { name = format .name; cells = replicate (format .volume) zeroBlock } }
 
 -- From a format the ledger starts with no snapshots and a volume of zeros, and the card passes, whatever the area held.
 unfoldable pub FormatClaim : Type 0
 FormatClaim =
-    (area : List ℕ) (layout volume : ℕ) (name : List ℕ) → formattable area layout volume name ≡ true
-    → Passes (formatted area layout volume name)
-    × (ledgerOf (formatted area layout volume name) ≡ firstLedger volume name)
-    × (descriptorsOf (formatted area layout volume name) ≡ firstOf layout volume name ∷ [])
-    × (blockAt (formatted area layout volume name) 0 ≡ descriptorBlock (firstOf layout volume name) (replicate 472 0))
-    × ((p : ℕ) → 0 < p → p < cost layout volume → blockAt (formatted area layout volume name) p ≡ zeroBlock)
-    × (drop (blockSize * cost layout volume) (formatted area layout volume name) ≡ drop (blockSize * cost layout volume) area)
+    (area : List ℕ) (format : Format) → formattable area format ≡ true
+    → Passes (formatted area format)
+    × (ledgerOf (formatted area format) ≡ firstLedger format)
+    × (descriptorsOf (formatted area format) ≡ firstOf format ∷ [])
+    × (blockAt (formatted area format) 0 ≡ descriptorBlock (firstOf format) (replicate 472 0))
+    × ((p : ℕ) → 0 < p → p < costIn format → blockAt (formatted area format) p ≡ zeroBlock)
+    × (drop (blockSize * costIn format) (formatted area format) ≡ drop (blockSize * costIn format) area)
 
 -- From a format, whatever the area held, every run matches the ledger that starts with no snapshots and a volume of zeros.
 unfoldable pub FormatLedgerClaim : Type 0
 FormatLedgerClaim =
-    (area : List ℕ) (layout volume : ℕ) (name : List ℕ) → formattable area layout volume name ≡ true
-    → let c = formatted area layout volume name in
-    let g = firstLedger volume name in
+    (area : List ℕ) (format : Format) → formattable area format ≡ true
+    → let c = formatted area format in
+    let g = firstLedger format in
     (ks : List Call) → Standing c ks
     → ((i : ℕ) → i < length ks → LedgerStep (getD ks i Check) (after (take i ks) c) (ledgerAfter (take i ks) c g))
     × Passes (after ks c)
@@ -380,16 +381,16 @@ RollbackClaim =
 -- On a card that a format made, whatever the area held, every accepted revert has "that visit's latest accepted snapshot".
 unfoldable pub SnapshotClaim : Type 0
 SnapshotClaim =
-    (area : List ℕ) (layout volume : ℕ) (name : List ℕ) → formattable area layout volume name ≡ true
-    → (ks : List Call) → Standing (formatted area layout volume name) ks
-    → (k : ℕ) (v : List ℕ) → RevertedAt (formatted area layout volume name) ks k v
-    → (i : ℕ) × (i < k) × (latestSnap v (formatted area layout volume name) (take k ks) ≡ At i) × LastSnap v (formatted area layout volume name) (take k ks) i
+    (area : List ℕ) (format : Format) → formattable area format ≡ true
+    → (ks : List Call) → Standing (formatted area format) ks
+    → (k : ℕ) (v : List ℕ) → RevertedAt (formatted area format) ks k v
+    → (i : ℕ) × (i < k) × (latestSnap v (formatted area format) (take k ks) ≡ At i) × LastSnap v (formatted area format) (take k ks) i
 
 -- Demand 3, whole: the list starts from all N blocks as an accepted ream left them, in either layout.
 unfoldable pub Demand3 : Type 0
 Demand3 =
-    (area : List ℕ) (layout volume : ℕ) (name : List ℕ) → AreBytes area → formattable area layout volume name ≡ true
-    → (ks : List Call) → Standing (formatted area layout volume name) ks
-    → (k : ℕ) (v : List ℕ) → RevertedAt (formatted area layout volume name) ks k v
-    → (i : ℕ) × (i < k) × (latestSnap v (formatted area layout volume name) (take k ks) ≡ At i) × LastSnap v (formatted area layout volume name) (take k ks) i
-    × Matched (formatted area layout volume name) ks (suc k) (without ks i k) i
+    (area : List ℕ) (format : Format) → AreBytes area → formattable area format ≡ true
+    → (ks : List Call) → Standing (formatted area format) ks
+    → (k : ℕ) (v : List ℕ) → RevertedAt (formatted area format) ks k v
+    → (i : ℕ) × (i < k) × (latestSnap v (formatted area format) (take k ks) ≡ At i) × LastSnap v (formatted area format) (take k ks) i
+    × Matched (formatted area format) ks (suc k) (without ks i k) i

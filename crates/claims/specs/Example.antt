@@ -9,10 +9,11 @@ use Rattle.calls.specs.declared.answer.Record.{Record}
 use Rattle.calls.specs.Call.{Call, Read, Write, Snap, Revert, Listing, Lent, None, Block, Records, Outcome, accepted, NoneGiven}
 use Rattle.claims.specs.History.{formatted}
 use Rattle.claims.specs.Bench.{area, fs, mon, lent}
+use Rattle.blocks.specs.Descriptor.{asFormat}
 
 -- blocks=16 volume=200 name=fs, in a layout
 abbrev pub exampleCard : ℕ → List ℕ
-exampleCard layout = formatted (area 16) layout 200 fs
+exampleCard layout = formatted (area 16) (asFormat layout 200 fs)
 
 -- 512 bytes of a value, as a write of that fill lends
 abbrev pub fill : ℕ → List ℕ

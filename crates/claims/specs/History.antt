@@ -8,13 +8,14 @@ use lib.Dec.{eqb, ltb, leb}
 use Rattle.blocks.specs.Pick.{pick, same}
 use Rattle.blocks.specs.Bytes.{blockSize, blockCount, storeAll}
 use Rattle.blocks.specs.Name.{isName}
-use Rattle.blocks.specs.Descriptor.{cost, mostVolume, opening}
+use Rattle.blocks.specs.Descriptor.{mostVolume, opening, costIn}
 use Rattle.blocks.specs.Chain.{chain, chainSound, activeOf}
 use Rattle.calls.specs.Call.{Call}
 use Rattle.calls.specs.Parts.{areaBad, descriptorsOf}
 use Rattle.calls.specs.Meaning.{answerOf}
 use Rattle.calls.specs.Step.{step, isAccepted}
 use Rattle.claims.specs.Kinds.{Kind, Formats, Leaves, Writes, Snaps, Reverts, kindOf}
+use Rattle.blocks.specs.declared.descriptor.Format.{Format}
 
 -- beta, the active descriptor's
 unfoldable pub betaOf : List ℕ → ℕ
@@ -30,7 +31,7 @@ pub record Agree (s t : List ℕ) : Type 0 where
 
 -- whether a call is a ream
 unfoldable pub formats : Kind → Bool
-formats (Formats layout volume name) = true
+formats (Formats format) = true
 formats Leaves = false
 formats (Writes l block) = false
 formats (Snaps name) = false
@@ -50,7 +51,7 @@ AreBytes bytes = (i : ℕ) → getD bytes i 0 < 256
 
 -- what a write puts on the card
 unfoldable pub bytesOf : Kind → List ℕ
-bytesOf (Formats layout volume name) = []
+bytesOf (Formats format) = []
 bytesOf Leaves = []
 bytesOf (Writes l block) = block
 bytesOf (Snaps name) = []
@@ -67,7 +68,7 @@ pub data Standing (c : List ℕ) : List Call → Type 0 where
 
 -- whether a call is a snap under the name
 unfoldable pub snapsAs : List ℕ → Kind → Bool
-snapsAs name (Formats layout volume n) = false
+snapsAs name (Formats format) = false
 snapsAs name Leaves = false
 snapsAs name (Writes l block) = false
 snapsAs name (Snaps n) = same n name
@@ -97,10 +98,10 @@ unfoldable pub without : List Call → ℕ → ℕ → List Call
 without ks i k = take i ks ++ drop (suc k) ks
 
 -- what a card can be formatted to: the area is a card, and layout, L, name and c are those of one
-unfoldable pub formattable : List ℕ → ℕ → ℕ → List ℕ → Bool
-formattable area layout volume name =
-    not (areaBad area) && (eqb layout 1 || eqb layout 2) && ltb 0 volume && leb volume mostVolume && isName name && leb (cost layout volume) (blockCount area)
+unfoldable pub formattable : List ℕ → Format → Bool
+formattable area format =
+    not (areaBad area) && (eqb (format .layout) 1 || eqb (format .layout) 2) && ltb 0 (format .volume) && leb (format .volume) mostVolume && isName (format .name) && leb (costIn format) (blockCount area)
 
 -- all N blocks as an accepted ream leaves them, whatever the untouched blocks held
-unfoldable pub formatted : List ℕ → ℕ → ℕ → List ℕ → List ℕ
-formatted area layout volume name = storeAll area (opening layout volume name)
+unfoldable pub formatted : List ℕ → Format → List ℕ
+formatted area format = storeAll area (opening format)

@@ -2,17 +2,18 @@
 use mathlib.Core.List.{List}
 use Prim.Native.Nat.{ℕ}
 use Rattle.calls.specs.Call.{Call, Ream, Read, Write, Snap, Revert, Listing, Check}
+use Rattle.blocks.specs.declared.descriptor.Format.{Format}
 
 -- a call formats the card, leaves it as it is, writes a block, takes a snapshot or goes back to one
 pub data Kind : Type 0 where
-  Formats : (layout volume : ℕ) → (name : List ℕ) → Kind
+  Formats : (format : Format) → Kind
   Leaves : Kind
   Writes : (l : ℕ) → (block : List ℕ) → Kind
   Snaps : (name : List ℕ) → Kind
   Reverts : (name : List ℕ) → Kind
 
 unfoldable pub kindOf : Call → Kind
-kindOf (Ream layout volume name) = Formats layout volume name
+kindOf (Ream format) = Formats format
 kindOf (Read target name l block) = Leaves
 kindOf (Write l block) = Writes l block
 kindOf (Snap name) = Snaps name

@@ -42,7 +42,7 @@ volumesBefore (v ∷ vs) name = pick (same (v .name) name) [] (v ∷ volumesBefo
 
 -- what an accepted call makes of the ledger
 unfoldable pub ledgerChange : Kind → Ledger → Ledger
-ledgerChange (Formats layout volume name) g = g
+ledgerChange (Formats format) g = g
 ledgerChange Leaves g = g
 ledgerChange (Writes l block) g = record { snapshots = g .snapshots; active = record { name = g .active .name; cells = set (g .active .cells) l block } }
 ledgerChange (Snaps name) g = record { snapshots = g .snapshots ++ (record { name = name; cells = g .active .cells } ∷ []); active = g .active }
@@ -54,7 +54,7 @@ ledgerStep k g = ledgerChange (kindOf k) g
 
 -- the rows of 01's table that a ledger can judge: 4, 9, 7, 12, 13, 8, 14
 unfoldable pub ledgerRows : Call → Ledger → List Row
-ledgerRows (Ream layout volume name) g = []
+ledgerRows (Ream format) g = []
 ledgerRows (Read target name l block) g =
     row (isSnapshot target && not (isName name)) 4 0
     ∷ blockRow block

@@ -12,6 +12,7 @@ use Rattle.calls.specs.Meaning.{rowsOf, answerOf}
 use Rattle.claims.specs.Bench.{Value, Result, expected, computed}
 use Rattle.edges.specs.Edges.{only, named4, region6, shared4, snapped, pair, old, tables2, areaEdges, refusedEdges, nameEdges, formEdges, chainEdges, entryEdges, openingEdges, tableEdges, faultEdges, walkEdges, threeEdges, passingEdges, roomEdges, orderEdges, edges, allowed, NameBytes, SizeEdges}
 use Rattle.edges.proofs.FastCheck.{quick, quick-all, runningOnce}
+use Rattle.blocks.specs.Descriptor.{asFormat}
 
 -- the values of a list are as the table says; so are those of two lists
 record AsSaid (vs : List Value) : Type 0 where
@@ -156,7 +157,7 @@ name-bytes = (refl, refl)
 -- the first row of every call
 area-first : (c : List ℕ) → areaBad c ≡ true → (k : Call) → answerOf k c ≡ answer 1 0
 unfolding answerOf rowsOf admission firstRow reamRows readRows writeRows snapRows revertRows listRows checkRows
-area-first c bad (Ream layout volume name) = rw bad refl
+area-first c bad (Ream format) = rw bad refl
 area-first c bad (Read target name l block) = rw bad refl
 area-first c bad (Write l block) = rw bad refl
 area-first c bad (Snap name) = rw bad refl
@@ -172,7 +173,7 @@ area-over : (c : List ℕ) → length c ≡ 33554944 → areaBad c ≡ true
 unfolding areaBad blockCount
 area-over c e = rw e refl
 
-layout-first : (c : List ℕ) → areaBad c ≡ false → (volume : ℕ) (name : List ℕ) → answerOf (Ream 3 volume name) c ≡ answer 2 0
+layout-first : (c : List ℕ) → areaBad c ≡ false → (volume : ℕ) (name : List ℕ) → answerOf (Ream (asFormat 3 volume name)) c ≡ answer 2 0
 unfolding answerOf rowsOf admission firstRow reamRows
 layout-first c good volume name = rw good refl
 

@@ -128,7 +128,7 @@ shownBy a c k s = record { answer = a; shown = showing s (step k c) }
 
 -- the same, with the answer of check computed as above, of the other calls as the ladder says
 unfoldable pub resultBy : (c : List ℕ) (s : Shown) (k : Call) → (r : Result) × (shownBy (answerOf k c) c k s ≡ r)
-resultBy c s (Ream layout volume name) = (shownBy (answerOf (Ream layout volume name) c) c (Ream layout volume name) s, refl)
+resultBy c s (Ream format) = (shownBy (answerOf (Ream format) c) c (Ream format) s, refl)
 resultBy c s (Read target name l block) = (shownBy (answerOf (Read target name l block) c) c (Read target name l block) s, refl)
 resultBy c s (Write l block) = (shownBy (answerOf (Write l block) c) c (Write l block) s, refl)
 resultBy c s (Snap name) = (shownBy (answerOf (Snap name) c) c (Snap name) s, refl)

@@ -9,7 +9,7 @@ use lib.ListN.{length, replicate, set}
 use Rattle.blocks.specs.Pick.{pick}
 use Rattle.blocks.specs.Bytes.{le32, zeroBlock}
 use Rattle.blocks.specs.Name.{nameByte, isName, padded, noName}
-use Rattle.blocks.specs.Descriptor.{physical, descriptorBlock}
+use Rattle.blocks.specs.Descriptor.{physical, descriptorBlock, asFormat}
 use Rattle.blocks.specs.declared.descriptor.Descriptor.{Descriptor}
 use Rattle.calls.specs.declared.answer.Target.the-variants.{Active, Snapshot}
 use Rattle.calls.specs.Call.{Call, Ream, Read, Write, Snap, Revert, Listing, Check, answer}
@@ -204,7 +204,7 @@ refusing card call number place block = record { card = card; call = call; answe
 unfoldable pub areaEdges : List Value
 areaEdges =
     -- one block, with each call but a read, which stands below
-    only single (Ream 2 1 fs) 1 0
+    only single (Ream (asFormat 2 1 fs)) 1 0
     ∷ only single (Write 0 ones) 1 0
     ∷ only single (Snap mon) 1 0
     ∷ only single (Revert mon) 1 0
@@ -507,9 +507,9 @@ passingEdges =
 unfoldable pub roomEdges : List Value
 roomEdges =
     -- a ream of layout 0, with c = N, and with c = N + 1
-    only (area 2) (Ream 0 1 fs) 2 0
-    ∷ showingBeta (area 2) (Ream 1 128 fs) 2
-    ∷ only (area 2) (Ream 1 129 fs) 5 0
+    only (area 2) (Ream (asFormat 0 1 fs)) 2 0
+    ∷ showingBeta (area 2) (Ream (asFormat 1 128 fs)) 2
+    ∷ only (area 2) (Ream (asFormat 1 129 fs)) 5 0
     -- need 0 at beta = N
     ∷ showingBeta (four 1 4 1 2 0) (Write 0 ones) 4
     -- need 1 at beta = N - 1 and at N
@@ -531,12 +531,12 @@ roomEdges =
 unfoldable pub orderEdges : List Value
 orderEdges =
     -- 1 before all; 2 before 3, 3 before 4 and 5, 4 before 5
-    only (replicate 1025 0) (Ream 9 0 []) 1 0
-    ∷ only (area 2) (Ream 3 0 noName) 2 0
-    ∷ only (area 2) (Ream 2 0 noName) 3 0
-    ∷ only (area 2) (Ream 1 14337 noName) 3 0
-    ∷ only (area 2) (Ream 2 1 noName) 4 0
-    ∷ only (area 2) (Ream 1 129 noName) 4 0
+    only (replicate 1025 0) (Ream (asFormat 9 0 [])) 1 0
+    ∷ only (area 2) (Ream (asFormat 3 0 noName)) 2 0
+    ∷ only (area 2) (Ream (asFormat 2 0 noName)) 3 0
+    ∷ only (area 2) (Ream (asFormat 1 14337 noName)) 3 0
+    ∷ only (area 2) (Ream (asFormat 2 1 noName)) 4 0
+    ∷ only (area 2) (Ream (asFormat 1 129 noName)) 4 0
     -- 4 before 9, 9 before 6
     ∷ only (area 2) (Read Snapshot noName 9 []) 4 0
     ∷ only (area 2) (Read Snapshot mon 9 []) 9 0
@@ -609,5 +609,5 @@ NameBytes = (allowed nameByte 256 ≡ nameBytes) × (allowed (λ (b : ℕ). isNa
 unfoldable pub SizeEdges : Type 0
 SizeEdges =
     (c : List ℕ)
-    → (length c ≡ 512 * 65536 → (volume : ℕ) (name : List ℕ) → answerOf (Ream 3 volume name) c ≡ answer 2 0)
+    → (length c ≡ 512 * 65536 → (volume : ℕ) (name : List ℕ) → answerOf (Ream (asFormat 3 volume name)) c ≡ answer 2 0)
     × (length c ≡ 512 * 65537 → (k : Call) → answerOf k c ≡ answer 1 0)

@@ -1,4 +1,5 @@
 // One line of a work sheet.
+use blocks::descriptor::Format;
 use blocks::numbers::Logical;
 use calls::answer::Answer;
 use calls::answer::Record;
@@ -34,7 +35,12 @@ fn run_ream(
     ensures { λ r. ⌜ record { ran = r; area = now (area .exit) } ≡ afterCall (record { area = now (area .entry); blocks = blocks; records = records }) (SheetCall.Ream layout size volume) name ⌝ }
 {
     let end = 512 * (size as usize);
-    let answer = ream::ream(&mut area[..end], layout, volume, name);
+    let format = Format {
+        layout,
+        volume,
+        name,
+    };
+    let answer = ream::ream(&mut area[..end], format);
     let refusal = answer.number;
     if refusal != 0 {
         return Ran {

@@ -1,6 +1,7 @@
 // The static library that C and Rust programs link: the seven calls and the padding of a name, on numbers and lent bytes.
 // Each call returns the number of its answer and stores the place; its contract is one equation, by the calls' `step`, the listing's by `listingOf`.
 use blocks::descriptor;
+use blocks::descriptor::Format;
 use blocks::name;
 use blocks::numbers::Logical;
 use boundary::argument;
@@ -17,6 +18,7 @@ use writes::write;
 ghost use mathlib.Core.Path.{_≡_};
 ghost use Rattle.calls.specs.Call.{Ream, Read, Write, Snap, Revert, Check, None, Block, answer};
 ghost use Rattle.calls.specs.Step.{step};
+ghost use Rattle.blocks.specs.Descriptor.{asFormat};
 ghost use Rattle.boundary.specs.Exported.{exported, nameIn, targetIn, paddingOf};
 ghost use Rattle.boundary.specs.RecordBytes.{listingOf};
 
@@ -29,9 +31,15 @@ pub extern "C" fn mantreuy_ream(
     name: &[u8],
     place: &mut u32,
 ) -> u32
-    ensures { λ r. ⌜ exported r (now (place .exit)) None (now (card .exit)) ≡ step (Ream layout volume (nameIn (now (name .entry)))) (now (card .entry)) ⌝ }
+    ensures { λ r. ⌜ exported r (now (place .exit)) None (now (card .exit)) ≡ step (Ream (asFormat layout volume (nameIn (now (name .entry))))) (now (card .entry)) ⌝ }
 {
-    let a = ream::ream(card, layout, volume, argument::name_in(name));
+    let name = argument::name_in(name);
+    let format = Format {
+        layout,
+        volume,
+        name,
+    };
+    let a = ream::ream(card, format);
     *place = a.place;
     a.number
 }

@@ -27,6 +27,7 @@ use Rattle.sheet.specs.declared.run.Shown.{Shown}
 use Rattle.sheet.specs.declared.run.Shown.the-variants.{Nothing, Byte, Listed}
 use Rattle.sheet.specs.declared.run.Ran.{Ran}
 use Rattle.sheet.specs.Sheet.{State, After, cardOf, withCard, isMalformed, callOf, blocksOf, sizeOf, shownOf, countOf, recordsAfter, firstByteOf, afterCall, afterLine}
+use Rattle.blocks.specs.Descriptor.{asFormat}
 
 abbrev pub state : List ℕ → ℕ → List Record → State
 state area blocks records = record { area = area; blocks = blocks; records = records }
@@ -66,7 +67,7 @@ module _ (area : List ℕ) (blocks : ℕ) (records : List Record) (call : SheetC
 
 -- the calls of a sheet
 module _ (area : List ℕ) (blocks : ℕ) (records : List Record) (a : Answer) (card : List ℕ) where
-  module _ (layout size volume : ℕ) (name : List ℕ) (made : done a None card ≡ step (Ream layout volume name) (take (512 * size) area)) where
+  module _ (layout size volume : ℕ) (name : List ℕ) (made : done a None card ≡ step (Ream (asFormat layout volume name)) (take (512 * size) area)) where
     pub ream-refused : (a .number ≡ 0 → ⊥) → after a blocks Nothing records (card ++ drop (512 * size) area) ≡ afterCall (state area blocks records) (line.Ream layout size volume) name
     unfolding callOf blocksOf recordsAfter
     ream-refused e = refused-after area blocks records (line.Ream layout size volume) name a None card made e

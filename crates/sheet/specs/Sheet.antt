@@ -8,6 +8,7 @@ use lib.Dec.{ltb}
 use Rattle.blocks.specs.Pick.{pick}
 use Rattle.blocks.specs.Bytes.{blockSize, zeroBlock}
 use Rattle.calls.specs.declared.answer.Record.{Record}
+use Rattle.blocks.specs.Descriptor.{asFormat}
 use Rattle.calls.specs.Call.{Call, Ream, Read, Write, Snap, Revert, Listing, Check, Lent, None, Block, Records, answer}
 use Rattle.calls.specs.Parts.{descriptorsOf}
 use Rattle.calls.specs.Effect.{noRecord}
@@ -57,7 +58,7 @@ isMalformed line.Check = false
 -- the call of a line, with what the sheet lends to it: a block full of one byte, a block of zeros, its records. A line that is not of the form makes none
 unfoldable pub callOf : SheetCall → List ℕ → List Record → Call
 callOf line.Malformed name records = Check
-callOf (line.Ream layout blocks volume) name records = Ream layout volume name
+callOf (line.Ream layout blocks volume) name records = Ream (asFormat layout volume name)
 callOf (line.Write l fill) name records = Write (l .0) (replicate blockSize fill)
 callOf (line.Read target l) name records = Read target name (l .0) zeroBlock
 callOf line.Snap name records = Snap name

@@ -2,6 +2,7 @@
 use blocks::bytes;
 use blocks::descriptor;
 use blocks::descriptor::Descriptor;
+use blocks::descriptor::Format;
 use blocks::name;
 use blocks::numbers::Physical;
 use calls::answer;
@@ -11,7 +12,7 @@ ghost use mathlib.Core.Path.{_≡_};
 ghost use Prim.Native.Nat.{_+_, _*_, _≤_, _<_};
 ghost use lib.ListN.{length, replicate};
 ghost use Rattle.blocks.specs.Bytes.{storeAll};
-ghost use Rattle.blocks.specs.Descriptor.{cost as openingCost, clearing, descriptorBlock, opening};
+ghost use Rattle.blocks.specs.Descriptor.{costIn, clearing, descriptorBlock, opening};
 ghost use Rattle.calls.specs.Call.{Ream, None};
 ghost use Rattle.calls.specs.Step.{step, done};
 
@@ -39,13 +40,15 @@ fn fresh_block(d: Descriptor) -> [u8; 512]
 }
 
 // Formats the card.
-pub fn ream(card: &mut [u8], layout: u32, volume: u32, name: [u8; 16]) -> Answer
-    ensures { λ r. ⌜ done r None (now (card .exit)) ≡ step (Ream layout volume name) (now (card .entry)) ⌝ }
+pub fn ream(card: &mut [u8], format: Format) -> Answer
+    ensures { λ r. ⌜ done r None (now (card .exit)) ≡ step (Ream format) (now (card .entry)) ⌝ }
 {
     let admitted = area::admit(card);
     if admitted.number != 0 {
         return admitted;
     }
+    let layout = format.layout;
+    let volume = format.volume;
     if layout == 0 {
         return answer::BAD_LAYOUT;
     }
@@ -58,6 +61,7 @@ pub fn ream(card: &mut [u8], layout: u32, volume: u32, name: [u8; 16]) -> Answer
     if 14336 < volume {
         return answer::BAD_VOLUME;
     }
+    let name = format.name;
     if !name::is_name(name) {
         return answer::BAD_NAME;
     }
@@ -65,18 +69,19 @@ pub fn ream(card: &mut [u8], layout: u32, volume: u32, name: [u8; 16]) -> Answer
     if card.len() / 512 < cost as usize {
         return answer::CARD_TOO_SMALL;
     }
-    open_card(card, layout, volume, cost, name);
+    open_card(card, format, cost);
     answer::ACCEPTED
 }
 
 // Clears the tables, then stores the first descriptor.
-fn open_card(card: &mut [u8], layout: u32, volume: u32, cost: u32, name: [u8; 16])
-    requires { ⌜ (cost ≡ openingCost layout volume) × (512 * cost ≤ length (now card)) ⌝ }
-    ensures { λ _. ⌜ now (card .exit) ≡ storeAll (now (card .entry)) (opening layout volume name) ⌝ }
+fn open_card(card: &mut [u8], format: Format, cost: u32)
+    requires { ⌜ (cost ≡ costIn format) × (512 * cost ≤ length (now card)) ⌝ }
+    ensures { λ _. ⌜ now (card .exit) ≡ storeAll (now (card .entry)) (opening format) ⌝ }
 {
+    let name = format.name;
     let first = Descriptor {
-        layout,
-        volume,
+        layout: format.layout,
+        volume: format.volume,
         alpha: Physical(0),
         beta: Physical(cost),
         next: Physical(0),
