@@ -3,12 +3,14 @@ use mathlib.Core.Path.{_≡_, refl, sym, ap, _∙_}
 use mathlib.Core.Bool.{true, false}
 use mathlib.Core.List.{List, [], _∷_, _++_, map, map-append}
 use Prim.Native.Nat.{ℕ}
+use native.Mathlib.Omega.{arith}
 use lib.ListN.{length}
 use Rattle.blocks.specs.Bytes.{blockCount}
-use Rattle.calls.specs.Call.{Call, Ream, Read, Write, Snap, Revert, Listing, Check, answer}
+use Rattle.calls.specs.Call.{Call, Ream, Check, answer}
 use Rattle.calls.specs.Parts.{areaBad}
-use Rattle.calls.specs.Ladder.{admission, firstRow, reamRows, readRows, writeRows, snapRows, revertRows, listRows, checkRows}
-use Rattle.calls.specs.Meaning.{rowsOf, answerOf}
+use Rattle.calls.specs.Ladder.{admission, firstRow, reamRows}
+use Rattle.calls.specs.Meaning.{meaningOf, rowsOf, answerOf}
+use Rattle.calls.proofs.RowLaws.{not-admitted, admission-1}
 use Rattle.claims.specs.Bench.{Value, Result, expected, computed}
 use Rattle.edges.specs.Edges.{only, named4, region6, shared4, snapped, pair, old, tables2, areaEdges, refusedEdges, nameEdges, formEdges, chainEdges, entryEdges, openingEdges, tableEdges, faultEdges, walkEdges, threeEdges, passingEdges, roomEdges, orderEdges, edges, allowed, NameBytes, SizeEdges}
 use Rattle.edges.proofs.FastCheck.{quick, quick-all, runningOnce}
@@ -156,14 +158,8 @@ name-bytes = (refl, refl)
 
 -- the first row of every call
 area-first : (c : List ℕ) → areaBad c ≡ true → (k : Call) → answerOf k c ≡ answer 1 0
-unfolding answerOf rowsOf admission firstRow reamRows readRows writeRows snapRows revertRows listRows checkRows
-area-first c bad (Ream format) = rw bad refl
-area-first c bad (Read target name l block) = rw bad refl
-area-first c bad (Write l block) = rw bad refl
-area-first c bad (Snap name) = rw bad refl
-area-first c bad (Revert name) = rw bad refl
-area-first c bad (Listing records) = rw bad refl
-area-first c bad Check = rw bad refl
+unfolding answerOf rowsOf
+area-first c bad k = not-admitted c (answer 1 0) (admission-1 c (areaBad c) refl bad) (meaningOf k .rows c) (λ z. omega arith)
 
 area-most : (c : List ℕ) → length c ≡ 33554432 → areaBad c ≡ false
 unfolding areaBad blockCount
