@@ -9,3 +9,5 @@ pub mod SoundLaws
 pub mod NamedLaws
 pub mod ChainLaws
 pub mod LinkedLaws
+pub mod StoreLists
+pub mod StoredLaws

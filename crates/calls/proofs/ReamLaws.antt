@@ -16,7 +16,7 @@ use Rattle.blocks.proofs.NameLaws.{drop-replicate}
 use Rattle.calls.specs.Call.{Ream, answer, accepted}
 use Rattle.calls.specs.Ladder.{admission, firstRow, reamRows}
 use Rattle.calls.specs.Meaning.{rowsOf, answerOf}
-use Rattle.calls.proofs.StepLaws.{stored-append, stored-one}
+use Rattle.blocks.proofs.StoreLists.{stored-append, stored-one}
 use Rattle.calls.proofs.RowLaws.{admitted, row-given, row-passed, last-passed, admitted, name-given, name-passed}
 use Rattle.calls.specs.declared.answer.Answer.{Answer}
 use Rattle.blocks.specs.declared.descriptor.Format.{Format}

@@ -18,7 +18,7 @@ use Rattle.calls.specs.Parts.{areaBad, snapshotsOf, withName}
 use Rattle.calls.specs.Ladder.{admission, firstRow, revertRows}
 use Rattle.calls.specs.Effect.{reverting, revertStores}
 use Rattle.calls.specs.Meaning.{rowsOf, answerOf, storesOf}
-use Rattle.calls.proofs.StepLaws.{stored-one}
+use Rattle.blocks.proofs.StoreLists.{stored-one}
 use Rattle.calls.proofs.CardLaws.{card-snapshots, card-snapshot-count, card-snapshot, card-alpha, card-at, card-found}
 use Rattle.calls.proofs.RowLaws.{row-given, last-passed, Reached, reached, admitted, name-passed}
 use Rattle.calls.specs.declared.answer.Answer.{Answer}

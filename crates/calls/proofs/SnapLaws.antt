@@ -20,7 +20,7 @@ use Rattle.calls.specs.Parts.{areaBad}
 use Rattle.calls.specs.Ladder.{admission, firstRow, snapRows}
 use Rattle.calls.specs.Effect.{snapping, snapStores}
 use Rattle.calls.specs.Meaning.{rowsOf, answerOf, storesOf}
-use Rattle.calls.proofs.StepLaws.{stored-append, stored-one}
+use Rattle.blocks.proofs.StoreLists.{stored-append, stored-one}
 use Rattle.calls.proofs.CardLaws.{card-some, card-all, card-snapshot-count, card-found}
 use Rattle.calls.proofs.RowLaws.{row-given, row-passed, last-passed, Reached, reached, admitted, name-passed}
 use Rattle.calls.specs.declared.answer.Answer.{Answer}

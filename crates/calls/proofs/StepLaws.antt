@@ -17,6 +17,7 @@ use Rattle.calls.specs.Parts.{areaBad}
 use Rattle.calls.specs.Ladder.{firstRow, admission}
 use Rattle.calls.specs.Meaning.{meaningOf, rowsOf, answerOf, storesOf, lentOf, filledOf, givenOf}
 use Rattle.calls.specs.Step.{Done, step, done, isAccepted}
+use Rattle.blocks.proofs.StoreLists.{stored-append, stored-one}
 use Rattle.calls.proofs.RowLaws.{not-admitted}
 
 -- what a call does, given its answer
@@ -73,16 +74,7 @@ module _ (c : List ℕ) where
   unfolding areaBad blockCount
   area-large e h = rw (eq-eqb (length c % 512) 0 e, le-ltb (length c / 512) 2 h)
 
--- stores, one after the other
-pub stored-append : (c : List ℕ) (xs ys : List Store) → storeAll c (xs ++ ys) ≡ storeAll (storeAll c xs) ys
-unfolding storeAll
-stored-append c [] ys = refl
-stored-append c (x ∷ xs) ys = stored-append (storeBlock c (x .at) (x .bytes)) xs ys
-
-pub stored-one : (c : List ℕ) (p : ℕ) (b : List ℕ) → storeAll c (store p b ∷ []) ≡ storeBlock c p b
-unfolding storeAll
-stored-one c p b = refl
-
+-- stores of zeros, one after the other
 clearing-snoc : (p n : ℕ) → clearing p (suc n) ≡ clearing p n ++ (store (p + n) zeroBlock ∷ [])
 unfolding clearing
 clearing-snoc p zero = let e : p + 0 ≡ p = omega arith in rw e

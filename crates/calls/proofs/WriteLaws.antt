@@ -30,7 +30,7 @@ use Rattle.calls.specs.Effect.{Written, written, WriteReady, writeStores
 use Rattle.calls.specs.Meaning.{rowsOf, answerOf, lentOf, filledOf, storesOf, givenOf}
 use Rattle.calls.specs.Step.{Done, step, done}
 use Rattle.calls.proofs.StepLaws.{step-refused, step-accepted}
-use Rattle.calls.proofs.CardLaws.{card-some, card-found, card-active, card-through, card-small}
+use Rattle.calls.proofs.CardLaws.{card-found}
 use Rattle.calls.proofs.RowLaws.{admitted, admitted, block-given, block-passed, chain-given, volume-given, volume-passed, Reached, reached}
 
 -- need, where a set entry is not overwritten, says whether the table block is new

@@ -21,7 +21,7 @@ use Rattle.calls.specs.Step.{step, isAccepted}
 use Rattle.claims.specs.History.{betaOf, Agree, isFormat, formats}
 use Rattle.claims.proofs.Agreement.{agree-below, agree-chain}
 use Rattle.claims.proofs.AgreeAnswer.{agree-answer}
-use Rattle.claims.proofs.StoreLists.{Whole, isStored, stored-length, stored-both, stored-anyway, blocks-taken}
+use Rattle.blocks.proofs.StoreLists.{Whole, isStored, stored-length, stored-both, stored-anyway, blocks-taken}
 use Rattle.claims.proofs.Inside.{write-whole, snap-whole, revert-whole}
 use Rattle.claims.proofs.ChainAfter.{before, active-append, reverted-chain}
 use Rattle.claims.proofs.SnappedChain.{snapped-chain}

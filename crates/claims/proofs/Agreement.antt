@@ -33,7 +33,7 @@ use Rattle.calls.proofs.CardLaws.{snapshots-at, chain-is}
 use Rattle.calls.proofs.Passed.{ReadPassed}
 use Rattle.claims.proofs.Local.{Below, below-linked, linked-chain}
 use Rattle.claims.proofs.LocalEntries.{Region, local-find, local-block, local-check}
-use Rattle.claims.proofs.ChainBlocks.{own-inside, few-tables}
+use Rattle.entries.proofs.TableLaws.{own-inside, few-tables}
 use Rattle.calls.specs.declared.answer.Record.{Record}
 use Rattle.blocks.specs.declared.descriptor.Format.{Format}
 

@@ -43,25 +43,16 @@ use Rattle.claims.specs.History.{AreBytes}
 use Rattle.claims.specs.Claims.{AlgorithmClaim}
 use Rattle.calls.proofs.CardLaws.{card-through, card-snapshot, card-snapshot-count}
 use Rattle.calls.proofs.Passed.{read-passed, write-passed, snap-passed, revert-passed}
-use Rattle.calls.proofs.StepLaws.{stored-append, accepted-card}
-use Rattle.claims.proofs.Stored.{form-name}
+use Rattle.calls.proofs.StepLaws.{accepted-card}
+use Rattle.blocks.proofs.StoredLaws.{form-name}
 use Rattle.claims.proofs.Inside.{regions-ok, active-through, active-name, block-whole}
+use Rattle.blocks.proofs.StoreLists.{stored-append}
+use Rattle.entries.proofs.TableLaws.{entry-in, phi-in}
 
 -- an accepted call: the card after it, and what was lent
 accepted-lent : (k : Call) (c : List ℕ) → isAccepted (answerOf k c) ≡ true → step k c .outcome .lent ≡ filledOf k c
 unfolding step
 accepted-lent k c e = rw e
-
--- an entry of a table block and one of Phi, read from the block
-pub entry-in : (c : List ℕ) (m j : ℕ) → j < 128 → u32At (blockAt c m) (4 * j) ≡ entryAt c m j
-unfolding blockAt entryAt
-entry-in c m j h = u32-part c (512 * m) 512 (4 * j) (omega arith)
-
-phi-in : (c : List ℕ) (d : Descriptor) (i : ℕ) → i < 112 → u32At (blockAt c (d .alpha .0)) (64 + 4 * i) ≡ phiAt c d i
-unfolding blockAt phiAt
-phi-in c d i h =
-    let e : 512 * d .alpha .0 + (64 + 4 * i) ≡ 512 * d .alpha .0 + 64 + 4 * i = omega arith in
-    u32-part c (512 * d .alpha .0) 512 (64 + 4 * i) (omega arith) ∙ ap (u32At c) e
 
 -- what is read through an entry that is in place
 read-entry : (c : List ℕ) (ds : List Descriptor) (d : Descriptor) (m p : ℕ) (t : Bool) → inPlace ds d p ≡ t → isMisplaced (pick t (Entry (physical m) (physical p)) (Misplaced (physical m))) ≡ false

@@ -18,8 +18,8 @@ use Rattle.entries.specs.Rules.{entryOf, Rules}
 use Rattle.entries.specs.declared.find.Found.the-variants.{Misplaced, Entry}
 use Rattle.calls.specs.Parts.{descriptorsOf, foundThrough, blockFound}
 use Rattle.calls.specs.Check.{Passes}
-use Rattle.claims.proofs.LedgerFacts.{group-below, own-set, region-of}
-use Rattle.claims.proofs.ChainBlocks.{table-phi, layout-two}
+use Rattle.claims.proofs.LedgerFacts.{region-of}
+use Rattle.entries.proofs.TableLaws.{table-phi, layout-two, group-below, own-set}
 
 -- the block that an entry names, zeros where it is nil
 abbrev pub blockNamed : List ℕ → ℕ → List ℕ

@@ -24,9 +24,9 @@ use Rattle.calls.specs.Effect.{reverting, revertStores}
 use Rattle.calls.proofs.CardLaws.{card-most, chain-is}
 use Rattle.calls.proofs.Passed.{RevertPassed}
 use Rattle.claims.proofs.Agreement.{end-from}
-use Rattle.claims.proofs.Stored.{block-long, tail-part, form-kept, form-phi, form-name}
+use Rattle.blocks.proofs.StoredLaws.{block-long, tail-part, form-kept, form-phi, form-name}
 use Rattle.claims.proofs.Changed.{layout-small, named-left, member-from, member-form, member-region, member-fresh, member-inside, changed-last}
-use Rattle.claims.proofs.StoreLists.{Whole, none, isStored, stored-length, stored-other, stored-last}
+use Rattle.blocks.proofs.StoreLists.{Whole, none, isStored, stored-length, stored-other, stored-last}
 use Rattle.claims.proofs.Inside.{revert-whole}
 
 -- a chain is its snapshots, then the active descriptor

@@ -22,7 +22,7 @@ use Rattle.blocks.proofs.ChainLaws.{region-layout, region-volume, region-end, r
 use Rattle.blocks.proofs.LinkedLaws.{Linked, last, chain-linked, sound-form, sound-region}
 use Rattle.claims.proofs.Local.{linked-chain, shared-descriptor}
 use Rattle.claims.proofs.Relinked.{linked-from, linked-head, relinked}
-use Rattle.claims.proofs.Stored.{stored-descriptor, stored-form, region-ok}
+use Rattle.blocks.proofs.StoredLaws.{stored-descriptor, stored-form, region-ok}
 
 -- a layout is small
 layout-by : (l : ℕ) (x y : Bool) → eqb l 1 ≡ x → eqb l 2 ≡ y → (x || y) ≡ true → l ≤ 2

@@ -32,7 +32,7 @@ use Rattle.calls.specs.Ladder.{firstRow, checkRows, admission}
 use Rattle.calls.specs.Meaning.{rowsOf, answerOf}
 use Rattle.claims.specs.Claims.{CheckClaim, valuesOf, noNaming, FirstFault, FaultClaim}
 use Rattle.calls.proofs.CardLaws.{chain-is}
-use Rattle.claims.proofs.ChainBlocks.{few-tables, table-two, layout-two}
+use Rattle.entries.proofs.TableLaws.{few-tables, table-two, layout-two}
 use Rattle.calls.proofs.Passed.{check-passed}
 use Rattle.calls.specs.Step.{isAccepted}
 

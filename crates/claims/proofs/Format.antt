@@ -34,12 +34,11 @@ use Rattle.calls.specs.Check.{Passes}
 use Rattle.claims.specs.History.{formattable, formatted}
 use Rattle.claims.specs.Ledger.{cellsFrom, volumeOf, volumesOf, ledgerOf}
 use Rattle.claims.specs.Claims.{FormatClaim}
-use Rattle.calls.proofs.StepLaws.{stored-append, stored-one}
 use Rattle.calls.proofs.CardLaws.{card-most}
 use Rattle.claims.proofs.Local.{linked-chain}
-use Rattle.claims.proofs.Stored.{block-tail, stored-descriptor, stored-bytes, stored-mark, region-ok}
+use Rattle.blocks.proofs.StoredLaws.{block-tail, stored-descriptor, stored-bytes, stored-mark, region-ok}
 use Rattle.claims.proofs.Changed.{layout-small}
-use Rattle.claims.proofs.StoreLists.{isStored, stored-length, stored-other}
+use Rattle.blocks.proofs.StoreLists.{isStored, stored-length, stored-other, stored-append, stored-one}
 use Rattle.claims.proofs.Inside.{inside-clearing, block-whole}
 use Rattle.blocks.specs.declared.descriptor.Format.{Format}
 

@@ -15,7 +15,7 @@ use Rattle.entries.specs.InPlace.{inPlace}
 use Rattle.entries.specs.Entry.{tableOf, entryAt, entryFound, find}
 use Rattle.entries.specs.Rules.{entryOf}
 use Rattle.entries.specs.declared.find.Found.the-variants.{Misplaced, Entry}
-use Rattle.claims.proofs.LedgerFacts.{own-set}
+use Rattle.entries.proofs.TableLaws.{own-set}
 
 -- the parts of an entry that was found
 parts-of : (m′ p : Physical) (m q : ℕ) → Entry (physical m) (physical q) ≡ Entry m′ p → (m′ .0 ≡ m) × (q ≡ p .0)

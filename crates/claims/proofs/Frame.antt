@@ -11,7 +11,7 @@ use Rattle.calls.specs.Meaning.{answerOf}
 use Rattle.calls.specs.Step.{step, isAccepted}
 use Rattle.claims.specs.Claims.{lentAtEntry, leaves, storesNothing, fills, FrameClaim}
 use Rattle.claims.specs.Kinds.{Kind, Formats, Leaves, Writes, Snaps, Reverts, kindOf}
-use Rattle.claims.proofs.StoreLists.{stored-length}
+use Rattle.blocks.proofs.StoreLists.{stored-length}
 use Rattle.claims.proofs.Changes.{storesBy}
 use Rattle.claims.proofs.Steps.{stores-inside}
 use Rattle.claims.proofs.Owed.{owed}

@@ -31,7 +31,7 @@ use Rattle.calls.specs.Effect.{WriteReady, snapping, reverting, writeStores, sn
 use Rattle.calls.proofs.CardLaws.{card-some, card-found, card-active, card-through, card-inside, card-snapshot, card-snapshot-count}
 use Rattle.calls.proofs.WriteLaws.{put-inside, write-ready}
 use Rattle.calls.proofs.Passed.{ReamPassed, WritePassed, SnapPassed, RevertPassed}
-use Rattle.claims.proofs.StoreLists.{Whole, none, also, whole-append}
+use Rattle.blocks.proofs.StoreLists.{Whole, none, also, whole-append}
 use Rattle.blocks.specs.declared.descriptor.Format.{Format}
 
 pub inside-clearing : (n p k : ℕ) → 512 * (p + k) ≤ n → Whole n (clearing p k)

@@ -29,7 +29,7 @@ use Rattle.calls.specs.Step.{step}
 use Rattle.claims.specs.History.{isFormat, formats}
 use Rattle.claims.proofs.Relinked.{later-alpha}
 use Rattle.claims.proofs.Changed.{named-left, member-from, member-fresh}
-use Rattle.claims.proofs.StoreLists.{isStored, stored-length, stored-other, Whole}
+use Rattle.blocks.proofs.StoreLists.{isStored, stored-length, stored-other, Whole}
 use Rattle.claims.proofs.Inside.{write-whole, snap-whole, revert-whole}
 use Rattle.claims.proofs.ChainAfter.{before, behind, active-split, snapshots-snoc, active-last, link-low, one-stored, revert-split, reverted-chain}
 use Rattle.claims.proofs.SnappedChain.{snap-above, snapped-chain}

@@ -6,10 +6,10 @@ use Prim.Native.Nat.{ℕ, zero, suc, _+_, _-_, _/_, _%_, _≤_, _<_}
 use native.Mathlib.Omega.{arith}
 use lib.ListN.{length, drop, getD, length-append}
 use lib.Dec.{eqb, ltb, leb}
-use borrow.Author.Tests.{ne-eqb, eqb-true, eqb-false, leb-false, le-ltb, not-true, not-false}
+use borrow.Author.Tests.{eqb-true, eqb-false, leb-false, le-ltb, not-true, not-false}
 use Rattle.blocks.specs.Pick.{pick, same}
 use Rattle.blocks.specs.Bytes.{blockCount}
-use Rattle.blocks.specs.Descriptor.{physical, tableCount, noDescriptor, descriptorAt}
+use Rattle.blocks.specs.Descriptor.{physical, noDescriptor, descriptorAt}
 use Rattle.blocks.specs.Chain.{chain, indexOf, named, activeOf}
 use Rattle.blocks.specs.declared.descriptor.Descriptor.{Descriptor}
 use Rattle.blocks.proofs.Tests.{and-left, and-right}
@@ -42,7 +42,7 @@ use Rattle.claims.proofs.Changed.{named-append}
 use Rattle.claims.proofs.Lists.{list-claim}
 use Rattle.claims.proofs.ChainAfter.{active-split}
 use Rattle.claims.proofs.CheckClaims.{check-claim}
-use Rattle.claims.proofs.ChainBlocks.{table-phi}
+use Rattle.entries.proofs.TableLaws.{table-phi, own-set, group-below}
 use Rattle.calls.proofs.Passed.{read-passed, list-passed}
 use Rattle.calls.proofs.RowLaws.{admitted, admission-0}
 use Rattle.blocks.specs.declared.descriptor.Format.{Format}
@@ -56,14 +56,6 @@ placed-by ds d m e true i false own phi h = rw h
 placed-by ds d m e false true true own phi h = refl
 placed-by ds d m e false true false own phi h = rw h
 placed-by ds d m e false false z own phi h = no (phi refl)
-
-pub own-set : (c : List ℕ) (d : Descriptor) (i : ℕ) → eqb (d .layout) 1 ≡ true → eqb (tableOf c d i) 0 ≡ false
-unfolding tableOf
-own-set c d i e = rw e (ne-eqb (d .alpha .0 + 1 + i) 0 (omega arith))
-
-pub group-below : (l v : ℕ) → l < v → l / 128 < tableCount v
-unfolding tableCount
-group-below l v h = omega arith
 
 second-layout : (a b : Bool) → (a || b) ≡ true → a ≡ false → b ≡ true
 second-layout true b h e = no (sym e)

@@ -9,8 +9,8 @@ use lib.Seq.{getD-append-seam}
 use lib.Dec.{eqb}
 use borrow.Author.Tests.{eq-eqb, eqb-true, eqb-false}
 use Rattle.blocks.specs.Pick.{pick, same}
-use Rattle.blocks.specs.Bytes.{u32At, part, blockCount, blockAt, zeroBlock, storeAll}
-use Rattle.blocks.specs.Descriptor.{physical, tableCount, noDescriptor, tailAt, descriptorBlock, linkedOf, renamedOf}
+use Rattle.blocks.specs.Bytes.{blockCount, blockAt, zeroBlock, storeAll}
+use Rattle.blocks.specs.Descriptor.{physical, tableCount, noDescriptor, linkedOf, renamedOf}
 use Rattle.blocks.specs.declared.numbers.Physical.{Physical}
 use Rattle.blocks.specs.declared.descriptor.Descriptor.{Descriptor}
 use Rattle.blocks.specs.Chain.{indexOf, activeOf}
@@ -28,16 +28,13 @@ use Rattle.blocks.proofs.BoolLaws.{no}
 use Rattle.blocks.proofs.LinkedLaws.{linked-at, linked-rise, at-alpha}
 use Rattle.claims.proofs.LocalEntries.{Region}
 use Rattle.claims.proofs.Agreement.{agree-region}
-use Rattle.claims.proofs.StoreLists.{stored-other}
+use Rattle.blocks.proofs.StoreLists.{stored-other}
 use Rattle.claims.proofs.ChainAfter.{before, behind, snapshots-snoc, link-inside, one-stored, revert-split, reverted-chain, fits, block, same-long, whole}
 use Rattle.claims.proofs.SoundStep.{agree-self}
-use Rattle.claims.proofs.LedgerFacts.{linked-of, beta-upto, group-below, passing-found, volume-named}
+use Rattle.claims.proofs.LedgerFacts.{linked-of, beta-upto, passing-found, volume-named}
 use Rattle.claims.proofs.Local.{shared-number}
-use Rattle.blocks.proofs.ByteLaws.{u32-part}
-use Rattle.blocks.proofs.DescriptorLaws.{Fits, tail-length}
 use Rattle.blocks.proofs.ChainLaws.{active-snoc, descriptors-are}
-use Rattle.claims.proofs.Stored.{stored-bytes, block-tail, tail-part}
-use Rattle.claims.proofs.ChainBlocks.{fewer-placed, placed-apart, table-own}
+use Rattle.entries.proofs.TableLaws.{fewer-placed, placed-apart, table-own, group-below, group-below, phi-stored}
 use Rattle.calls.proofs.Passed.{RevertPassed}
 use Rattle.claims.specs.Kinds.{Reverts}
 
@@ -140,24 +137,6 @@ module _ (ds es : List Descriptor) (d e : Descriptor) (kept : (p : ℕ) → inPl
 
       pub cell-kept : isMisplaced (find s ds d l) ≡ false → blockFound t (find t es e l) ≡ blockFound s (find s ds d l)
       cell-kept h = ap (blockFound t) (find-kept h) ∙ block-by (find s ds d l) (λ m p q. find-placed s ds d l m p q)
-
--- Phi of a descriptor block stored with its own tail
-pub phi-stored : (c t : List ℕ) (w v : Descriptor) → w .alpha ≡ v .alpha → 512 * v .alpha .0 + 512 ≤ length c → length c ≡ length t → blockAt t (v .alpha .0) ≡ descriptorBlock w (tailAt c (v .alpha .0)) → Fits w
-    → (i : ℕ) → i < 112 → phiAt t w i ≡ phiAt c v i
-unfolding phiAt
-phi-stored c t w v q inside long is f i h =
-    let a = v .alpha .0 in
-    let whole = tail-length c a inside in
-    let n : 512 * a + 64 + 4 * i + 0 ≡ 512 * a + 64 + 4 * i = omega arith in
-    let k : 512 * a + (64 + 4 * i) ≡ 512 * a + 64 + 4 * i = omega arith in
-    let m : 512 * a + 40 + (24 + 4 * i) ≡ 512 * a + 64 + 4 * i = omega arith in
-    let j : 40 + (24 + 4 * i) ≡ 64 + 4 * i = omega arith in
-    let bytes : part t (512 * a + 64 + 4 * i) 4 ≡ part c (512 * a + 64 + 4 * i) 4 =
-    ap (λ (x : ℕ). part t x 4) (sym k) ∙ stored-bytes t a (omega arith) w (tailAt c a) is f whole (64 + 4 * i) 4 (omega arith)
-    ∙ ap (λ (x : ℕ). part (descriptorBlock w (tailAt c a)) x 4) (sym j) ∙ block-tail w (tailAt c a) f whole (24 + 4 * i) 4
-    ∙ tail-part c a (24 + 4 * i) 4 inside (omega arith) ∙ ap (λ (x : ℕ). part c x 4) m in
-    ap (λ (x : Physical). u32At t (512 * x .0 + 64 + 4 * i)) q
-    ∙ ap (u32At t) (sym n) ∙ sym (u32-part t (512 * a + 64 + 4 * i) 4 0 (omega arith)) ∙ ap (λ (b : List ℕ). u32At b 0) bytes ∙ u32-part c (512 * a + 64 + 4 * i) 4 0 (omega arith) ∙ ap (u32At c) n
 
 blocks-long : (c : List ℕ) (b : ℕ) → b ≤ blockCount c → 512 * b ≤ length c
 unfolding blockCount

@@ -28,7 +28,7 @@ use Rattle.claims.proofs.PassesSnapped.{same-entry, placed-longer, bloc
 use Rattle.claims.proofs.PassesSnapped.{placed-entry, linked, counted, act-at, act-rules, rules-old, rules-new, rules-first, phi-shared}
 use Rattle.claims.proofs.LedgerNext.{cells-same, volumes-same, volumes-append, ledger-parts}
 use Rattle.claims.proofs.CellEntry.{blockNamed, named-same, cell-rules}
-use Rattle.claims.proofs.ChainBlocks.{placed-apart, own-inside, few-tables, under}
+use Rattle.entries.proofs.TableLaws.{placed-apart, own-inside, few-tables, under}
 use Rattle.calls.proofs.Passed.{SnapPassed}
 use Rattle.claims.specs.Kinds.{Snaps}
 

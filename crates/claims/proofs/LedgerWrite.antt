@@ -28,7 +28,7 @@ use Rattle.calls.specs.Check.{Passes}
 use Rattle.calls.specs.Effect.{writeStores}
 use Rattle.claims.proofs.ChainAfter.{active-split, snapshots-snoc}
 use Rattle.claims.proofs.WrittenChain.{written-chain}
-use Rattle.claims.proofs.LedgerFacts.{group-below, linked-of, some-of}
+use Rattle.claims.proofs.LedgerFacts.{linked-of, some-of}
 use Rattle.claims.proofs.PassesWrite.{shared-entry, snapshot-region, write-below, passes-write-by}
 use Rattle.claims.proofs.WriteFacts.{WriteFacts}
 use Rattle.claims.proofs.WriteOwn.{own-none, own-one}
@@ -37,6 +37,7 @@ use Rattle.claims.proofs.LedgerNext.{cells-same, volumes-same, ledger-p
 use Rattle.claims.proofs.CellEntry.{blockNamed, named-same, cell-entry}
 use Rattle.calls.proofs.Passed.{WritePassed}
 use Rattle.claims.specs.Kinds.{Writes}
+use Rattle.entries.proofs.TableLaws.{group-below}
 
 -- what a read gives through a descriptor that stands at k
 cell-at : (c : List ℕ) → Passes c → (k : ℕ) → k < length (descriptorsOf c) → (d : Descriptor) → getD (descriptorsOf c) k noDescriptor ≡ d → (j : ℕ) → j < d .volume

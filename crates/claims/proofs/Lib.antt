@@ -7,11 +7,8 @@ pub mod Rows
 pub mod Local
 pub mod LocalEntries
 pub mod Relinked
-pub mod ChainBlocks
 pub mod Agreement
-pub mod Stored
 pub mod Changed
-pub mod StoreLists
 pub mod Inside
 pub mod Changes
 pub mod Lists

@@ -26,11 +26,11 @@ use Rattle.calls.specs.Parts.{descriptorsOf, snapshotsOf, withName}
 use Rattle.calls.specs.Check.{Passes}
 use Rattle.calls.specs.Effect.{revertStores}
 use Rattle.claims.proofs.Local.{shared-number}
-use Rattle.claims.proofs.Stored.{block-tail, stored-bytes, tail-part}
-use Rattle.claims.proofs.StoreLists.{stored-other}
+use Rattle.blocks.proofs.StoredLaws.{block-tail, stored-bytes, tail-part}
+use Rattle.blocks.proofs.StoreLists.{stored-other}
 use Rattle.claims.proofs.ChainAfter.{before, behind, sound-is, link-inside, one-stored, revert-split, stores-are, whole, fits, tail, block, same-long, reverted-chain}
 use Rattle.claims.proofs.Undone.{area-kept}
-use Rattle.claims.proofs.ChainBlocks.{fewer-placed, placed-apart, table-own, table-phi, own-inside, few-tables, layout-two, under}
+use Rattle.entries.proofs.TableLaws.{fewer-placed, placed-apart, table-own, table-phi, own-inside, few-tables, layout-two, under}
 use Rattle.calls.proofs.Passed.{RevertPassed}
 
 -- the rules of a renamed descriptor

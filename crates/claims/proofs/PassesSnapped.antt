@@ -28,15 +28,14 @@ use Rattle.calls.specs.Parts.{descriptorsOf, snapshotsOf}
 use Rattle.calls.specs.Check.{Passes}
 use Rattle.calls.specs.Effect.{snapStores}
 use Rattle.claims.proofs.Local.{shared-number}
-use Rattle.claims.proofs.Stored.{block-tail, stored-bytes, tail-part}
-use Rattle.calls.proofs.StepLaws.{stored-append}
-use Rattle.claims.proofs.StoreLists.{Whole, none, also, isStored, stored-join, stored-length, stored-other}
+use Rattle.blocks.proofs.StoredLaws.{block-tail, stored-bytes, tail-part}
+use Rattle.blocks.proofs.StoreLists.{Whole, none, also, isStored, stored-join, stored-length, stored-other, stored-append}
 use Rattle.claims.proofs.ChainAfter.{sound-is, copies-stored}
 use Rattle.claims.proofs.SnappedChain.{stores-are, whole, d-low, room-bytes, old-fits, new-fits, old-long, new-long, new-inside, d-inside, copies-whole, old-block, new-block, tail-whole, same-long, split, snapped-chain}
 use Rattle.claims.proofs.AlgorithmLaws.{copied-in}
 use Rattle.claims.proofs.Undone.{area-kept}
 use Rattle.claims.proofs.PassesAfter.{number-of, rules-renamed, rules-moved}
-use Rattle.claims.proofs.ChainBlocks.{placed-apart, table-own, table-phi, own-inside, few-tables, under, layout-two}
+use Rattle.entries.proofs.TableLaws.{placed-apart, table-own, table-phi, own-inside, few-tables, under, layout-two}
 use Rattle.calls.proofs.Passed.{SnapPassed}
 
 and-mid : (x y z : Bool) → y ≡ false → (x && y && z) ≡ false

@@ -28,14 +28,14 @@ use Rattle.calls.specs.Effect.{writeStores}
 use Rattle.claims.specs.History.{betaOf}
 use Rattle.calls.proofs.CardLaws.{chain-is}
 use Rattle.claims.proofs.Agreement.{agree-region}
-use Rattle.claims.proofs.StoreLists.{isStored, stored-length, stored-other}
+use Rattle.blocks.proofs.StoreLists.{isStored, stored-length, stored-other}
 use Rattle.claims.proofs.Inside.{write-whole}
 use Rattle.claims.proofs.ChainAfter.{active-split}
 use Rattle.claims.proofs.WrittenChain.{active-rise, active-inside, written-chain}
 use Rattle.claims.proofs.Kept.{writing-above}
 use Rattle.claims.proofs.Local.{shared-number, Below}
 use Rattle.claims.proofs.LocalEntries.{Region, local-entry, local-phi, local-table}
-use Rattle.claims.proofs.ChainBlocks.{table-two, under}
+use Rattle.entries.proofs.TableLaws.{table-two, under}
 use Rattle.calls.proofs.Passed.{WritePassed}
 
 -- the blocks of descriptors and of layout 1 tables are the same where the last region is longer

@@ -32,7 +32,7 @@ use Rattle.claims.specs.Claims.{FirstUnsound, here, past, on, Chained, l
 use Rattle.calls.proofs.RowLaws.{fresh, fresh-never}
 use Rattle.calls.proofs.CardLaws.{chain-is}
 use Rattle.claims.proofs.Agreement.{target-member}
-use Rattle.claims.proofs.ChainBlocks.{layout-two}
+use Rattle.entries.proofs.TableLaws.{layout-two}
 use Rattle.calls.specs.declared.answer.Record.{Record}
 use Rattle.blocks.specs.declared.descriptor.Format.{Format}
 

@@ -27,7 +27,7 @@ use Rattle.claims.proofs.Local.{shared-bytes}
 use Rattle.calls.proofs.CardLaws.{chain-is}
 use Rattle.calls.proofs.StepLaws.{accepted-card}
 use Rattle.claims.proofs.Changed.{member-fresh, member-inside}
-use Rattle.claims.proofs.StoreLists.{Whole, stored-length, stored-both, blocks-taken}
+use Rattle.blocks.proofs.StoreLists.{Whole, stored-length, stored-both, blocks-taken}
 use Rattle.claims.proofs.Inside.{revert-whole}
 use Rattle.claims.proofs.ChainAfter.{before, behind, link-low, revert-split, reverted-chain}
 use Rattle.claims.proofs.SnappedChain.{snapped-chain}

@@ -25,7 +25,7 @@ use Rattle.calls.specs.Effect.{snapping, reverting, writeStores, snapStores, re
 use Rattle.claims.specs.History.{betaOf, Agree}
 use Rattle.claims.proofs.Local.{shared-bytes}
 use Rattle.claims.proofs.Agreement.{agree-below, agree-chain, found-same, active-target}
-use Rattle.claims.proofs.StoreLists.{isStored, stored-join}
+use Rattle.blocks.proofs.StoreLists.{isStored, stored-join}
 use Rattle.claims.proofs.Inside.{active-through}
 use Rattle.claims.proofs.ChainAfter.{before, behind, active-last, link-low, link-long, revert-split, end-below}
 use Rattle.calls.proofs.Passed.{WritePassed, SnapPassed, RevertPassed}

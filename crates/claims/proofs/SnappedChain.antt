@@ -25,9 +25,9 @@ use Rattle.calls.specs.Effect.{snapping, snapStores}
 use Rattle.calls.proofs.Passed.{SnapPassed}
 use Rattle.claims.proofs.Local.{linked-chain}
 use Rattle.claims.proofs.Relinked.{linked-next, relinked}
-use Rattle.claims.proofs.Stored.{block-long, stored-descriptor, stored-form, region-ok}
+use Rattle.blocks.proofs.StoredLaws.{block-long, stored-descriptor, stored-form, region-ok}
 use Rattle.claims.proofs.Changed.{named-append, named-left, member-from, changed-first, changed-ok}
-use Rattle.claims.proofs.StoreLists.{Whole, none, also, whole-append, isStored, stored-join, stored-length, stored-other, stored-last}
+use Rattle.blocks.proofs.StoreLists.{Whole, none, also, whole-append, isStored, stored-join, stored-length, stored-other, stored-last}
 use Rattle.claims.proofs.Inside.{snap-whole, inside-copying}
 use Rattle.claims.proofs.ChainAfter.{fits-of, sound-is, active-last, active-name, active-fresh, link-form, link-inside, link-long, link-most, link-low, link-layout, link-volume, link-reserved, link-phi, count-kept, none-stored, one-stored, copies-stored}
 

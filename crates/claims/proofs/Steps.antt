@@ -10,7 +10,7 @@ use Rattle.calls.specs.Meaning.{answerOf, storesOf}
 use Rattle.calls.specs.Step.{step, isAccepted}
 use Rattle.claims.specs.History.{formats, isReam, isFormat}
 use Rattle.claims.specs.Kinds.{kindOf}
-use Rattle.claims.proofs.StoreLists.{Whole}
+use Rattle.blocks.proofs.StoreLists.{Whole}
 use Rattle.claims.proofs.Changes.{storesBy, Allowed, change-inside}
 use Rattle.claims.proofs.Owed.{owed}
 

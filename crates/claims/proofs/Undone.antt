@@ -25,7 +25,7 @@ use Rattle.calls.specs.Parts.{areaBad, descriptorsOf, snapshotsOf, withName}
 use Rattle.calls.specs.Effect.{reverting, snapping, snapStores, revertStores}
 use Rattle.claims.specs.History.{betaOf, Agree, AreBytes}
 use Rattle.claims.proofs.Changed.{named-append, named-left, member-is}
-use Rattle.claims.proofs.StoreLists.{Whole, none, isStored, stored-join, stored-length, stored-other, stored-last, blocks-taken}
+use Rattle.blocks.proofs.StoreLists.{Whole, none, isStored, stored-join, stored-length, stored-other, stored-last, blocks-taken}
 use Rattle.claims.proofs.Inside.{snap-whole, revert-whole}
 use Rattle.claims.proofs.ChainAfter.{before, snapshots-snoc, sound-is, active-last, link-form, link-inside, none-stored, one-stored, copies-stored, reverted-chain}
 use Rattle.claims.proofs.SnappedChain.{snapped-chain, next-nil, old-fits, tail-whole, old-block}

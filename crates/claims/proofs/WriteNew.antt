@@ -31,21 +31,19 @@ use Rattle.calls.specs.Parts.{descriptorsOf, snapshotsOf, foundThrough}
 use Rattle.calls.specs.Check.{Passes}
 use Rattle.calls.specs.Effect.{writeStores}
 use Rattle.calls.proofs.CardLaws.{card-most, chain-is}
-use Rattle.claims.proofs.Stored.{stored-bytes, block-tail}
-use Rattle.claims.proofs.StoreLists.{Whole, isStored, stored-length, stored-other}
+use Rattle.blocks.proofs.StoredLaws.{stored-bytes, block-tail}
+use Rattle.blocks.proofs.StoreLists.{Whole, isStored, stored-length, stored-other}
 use Rattle.claims.proofs.Inside.{write-whole}
 use Rattle.claims.proofs.ChainAfter.{active-split, none-stored}
 use Rattle.claims.proofs.WrittenChain.{stored-last, not-stored, ds-some, active-next, active-form, active-rise, active-volume, active-name, placed-not-active, table-own, new-table}
 use Rattle.claims.proofs.Format.{zero-number}
-use Rattle.claims.proofs.AlgorithmLaws.{entry-in}
 use Rattle.claims.proofs.FoundEntry.{found-table}
-use Rattle.claims.proofs.LedgerFacts.{group-below}
 use Rattle.claims.proofs.LocalEntries.{Region}
 use Rattle.claims.proofs.PassesAfter.{number-of}
 use Rattle.claims.proofs.PassesSnapped.{block-entry}
 use Rattle.claims.proofs.PassesWrite.{extended-stays, extended-new, write-region, set-table-rules, set-phi-rules}
 use Rattle.claims.proofs.WriteFacts.{WriteFacts}
-use Rattle.claims.proofs.ChainBlocks.{table-phi, few-tables, under, layout-two}
+use Rattle.entries.proofs.TableLaws.{table-phi, few-tables, under, layout-two, group-below, entry-in}
 use Rattle.calls.proofs.Passed.{WritePassed}
 
 -- numbers of four bytes each, after n bytes of a list: one that is put, and the others

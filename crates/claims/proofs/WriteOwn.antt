@@ -32,20 +32,17 @@ use Rattle.calls.specs.Check.{Passes}
 use Rattle.calls.specs.Effect.{writeStores}
 use Rattle.calls.proofs.CardLaws.{card-most, chain-is}
 use Rattle.claims.proofs.Changed.{layout-small, member-form}
-use Rattle.claims.proofs.StoreLists.{Whole, stored-length, stored-other}
+use Rattle.blocks.proofs.StoreLists.{Whole, stored-length, stored-other}
 use Rattle.claims.proofs.Inside.{write-whole}
 use Rattle.claims.proofs.ChainAfter.{active-split, fits-of, none-stored, one-stored}
 use Rattle.claims.proofs.LocalEntries.{Region}
 use Rattle.claims.proofs.WrittenChain.{stored-last, not-stored, extended-none, placed-not-active, old-table, need-nothing}
 use Rattle.claims.proofs.WrittenChain.{active-next, active-inside, active-long, active-rise, active-end, active-volume, active-name}
-use Rattle.claims.proofs.AlgorithmLaws.{entry-in}
 use Rattle.claims.proofs.FoundEntry.{found-table, found-entry}
-use Rattle.claims.proofs.LedgerFacts.{group-below}
 use Rattle.claims.proofs.PassesSnapped.{block-entry}
 use Rattle.claims.proofs.PassesWrite.{extended-stays, extended-new, write-region, set-table-rules, set-phi-rules, kept-entry, kept-rules}
-use Rattle.claims.proofs.LedgerNext.{phi-stored}
 use Rattle.claims.proofs.WriteFacts.{WriteFacts}
-use Rattle.claims.proofs.ChainBlocks.{table-own, table-phi, own-inside, few-tables, under, layout-two}
+use Rattle.entries.proofs.TableLaws.{table-own, table-phi, own-inside, few-tables, under, layout-two, group-below, entry-in, phi-stored}
 use Rattle.calls.proofs.Passed.{WritePassed}
 
 -- the stores of a write that takes no block, and of one that takes one

@@ -34,12 +34,12 @@ use Rattle.calls.specs.Effect.{writeStores}
 use Rattle.calls.proofs.CardLaws.{card-most, chain-is}
 use Rattle.claims.proofs.Local.{linked-chain, shared-descriptor, shared-sound}
 use Rattle.claims.proofs.Relinked.{linked-from, linked-head, relinked, linked-next}
-use Rattle.claims.proofs.Stored.{tail-part, form-kept, form-phi, form-name}
+use Rattle.blocks.proofs.StoredLaws.{tail-part, form-kept, form-phi, form-name}
 use Rattle.claims.proofs.Changed.{layout-small, member-form, member-region, member-fresh, member-inside, changed-last}
-use Rattle.claims.proofs.StoreLists.{Whole, also, isStored, stored-length, stored-other}
+use Rattle.blocks.proofs.StoreLists.{Whole, also, isStored, stored-length, stored-other}
 use Rattle.claims.proofs.Inside.{write-whole}
 use Rattle.claims.proofs.ChainAfter.{active-split, none-stored}
-use Rattle.claims.proofs.ChainBlocks.{table-own as own-table}
+use Rattle.entries.proofs.TableLaws.{table-own as own-table}
 use Rattle.calls.proofs.Passed.{WritePassed}
 
 -- the first of a list of whole-block stores, and the others

@@ -6,3 +6,4 @@ pub mod SetLaws
 pub mod MarkLaws
 pub mod CheckLaws
 pub mod OpeningLaws
+pub mod TableLaws

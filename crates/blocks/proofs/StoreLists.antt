@@ -9,10 +9,19 @@ use lib.ListN.{length, take}
 use lib.Seq.{take-add}
 use lib.Dec.{eqb}
 use borrow.Author.Tests.{eqb-true, eqb-false}
 use Rattle.blocks.specs.Bytes.{blockAt, Store, store, storeBlock, storeAll}
 use Rattle.blocks.proofs.BoolLaws.{or-assoc, or-false-both}
 use Rattle.blocks.proofs.ByteLaws.{store-length, store-same, store-other}
-use Rattle.calls.proofs.StepLaws.{stored-append}
+
+-- stores, one after the other
+pub stored-append : (c : List ℕ) (xs ys : List Store) → storeAll c (xs ++ ys) ≡ storeAll (storeAll c xs) ys
+unfolding storeAll
+stored-append c [] ys = refl
+stored-append c (x ∷ xs) ys = stored-append (storeBlock c (x .at) (x .bytes)) xs ys
+
+pub stored-one : (c : List ℕ) (p : ℕ) (b : List ℕ) → storeAll c (store p b ∷ []) ≡ storeBlock c p b
+unfolding storeAll
+stored-one c p b = refl
 
 -- stores of whole blocks to a card of n bytes
 pub data Whole (n : ℕ) : List Store → Type 0 where

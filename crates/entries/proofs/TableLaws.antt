@@ -2,17 +2,22 @@
 use mathlib.Core.Path.{_≡_, refl, sym, ap, _∙_, subst}
 use mathlib.Core.Bool.{Bool, true, false, not, _&&_, _||_}
 use mathlib.Core.List.{List, [], _∷_, _++_}
-use Prim.Native.Nat.{ℕ, _+_, _≤_, _<_, _*_}
+use Prim.Native.Nat.{ℕ, _+_, _≤_, _<_, _*_, _/_}
 use native.Mathlib.Omega.{arith}
 use lib.Dec.{eqb, ltb, leb}
 use borrow.Author.Tests.{eq-eqb, ne-eqb, eqb-true}
-use Rattle.blocks.specs.Descriptor.{tableCount, cost, costOf}
+use Rattle.blocks.specs.Descriptor.{tableCount, cost, costOf, tailAt, descriptorBlock}
 use Rattle.blocks.specs.declared.numbers.Physical.{Physical}
 use Rattle.blocks.specs.declared.descriptor.Descriptor.{Descriptor}
 use Rattle.blocks.proofs.BoolLaws.{no, or-false-both, false-or, true-or}
 use Rattle.entries.specs.InPlace.{isDescriptor, isTable, inPlace}
-use Rattle.entries.specs.Entry.{phiAt, tableOf}
+use Rattle.entries.specs.Entry.{phiAt, tableOf, entryAt}
 use Rattle.entries.proofs.EntryLaws.{placed-other}
+use lib.ListN.{length}
+use Rattle.blocks.specs.Bytes.{part, u32At, blockAt}
+use Rattle.blocks.proofs.ByteLaws.{u32-part}
+use Rattle.blocks.proofs.DescriptorLaws.{Fits, tail-length}
+use Rattle.blocks.proofs.StoredLaws.{stored-bytes, block-tail, tail-part}
 
 -- fewer descriptors: what is in place stays in place
 module _ (v w : Descriptor) (ys : List Descriptor) (alpha : w .alpha ≡ v .alpha) (layout : w .layout ≡ v .layout) (volume : w .volume ≡ v .volume) (p : ℕ) where
@@ -89,3 +94,40 @@ few-tables v h = omega arith
 pub under : (l v : ℕ) → l < v → l < 128 * tableCount v
 unfolding tableCount
 under l v h = omega arith
+
+pub own-set : (c : List ℕ) (d : Descriptor) (i : ℕ) → eqb (d .layout) 1 ≡ true → eqb (tableOf c d i) 0 ≡ false
+unfolding tableOf
+own-set c d i e = rw e (ne-eqb (d .alpha .0 + 1 + i) 0 (omega arith))
+
+pub group-below : (l v : ℕ) → l < v → l / 128 < tableCount v
+unfolding tableCount
+group-below l v h = omega arith
+
+-- an entry of a table block and one of Phi, read from the block
+pub entry-in : (c : List ℕ) (m j : ℕ) → j < 128 → u32At (blockAt c m) (4 * j) ≡ entryAt c m j
+unfolding blockAt entryAt
+entry-in c m j h = u32-part c (512 * m) 512 (4 * j) (omega arith)
+
+pub phi-in : (c : List ℕ) (d : Descriptor) (i : ℕ) → i < 112 → u32At (blockAt c (d .alpha .0)) (64 + 4 * i) ≡ phiAt c d i
+unfolding blockAt phiAt
+phi-in c d i h =
+    let e : 512 * d .alpha .0 + (64 + 4 * i) ≡ 512 * d .alpha .0 + 64 + 4 * i = omega arith in
+    u32-part c (512 * d .alpha .0) 512 (64 + 4 * i) (omega arith) ∙ ap (u32At c) e
+
+-- Phi of a descriptor block stored with its own tail
+pub phi-stored : (c t : List ℕ) (w v : Descriptor) → w .alpha ≡ v .alpha → 512 * v .alpha .0 + 512 ≤ length c → length c ≡ length t → blockAt t (v .alpha .0) ≡ descriptorBlock w (tailAt c (v .alpha .0)) → Fits w
+    → (i : ℕ) → i < 112 → phiAt t w i ≡ phiAt c v i
+unfolding phiAt
+phi-stored c t w v q inside long is f i h =
+    let a = v .alpha .0 in
+    let whole = tail-length c a inside in
+    let n : 512 * a + 64 + 4 * i + 0 ≡ 512 * a + 64 + 4 * i = omega arith in
+    let k : 512 * a + (64 + 4 * i) ≡ 512 * a + 64 + 4 * i = omega arith in
+    let m : 512 * a + 40 + (24 + 4 * i) ≡ 512 * a + 64 + 4 * i = omega arith in
+    let j : 40 + (24 + 4 * i) ≡ 64 + 4 * i = omega arith in
+    let bytes : part t (512 * a + 64 + 4 * i) 4 ≡ part c (512 * a + 64 + 4 * i) 4 =
+    ap (λ (x : ℕ). part t x 4) (sym k) ∙ stored-bytes t a (omega arith) w (tailAt c a) is f whole (64 + 4 * i) 4 (omega arith)
+    ∙ ap (λ (x : ℕ). part (descriptorBlock w (tailAt c a)) x 4) (sym j) ∙ block-tail w (tailAt c a) f whole (24 + 4 * i) 4
+    ∙ tail-part c a (24 + 4 * i) 4 inside (omega arith) ∙ ap (λ (x : ℕ). part c x 4) m in
+    ap (λ (x : Physical). u32At t (512 * x .0 + 64 + 4 * i)) q
+    ∙ ap (u32At t) (sym n) ∙ sym (u32-part t (512 * a + 64 + 4 * i) 4 0 (omega arith)) ∙ ap (λ (b : List ℕ). u32At b 0) bytes ∙ u32-part c (512 * a + 64 + 4 * i) 4 0 (omega arith) ∙ ap (u32At c) n
