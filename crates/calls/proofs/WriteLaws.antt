@@ -1,24 +1,21 @@
 -- Laws of the write, as the code asks them.
 use mathlib.Core.Path.{_≡_, refl, sym, ap, _∙_}
-use mathlib.Core.Bool.{Bool, true, false, not, _&&_}
+use mathlib.Core.Bool.{Bool, true, false, not}
 use mathlib.Core.List.{List}
-use Prim.Native.Nat.{ℕ, _+_, _*_, _-_, _/_, _≤_, _<_}
+use Prim.Native.Nat.{ℕ, _+_, _-_, _/_, _≤_, _<_}
 use native.Mathlib.Omega.{arith}
 use lib.ListN.{length, drop}
-use lib.Dec.{eqb, ltb, leb}
-use borrow.Author.Tests.{eq-eqb, ne-eqb, lt-ltb, le-ltb, eqb-false}
+use lib.Dec.{ltb}
+use borrow.Author.Tests.{lt-ltb, le-ltb, not-false}
 use Rattle.blocks.specs.Pick.{pick}
-use Rattle.blocks.specs.Bytes.{blockCount, blockAt, storeBlock, storeAll}
-use Rattle.blocks.specs.Descriptor.{tailAt}
+use Rattle.blocks.specs.Bytes.{blockCount, storeAll}
 use Rattle.blocks.specs.Chain.{chain, descriptors, regionsOf, activeOf}
 use Rattle.blocks.specs.declared.numbers.Physical.{Physical}
 use Rattle.blocks.specs.declared.descriptor.Descriptor.{Descriptor}
 use Rattle.blocks.specs.declared.chain.Regions.{Regions}
 use Rattle.blocks.proofs.ChainLaws.{cost-least}
-use Rattle.blocks.proofs.ByteLaws.{store-other}
-use Rattle.blocks.proofs.DescriptorLaws.{store-tail}
-use Rattle.entries.specs.Through.{Through}
-use Rattle.entries.specs.Entry.{find, tableIsNew, need, setInTable, setInNewTable, writing}
+use Rattle.entries.specs.Through.{Through, WriteReady}
+use Rattle.entries.specs.Entry.{find, need, writing}
 use Rattle.entries.specs.declared.find.Found.{Found}
 use Rattle.entries.specs.declared.find.Found.the-variants.{Misplaced, Entry}
 use Rattle.entries.proofs.EntryLaws.{through-beta, through-end, through-volume, found-table, found-entry}
@@ -26,87 +23,22 @@ use Rattle.calls.specs.declared.answer.Answer.{Answer}
 use Rattle.calls.specs.Call.{Call, Write, Block, answer, accepted}
 use Rattle.calls.specs.Parts.{areaBad, isMisplaced, holderOf}
 use Rattle.calls.specs.Ladder.{admission, firstRow, writeRows}
-use Rattle.calls.specs.Effect.{Written, written, WriteReady, writeStores}
+use Rattle.calls.specs.Effect.{Written, written, writeStores}
 use Rattle.calls.specs.Meaning.{rowsOf, answerOf, lentOf, filledOf, storesOf, givenOf}
 use Rattle.calls.specs.Step.{Done, step, done}
 use Rattle.calls.proofs.StepLaws.{step-refused, step-accepted}
 use Rattle.calls.proofs.CardLaws.{card-found}
 use Rattle.calls.proofs.RowLaws.{admitted, admitted, block-given, block-passed, chain-given, volume-given, volume-passed, Reached, reached}
 
--- need, where a set entry is not overwritten, says whether the table block is new
-new-by : (s t : Bool) (n : ℕ) → n ≡ pick s 0 (pick t 2 1) → (n ≡ 0 → ⊥) → t ≡ eqb n 2
-new-by true t n e z = absurd (z e)
-new-by false true n e z = sym (eq-eqb n 2 e)
-new-by false false n e z = sym (ne-eqb n 2 (omega arith))
-
-need-new : (alpha n : ℕ) (m p : Physical) → n ≡ need alpha (Entry m p) → (n ≡ 0 → ⊥) → tableIsNew alpha (m .0) ≡ eqb n 2
-unfolding need
-need-new alpha n m p e z = new-by (not (eqb (p .0) 0) && leb alpha (p .0)) (tableIsNew alpha (m .0)) n e z
-
-zero-by : (z a t : Bool) (n : ℕ) → n ≡ pick (not z && a) 0 (pick t 2 1) → n ≡ 0 → z ≡ false
-zero-by false a t n e h = refl
-zero-by true a true n e h = absurd (omega arith)
-zero-by true a false n e h = absurd (omega arith)
-
-need-none : (alpha n : ℕ) (m p : Physical) → n ≡ need alpha (Entry m p) → n ≡ 0 → p .0 ≡ 0 → ⊥
-unfolding need
-need-none alpha n m p e z q = eqb-false (p .0) 0 (zero-by (eqb (p .0) 0) (leb alpha (p .0)) (tableIsNew alpha (m .0)) n e z) q
-
--- what is set is the same after the store of a block at or above beta
-module _ (c : List ℕ) (d : Descriptor) (m p l : ℕ) (block : List ℕ) (ready : WriteReady c d m p l block) (q : ℕ) (above : d .beta .0 ≤ q) (inside : 512 * q + 512 ≤ length c) where
-  abbrev after : List ℕ
-  after = storeBlock c q block
-
-  tail-kept : tailAt after (d .alpha .0) ≡ tailAt c (d .alpha .0)
-  tail-kept = store-tail c q block (d .alpha .0) (ready .whole) inside (omega (arith, ready .region, ready .upto)) (omega (arith, ready .region))
-
-  table-kept : blockAt after m ≡ blockAt c m
-  table-kept = store-other c q block (ready .whole) inside m (omega (arith, ready .table))
-
-  set-kept : setInTable after d m l ≡ setInTable c d m l
-  unfolding setInTable
-  set-kept = rw (tail-kept, table-kept)
-
-  new-set-kept : setInNewTable after d m l ≡ setInNewTable c d m l
-  unfolding setInNewTable
-  new-set-kept = rw (tail-kept, table-kept)
-
--- a write through an entry, by the tests of the code
-module _ (c : List ℕ) (d : Descriptor) (m p : Physical) (l : ℕ) (block : List ℕ) (ready : WriteReady c d (m .0) (p .0) l block) (n : ℕ) (need-is : n ≡ need (d .alpha .0) (Entry m p)) where
-  pub put-11 : length c / 512 < d .beta .0 + n → _≡_ {A = Written} (record { answer = answer 11 0; card = c }) (written c d (Entry m p) l block)
+-- a write once its entry was found, by the test for room
+module _ (c : List ℕ) (d : Descriptor) (found : Found) (l : ℕ) (block : List ℕ) (n : ℕ) (need-is : n ≡ need (d .alpha .0) found) where
+  pub put-11 : length c / 512 < d .beta .0 + n → _≡_ {A = Written} (record { answer = answer 11 0; card = c }) (written c d found l block)
   unfolding written blockCount
   put-11 h = rw (← need-is, lt-ltb (length c / 512) (d .beta .0 + n) h)
 
-  pub put-inside : n ≡ 0 → (length block ≡ 512) × (512 * p .0 + 512 ≤ length c)
-  put-inside z = (ready .whole, omega (arith, ready .entry (need-none (d .alpha .0) n m p need-is z), ready .upto))
-
-  module _ (room : d .beta .0 + n ≤ length c / 512) where
-    put-room : (c′ : List ℕ) → c′ ≡ storeAll c (writing c d (Entry m p) l block) → _≡_ {A = Written} (record { answer = accepted; card = c′ }) (written c d (Entry m p) l block)
-    unfolding written blockCount
-    put-room c′ e = rw (← need-is, le-ltb (length c / 512) (d .beta .0 + n) room, e)
-
-    pub put-0 : n ≡ 0 → (c′ : List ℕ) → c′ ≡ storeBlock c (p .0) block → _≡_ {A = Written} (record { answer = accepted; card = c′ }) (written c d (Entry m p) l block)
-    unfolding writing storeAll
-    put-0 z c′ e = put-room c′ (e ∙ rw (← need-is, z))
-
-    module _ (some : n ≡ 0 → ⊥) where
-      pub put-2 : n ≡ 2 → (c₁ c₂ : List ℕ) → c₁ ≡ storeBlock c (d .beta .0 + 1) block → c₂ ≡ storeAll c₁ (setInNewTable c₁ d (m .0) l) → _≡_ {A = Written} (record { answer = accepted; card = c₂ }) (written c d (Entry m p) l block)
-      unfolding writing storeAll
-      put-2 z c₁ c₂ e f =
-          let kept = new-set-kept c d (m .0) (p .0) l block ready (d .beta .0 + 1) (omega arith) (omega (arith, ready .upto)) in
-          put-room c₂
-          (f ∙ ap (λ (x : List ℕ). storeAll x (setInNewTable x d (m .0) l)) e
-          ∙ ap (storeAll (storeBlock c (d .beta .0 + 1) block)) kept
-          ∙ rw (← need-is, ne-eqb n 0 some, need-new (d .alpha .0) n m p need-is some, eq-eqb n 2 z))
-
-      pub put-1 : (n ≡ 2 → ⊥) → (c₁ c₂ : List ℕ) → c₁ ≡ storeBlock c (d .beta .0) block → c₂ ≡ storeAll c₁ (setInTable c₁ d (m .0) l) → _≡_ {A = Written} (record { answer = accepted; card = c₂ }) (written c d (Entry m p) l block)
-      unfolding writing storeAll
-      put-1 z c₁ c₂ e f =
-          let kept = set-kept c d (m .0) (p .0) l block ready (d .beta .0) (omega arith) (omega (arith, some)) in
-          put-room c₂
-          (f ∙ ap (λ (x : List ℕ). storeAll x (setInTable x d (m .0) l)) e
-          ∙ ap (storeAll (storeBlock c (d .beta .0) block)) kept
-          ∙ rw (← need-is, ne-eqb n 0 some, need-new (d .alpha .0) n m p need-is some, ne-eqb n 2 z))
+  pub put-0 : d .beta .0 + n ≤ length c / 512 → (c′ : List ℕ) → c′ ≡ storeAll c (writing c d found l block) → _≡_ {A = Written} (record { answer = accepted; card = c′ }) (written c d found l block)
+  unfolding written blockCount
+  put-0 room c′ e = rw (← need-is, le-ltb (length c / 512) (d .beta .0 + n) room, e)
 
 -- what a write through an entry must know, of a descriptor of a sound chain
 pub write-ready : (c starts : List ℕ) (count : ℕ) (d : Descriptor) (t : Through c starts count d) (l : ℕ) (block : List ℕ) → length block ≡ 512 → l < d .volume

@@ -1,13 +1,11 @@
 -- The effect of each accepted call: the whole-block stores that it makes, in order, computed from the card at entry; and what it leaves in lent memory.
-use mathlib.Core.Path.{_≡_}
 use mathlib.Core.List.{List, [], _∷_, _++_}
-use Prim.Native.Nat.{ℕ, _+_, _*_, _-_, _≤_, _<_}
-use lib.ListN.{length}
+use Prim.Native.Nat.{ℕ, _+_, _-_}
 use Rattle.blocks.specs.Pick.{pick}
 use lib.Dec.{ltb}
-use Rattle.blocks.specs.Bytes.{blockSize, Store, store, blockCount, storeAll}
+use Rattle.blocks.specs.Bytes.{Store, store, blockCount, storeAll}
 use Rattle.blocks.specs.Name.{noName}
-use Rattle.blocks.specs.Descriptor.{physical, mostVolume, costOf, tailAt, descriptorBlock, renamedOf, linkedOf, reopenedOf, copying}
+use Rattle.blocks.specs.Descriptor.{physical, costOf, tailAt, descriptorBlock, renamedOf, linkedOf, reopenedOf, copying}
 use Rattle.blocks.specs.declared.descriptor.Descriptor.{Descriptor}
 use Rattle.blocks.specs.Chain.{activeOf}
 use Rattle.entries.specs.Entry.{need, writing}
@@ -69,13 +67,3 @@ written c d found l block =
     pick (ltb (blockCount c) (d .beta .0 + need (d .alpha .0) found))
     (record { answer = answer 11 0; card = c })
     (record { answer = accepted; card = storeAll c (writing c d found l block) })
-
--- what the code that writes through a found entry must know: the blocks are on a card of at most 65,536, the entry and its table are below beta
-pub record WriteReady (c : List ℕ) (d : Descriptor) (m p l : ℕ) (block : List ℕ) : Type 0 where
-  pub small : length c ≤ 33554432
-  pub region : d .alpha .0 < d .beta .0
-  pub upto : blockSize * d .beta .0 ≤ length c
-  pub table : m < d .beta .0
-  pub entry : (p ≡ 0 → ⊥) → p < d .beta .0
-  pub number : l < mostVolume
-  pub whole : length block ≡ blockSize

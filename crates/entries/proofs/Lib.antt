@@ -3,6 +3,7 @@ pub mod PlaceLaws
 pub mod RegionLaws
 pub mod EntryLaws
 pub mod SetLaws
+pub mod PutLaws
 pub mod MarkLaws
 pub mod CheckLaws
 pub mod OpeningLaws

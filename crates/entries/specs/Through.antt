@@ -1,10 +1,11 @@
--- What a caller of this layer must know: the regions of a sound chain, and a descriptor of that chain.
+-- What a caller of this layer must know: the regions of a sound chain, and a descriptor of that chain; of an entry that was found, what a write through it rests on.
 use mathlib.Core.Path.{_≡_}
 use mathlib.Core.Bool.{true}
 use mathlib.Core.List.{List}
-use Prim.Native.Nat.{ℕ, _≤_, _<_}
+use Prim.Native.Nat.{ℕ, _*_, _≤_, _<_}
 use lib.ListN.{length, getD}
-use Rattle.blocks.specs.Descriptor.{physical, descriptorAt}
+use Rattle.blocks.specs.Bytes.{blockSize}
+use Rattle.blocks.specs.Descriptor.{physical, mostVolume, descriptorAt}
 use Rattle.blocks.specs.Chain.{chain, regionsOf}
 use Rattle.blocks.specs.declared.descriptor.Descriptor.{Descriptor}
 
@@ -24,3 +25,13 @@ pub record Through (c starts : List ℕ) (count : ℕ) (d : Descriptor) : Type 0
   pub index : ℕ
   pub inside : index < count
   pub is : d ≡ descriptorAt c (getD starts index 0)
+
+-- what the code that writes through a found entry must know: the blocks are on a card of at most 65,536, the entry and its table are below beta
+pub record WriteReady (c : List ℕ) (d : Descriptor) (m p l : ℕ) (block : List ℕ) : Type 0 where
+  pub small : length c ≤ 33554432
+  pub region : d .alpha .0 < d .beta .0
+  pub upto : blockSize * d .beta .0 ≤ length c
+  pub table : m < d .beta .0
+  pub entry : (p ≡ 0 → ⊥) → p < d .beta .0
+  pub number : l < mostVolume
+  pub whole : length block ≡ blockSize

@@ -1,5 +1,4 @@
 // A write of one block to the active store.
-use blocks::bytes;
 use blocks::descriptor::Descriptor;
 use blocks::numbers::Logical;
 use blocks::numbers::Physical;
@@ -8,11 +7,12 @@ use calls::answer::Answer;
 use calls::area;
 use entries::find::Found;
 use finding::find;
-use finding::set;
+use placing::put;
 use walking::chain;
 ghost use mathlib.Core.Path.{_≡_};
+ghost use Rattle.entries.specs.Through.{WriteReady};
 ghost use Rattle.calls.specs.Call.{Write, Block};
-ghost use Rattle.calls.specs.Effect.{written, WriteReady};
+ghost use Rattle.calls.specs.Effect.{written};
 ghost use Rattle.calls.specs.Step.{step, done};
 
 // Writes the block through the entry `p` of table block `m`, if there is room.
@@ -25,18 +25,7 @@ fn put(card: &mut [u8], d: Descriptor, m: Physical, p: Physical, l: Logical, blo
     if card.len() / 512 < (beta as usize) + (need as usize) {
         return answer::NO_ROOM;
     }
-    if need == 0 {
-        bytes::store_block(card, p, block);
-        return answer::ACCEPTED;
-    }
-    if need == 2 {
-        let after = Physical(beta + 1);
-        bytes::store_block(card, after, block);
-        set::set_in_new_table(card, d, m, l);
-        return answer::ACCEPTED;
-    }
-    bytes::store_block(card, Physical(beta), block);
-    set::set_in_table(card, d, m, l);
+    put::put_block(card, d, m, p, l, need, block);
     answer::ACCEPTED
 }
 

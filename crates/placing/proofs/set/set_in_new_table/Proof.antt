@@ -3,8 +3,8 @@ use mathlib.Core.Path.{sym}
 use native.Mathlib.Omega.{arith}
 use Rattle.entries.proofs.SetLaws.{new-table-set, new-table-set-over}
 use borrow.Author.Needs.{needs}
-use Rattle.finding.proofs.set.set_in_new_table.Statement.{statement}
-use Rattle.finding.proofs.set.set_in_new_table.Tie as tie
+use Rattle.placing.proofs.set.set_in_new_table.Statement.{statement}
+use Rattle.placing.proofs.set.set_in_new_table.Tie as tie
 
 add-put-new-table : tie.Need-add-put-new-table
 add-put-new-table c = search needs

@@ -1,8 +1,8 @@
 -- `put_with_table` meets its contract: the entry is put past the first 40 bytes.
 use Rattle.entries.proofs.SetLaws.{phi-put-in}
 use borrow.Author.Needs.{needs}
-use Rattle.finding.proofs.set.put_with_table.Statement.{statement}
-use Rattle.finding.proofs.set.put_with_table.Tie as tie
+use Rattle.placing.proofs.set.put_with_table.Statement.{statement}
+use Rattle.placing.proofs.set.put_with_table.Tie as tie
 
 put-descriptor-requires : tie.Need-put-descriptor-requires
 put-descriptor-requires c κs = search needs

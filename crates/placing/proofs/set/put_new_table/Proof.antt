@@ -1,8 +1,8 @@
 -- `put_new_table` meets its contract, by its test.
 use Rattle.entries.proofs.SetLaws.{table-cleared, table-copied}
 use borrow.Author.Needs.{needs}
-use Rattle.finding.proofs.set.put_new_table.Statement.{statement}
-use Rattle.finding.proofs.set.put_new_table.Tie as tie
+use Rattle.placing.proofs.set.put_new_table.Statement.{statement}
+use Rattle.placing.proofs.set.put_new_table.Tie as tie
 
 clear-block-requires : tie.Need-clear-block-requires
 clear-block-requires c κs = search needs

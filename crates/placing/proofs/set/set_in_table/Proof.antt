@@ -3,8 +3,8 @@ use mathlib.Core.Path.{_≡_}
 use lib.ListN.{length}
 use Rattle.entries.proofs.SetLaws.{table-set, table-set-over}
 use borrow.Author.Needs.{needs}
-use Rattle.finding.proofs.set.set_in_table.Statement.{statement}
-use Rattle.finding.proofs.set.set_in_table.Tie as tie
+use Rattle.placing.proofs.set.set_in_table.Statement.{statement}
+use Rattle.placing.proofs.set.set_in_table.Tie as tie
 
 put-entry-requires : tie.Need-put-entry-requires
 put-entry-requires c κs = search needs

@@ -1,8 +1,8 @@
 -- `put_entry` meets its contract: a put into a block is a store of that block.
 use Rattle.entries.proofs.SetLaws.{entry-put}
 use borrow.Author.Needs.{needs}
-use Rattle.finding.proofs.set.put_entry.Statement.{statement}
-use Rattle.finding.proofs.set.put_entry.Tie as tie
+use Rattle.placing.proofs.set.put_entry.Statement.{statement}
+use Rattle.placing.proofs.set.put_entry.Tie as tie
 
 cast-put-u32 : tie.Need-cast-put-u32
 cast-put-u32 c = search needs

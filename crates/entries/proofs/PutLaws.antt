@@ -1,0 +1,85 @@
+-- Laws of a write through an entry that was found. The data goes to beta or after it, so what is set afterwards is that of the card at entry.
+use mathlib.Core.Path.{_≡_, refl, sym, ap, _∙_}
+use mathlib.Core.Bool.{Bool, true, false, not, _&&_}
+use mathlib.Core.List.{List}
+use Prim.Native.Nat.{ℕ, _+_, _*_, _/_, _≤_}
+use native.Mathlib.Omega.{arith}
+use lib.ListN.{length}
+use lib.Dec.{eqb, leb}
+use borrow.Author.Tests.{eq-eqb, ne-eqb, eqb-false}
+use Rattle.blocks.specs.Pick.{pick}
+use Rattle.blocks.specs.Bytes.{blockAt, storeBlock, storeAll}
+use Rattle.blocks.specs.Descriptor.{tailAt}
+use Rattle.blocks.specs.declared.numbers.Physical.{Physical}
+use Rattle.blocks.specs.declared.descriptor.Descriptor.{Descriptor}
+use Rattle.blocks.proofs.ByteLaws.{store-other}
+use Rattle.blocks.proofs.DescriptorLaws.{store-tail}
+use Rattle.entries.specs.Through.{WriteReady}
+use Rattle.entries.specs.Entry.{tableIsNew, need, setInTable, setInNewTable, writing}
+use Rattle.entries.specs.declared.find.Found.the-variants.{Entry}
+
+-- need, where a set entry is not overwritten, says whether the table block is new
+new-by : (s t : Bool) (n : ℕ) → n ≡ pick s 0 (pick t 2 1) → (n ≡ 0 → ⊥) → t ≡ eqb n 2
+new-by true t n e z = absurd (z e)
+new-by false true n e z = sym (eq-eqb n 2 e)
+new-by false false n e z = sym (ne-eqb n 2 (omega arith))
+
+need-new : (alpha n : ℕ) (m p : Physical) → n ≡ need alpha (Entry m p) → (n ≡ 0 → ⊥) → tableIsNew alpha (m .0) ≡ eqb n 2
+unfolding need
+need-new alpha n m p e z = new-by (not (eqb (p .0) 0) && leb alpha (p .0)) (tableIsNew alpha (m .0)) n e z
+
+zero-by : (z a t : Bool) (n : ℕ) → n ≡ pick (not z && a) 0 (pick t 2 1) → n ≡ 0 → z ≡ false
+zero-by false a t n e h = refl
+zero-by true a true n e h = absurd (omega arith)
+zero-by true a false n e h = absurd (omega arith)
+
+need-none : (alpha n : ℕ) (m p : Physical) → n ≡ need alpha (Entry m p) → n ≡ 0 → p .0 ≡ 0 → ⊥
+unfolding need
+need-none alpha n m p e z q = eqb-false (p .0) 0 (zero-by (eqb (p .0) 0) (leb alpha (p .0)) (tableIsNew alpha (m .0)) n e z) q
+
+-- what is set is the same after the store of a block at or above beta
+module _ (c : List ℕ) (d : Descriptor) (m p l : ℕ) (block : List ℕ) (ready : WriteReady c d m p l block) (q : ℕ) (above : d .beta .0 ≤ q) (inside : 512 * q + 512 ≤ length c) where
+  abbrev after : List ℕ
+  after = storeBlock c q block
+
+  tail-kept : tailAt after (d .alpha .0) ≡ tailAt c (d .alpha .0)
+  tail-kept = store-tail c q block (d .alpha .0) (ready .whole) inside (omega (arith, ready .region, ready .upto)) (omega (arith, ready .region))
+
+  table-kept : blockAt after m ≡ blockAt c m
+  table-kept = store-other c q block (ready .whole) inside m (omega (arith, ready .table))
+
+  set-kept : setInTable after d m l ≡ setInTable c d m l
+  unfolding setInTable
+  set-kept = rw (tail-kept, table-kept)
+
+  new-set-kept : setInNewTable after d m l ≡ setInNewTable c d m l
+  unfolding setInNewTable
+  new-set-kept = rw (tail-kept, table-kept)
+
+-- a write through an entry, by its need
+module _ (c : List ℕ) (d : Descriptor) (m p : Physical) (l : ℕ) (block : List ℕ) (ready : WriteReady c d (m .0) (p .0) l block) (n : ℕ) (need-is : n ≡ need (d .alpha .0) (Entry m p)) where
+  pub put-inside : n ≡ 0 → (length block ≡ 512) × (512 * p .0 + 512 ≤ length c)
+  put-inside z = (ready .whole, omega (arith, ready .entry (need-none (d .alpha .0) n m p need-is z), ready .upto))
+
+  pub put-over : n ≡ 0 → (c′ : List ℕ) → c′ ≡ storeBlock c (p .0) block → c′ ≡ storeAll c (writing c d (Entry m p) l block)
+  unfolding writing storeAll
+  put-over z c′ e = e ∙ rw (← need-is, z)
+
+  module _ (room : d .beta .0 + n ≤ length c / 512) (some : n ≡ 0 → ⊥) where
+    pub put-in-new-table : n ≡ 2 → (c₁ c₂ : List ℕ) → c₁ ≡ storeBlock c (d .beta .0 + 1) block → c₂ ≡ storeAll c₁ (setInNewTable c₁ d (m .0) l) → c₂ ≡ storeAll c (writing c d (Entry m p) l block)
+    unfolding writing storeAll
+    put-in-new-table z c₁ c₂ e f =
+        let kept = new-set-kept c d (m .0) (p .0) l block ready (d .beta .0 + 1) (omega arith) (omega (arith, ready .upto)) in
+        f
+        ∙ ap (λ (x : List ℕ). storeAll x (setInNewTable x d (m .0) l)) e
+        ∙ ap (storeAll (storeBlock c (d .beta .0 + 1) block)) kept
+        ∙ rw (← need-is, ne-eqb n 0 some, need-new (d .alpha .0) n m p need-is some, eq-eqb n 2 z)
+
+    pub put-in-table : (n ≡ 2 → ⊥) → (c₁ c₂ : List ℕ) → c₁ ≡ storeBlock c (d .beta .0) block → c₂ ≡ storeAll c₁ (setInTable c₁ d (m .0) l) → c₂ ≡ storeAll c (writing c d (Entry m p) l block)
+    unfolding writing storeAll
+    put-in-table z c₁ c₂ e f =
+        let kept = set-kept c d (m .0) (p .0) l block ready (d .beta .0) (omega arith) (omega (arith, some)) in
+        f
+        ∙ ap (λ (x : List ℕ). storeAll x (setInTable x d (m .0) l)) e
+        ∙ ap (storeAll (storeBlock c (d .beta .0) block)) kept
+        ∙ rw (← need-is, ne-eqb n 0 some, need-new (d .alpha .0) n m p need-is some, ne-eqb n 2 z)
