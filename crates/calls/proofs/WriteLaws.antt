@@ -3,22 +3,18 @@ use mathlib.Core.Path.{_≡_, refl, sym, ap, _∙_}
 use mathlib.Core.Bool.{Bool, true, false, not}
 use mathlib.Core.List.{List}
 use Prim.Native.Nat.{ℕ, _+_, _-_, _/_, _≤_, _<_}
-use native.Mathlib.Omega.{arith}
 use lib.ListN.{length, drop}
 use lib.Dec.{ltb}
-use borrow.Author.Tests.{lt-ltb, le-ltb, not-false}
+use borrow.Author.Tests.{lt-ltb, le-ltb}
 use Rattle.blocks.specs.Pick.{pick}
 use Rattle.blocks.specs.Bytes.{blockCount, storeAll}
 use Rattle.blocks.specs.Chain.{chain, descriptors, regionsOf, activeOf}
 use Rattle.blocks.specs.declared.numbers.Physical.{Physical}
 use Rattle.blocks.specs.declared.descriptor.Descriptor.{Descriptor}
 use Rattle.blocks.specs.declared.chain.Regions.{Regions}
-use Rattle.blocks.proofs.ChainLaws.{cost-least}
-use Rattle.entries.specs.Through.{Through, WriteReady}
 use Rattle.entries.specs.Entry.{find, need, writing}
 use Rattle.entries.specs.declared.find.Found.{Found}
 use Rattle.entries.specs.declared.find.Found.the-variants.{Misplaced, Entry}
-use Rattle.entries.proofs.EntryLaws.{through-beta, through-end, through-volume, found-table, found-entry}
 use Rattle.calls.specs.declared.answer.Answer.{Answer}
 use Rattle.calls.specs.Call.{Call, Write, Block, answer, accepted}
 use Rattle.calls.specs.Parts.{areaBad, isMisplaced, holderOf}
@@ -39,20 +35,6 @@ module _ (c : List ℕ) (d : Descriptor) (found : Found) (l : ℕ) (block : List
   pub put-0 : d .beta .0 + n ≤ length c / 512 → (c′ : List ℕ) → c′ ≡ storeAll c (writing c d found l block) → _≡_ {A = Written} (record { answer = accepted; card = c′ }) (written c d found l block)
   unfolding written blockCount
   put-0 room c′ e = rw (← need-is, le-ltb (length c / 512) (d .beta .0 + n) room, e)
-
--- what a write through an entry must know, of a descriptor of a sound chain
-pub write-ready : (c starts : List ℕ) (count : ℕ) (d : Descriptor) (t : Through c starts count d) (l : ℕ) (block : List ℕ) → length block ≡ 512 → l < d .volume
-    → (f : Found) → f ≡ find c (descriptors (chain c)) d l → (m p : Physical) → f ≡ Entry m p → WriteReady c d (m .0) (p .0) l block
-write-ready c starts count d t l block long below f found-is m p e =
-    record {
-      small = t .small;
-      region = omega (arith, through-beta c starts count d t, cost-least (d .layout) (d .volume));
-      upto = through-end c starts count d t;
-      table = found-table c starts count d t l below f found-is m p e;
-      entry = found-entry c starts count d t l f found-is m p e;
-      number = omega (arith, through-volume c starts count d t);
-      whole = long;
-    }
 
 -- the rows of a write that follow admission, in the order of the code
 module _ (c : List ℕ) (l : ℕ) (block : List ℕ) (a : Answer) (asked : a ≡ firstRow (admission c)) (card : a .number ≡ 0) where

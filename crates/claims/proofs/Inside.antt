@@ -26,11 +26,10 @@ use Rattle.entries.specs.declared.find.Found.{Found}
 use Rattle.entries.specs.declared.find.Found.the-variants.{Misplaced, Entry}
 use Rattle.entries.proofs.EntryLaws.{through-alpha, through-beta, need-more}
 use Rattle.entries.proofs.SetLaws.{table-length, tail-with-length}
-use Rattle.entries.proofs.PutLaws.{put-inside}
+use Rattle.entries.proofs.PutLaws.{put-inside, write-ready}
 use Rattle.calls.specs.Parts.{areaBad, descriptorsOf, snapshotsOf, withName, foundThrough}
 use Rattle.calls.specs.Effect.{snapping, reverting, writeStores, snapStores, revertStores}
 use Rattle.calls.proofs.CardLaws.{card-some, card-found, card-active, card-through, card-inside, card-snapshot, card-snapshot-count}
-use Rattle.calls.proofs.WriteLaws.{write-ready}
 use Rattle.calls.proofs.Passed.{ReamPassed, WritePassed, SnapPassed, RevertPassed}
 use Rattle.blocks.proofs.StoreLists.{Whole, none, also, whole-append}
 use Rattle.blocks.specs.declared.descriptor.Format.{Format}

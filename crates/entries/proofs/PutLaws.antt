@@ -2,7 +2,7 @@
 use mathlib.Core.Path.{_≡_, refl, sym, ap, _∙_}
 use mathlib.Core.Bool.{Bool, true, false, not, _&&_}
 use mathlib.Core.List.{List}
-use Prim.Native.Nat.{ℕ, _+_, _*_, _/_, _≤_}
+use Prim.Native.Nat.{ℕ, _+_, _*_, _/_, _≤_, _<_}
 use native.Mathlib.Omega.{arith}
 use lib.ListN.{length}
 use lib.Dec.{eqb, leb}
@@ -14,9 +14,13 @@ use Rattle.blocks.specs.declared.numbers.Physical.{Physical}
 use Rattle.blocks.specs.declared.descriptor.Descriptor.{Descriptor}
 use Rattle.blocks.proofs.ByteLaws.{store-other}
 use Rattle.blocks.proofs.DescriptorLaws.{store-tail}
-use Rattle.entries.specs.Through.{WriteReady}
-use Rattle.entries.specs.Entry.{tableIsNew, need, setInTable, setInNewTable, writing}
+use Rattle.entries.specs.Through.{WriteReady, Through}
+use Rattle.entries.specs.Entry.{tableIsNew, need, setInTable, setInNewTable, writing, find}
 use Rattle.entries.specs.declared.find.Found.the-variants.{Entry}
+use Rattle.blocks.specs.Chain.{chain, descriptors}
+use Rattle.blocks.proofs.ChainLaws.{cost-least}
+use Rattle.entries.specs.declared.find.Found.{Found}
+use Rattle.entries.proofs.EntryLaws.{through-beta, through-end, through-volume, found-table, found-entry}
 
 -- need, where a set entry is not overwritten, says whether the table block is new
 new-by : (s t : Bool) (n : ℕ) → n ≡ pick s 0 (pick t 2 1) → (n ≡ 0 → ⊥) → t ≡ eqb n 2
@@ -83,3 +87,17 @@ module _ (c : List ℕ) (d : Descriptor) (m p : Physical) (l : ℕ) (block : Lis
         ∙ ap (λ (x : List ℕ). storeAll x (setInTable x d (m .0) l)) e
         ∙ ap (storeAll (storeBlock c (d .beta .0) block)) kept
         ∙ rw (← need-is, ne-eqb n 0 some, need-new (d .alpha .0) n m p need-is some, ne-eqb n 2 z)
+
+-- what a write through an entry must know, of a descriptor of a sound chain
+pub write-ready : (c starts : List ℕ) (count : ℕ) (d : Descriptor) (t : Through c starts count d) (l : ℕ) (block : List ℕ) → length block ≡ 512 → l < d .volume
+    → (f : Found) → f ≡ find c (descriptors (chain c)) d l → (m p : Physical) → f ≡ Entry m p → WriteReady c d (m .0) (p .0) l block
+write-ready c starts count d t l block long below f found-is m p e =
+    record {
+      small = t .small;
+      region = omega (arith, through-beta c starts count d t, cost-least (d .layout) (d .volume));
+      upto = through-end c starts count d t;
+      table = found-table c starts count d t l below f found-is m p e;
+      entry = found-entry c starts count d t l f found-is m p e;
+      number = omega (arith, through-volume c starts count d t);
+      whole = long;
+    }

@@ -9,9 +9,10 @@ use Rattle.calls.specs.Meaning.{lentOf}
 use Rattle.calls.proofs.StepLaws.{step-barred, step-refused}
 use Rattle.calls.proofs.RowLaws.{Reached}
 use Rattle.calls.proofs.CardLaws.{card-active-through}
-use Rattle.calls.proofs.WriteLaws.{write-9, write-6, write-reached, write-8, write-10, write-ready, write-done}
+use Rattle.calls.proofs.WriteLaws.{write-9, write-6, write-reached, write-8, write-10, write-done}
 use Rattle.writes.proofs.write.write.Statement.{statement}
 use Rattle.writes.proofs.write.write.Tie as tie
+use Rattle.entries.proofs.PutLaws.{write-ready}
 
 admit-requires : tie.Need-admit-requires
 admit-requires c κs = search needs
