@@ -12,9 +12,9 @@ use borrow.Author.Tests.{ne-eqb, eqb-true, eqb-false, ltb-true, ltb-false, le-lt
 use Rattle.blocks.specs.Pick.{pick, same}
 use Rattle.blocks.specs.Bytes.{blockCount}
 use Rattle.blocks.specs.Descriptor.{physical, tableCount, cost, costOf, descriptorAt}
-use Rattle.blocks.specs.Name.{keyOf}
+use Rattle.blocks.specs.Name.{hashOf}
 use Rattle.blocks.specs.Chain.{activeOf, formOk, regionOk, named, sound, Unsound, Sound, descriptorsAt, chainFrom, chain, ends, startsOf, regionsOf, chainSound, descriptors}
-use Rattle.blocks.specs.Walk.{Keyed}
+use Rattle.blocks.specs.Walk.{Hashed}
 use Rattle.blocks.specs.declared.descriptor.Descriptor.{Descriptor}
 use Rattle.blocks.specs.declared.chain.Regions.{Regions}
 use Rattle.blocks.proofs.Tests.{and-left, and-right}
@@ -22,29 +22,29 @@ use Rattle.blocks.proofs.BoolLaws.{and-false-mid}
 use Rattle.blocks.proofs.ListLaws.{same-equal}
 use Rattle.blocks.proofs.NamedLaws.{indexFrom, index-start, index-more, index-end, named-index, length-descriptors}
 
--- names passed: where the key of a name has no flag, none of them is that name
-key-apart : (keys : List Bool) (a name : List ℕ) → getD keys (keyOf a) false ≡ true → getD keys (keyOf name) false ≡ false → (b : Bool) → same a name ≡ b → b ≡ false
-key-apart keys a name f g true e =
+-- names passed: where the hash of a name has no flag, none of them is that name
+hash-apart : (hashes : List Bool) (a name : List ℕ) → getD hashes (hashOf a) false ≡ true → getD hashes (hashOf name) false ≡ false → (b : Bool) → same a name ≡ b → b ≡ false
+hash-apart hashes a name f g true e =
     let q = same-equal a name e in
-    sym f ∙ ap (λ (n : List ℕ). getD keys (keyOf n) false) q ∙ g
-key-apart keys a name f g false e = refl
+    sym f ∙ ap (λ (n : List ℕ). getD hashes (hashOf n) false) q ∙ g
+hash-apart hashes a name f g false e = refl
 
-module _ (c starts : List ℕ) (k : ℕ) (keys : List Bool) (keyed : Keyed c starts k keys) (long : k ≤ length starts) (name : List ℕ) where
-  none-from-key : getD keys (keyOf name) false ≡ false → (left : ℕ) (j : ℕ) → j + left ≡ k → indexFrom c starts k name j ≡ k
-  none-from-key g zero j e = index-end c starts k name j (omega arith) ∙ omega (arith, e)
-  none-from-key g (suc left) j e =
+module _ (c starts : List ℕ) (k : ℕ) (hashes : List Bool) (hashed : Hashed c starts k hashes) (long : k ≤ length starts) (name : List ℕ) where
+  none-from-hash : getD hashes (hashOf name) false ≡ false → (left : ℕ) (j : ℕ) → j + left ≡ k → indexFrom c starts k name j ≡ k
+  none-from-hash g zero j e = index-end c starts k name j (omega arith) ∙ omega (arith, e)
+  none-from-hash g (suc left) j e =
       index-more c starts k name j (omega arith) long (same (descriptorAt c (getD starts j 0) .name) name) refl
-      (key-apart keys (descriptorAt c (getD starts j 0) .name) name (keyed .each j (omega arith)) g (same (descriptorAt c (getD starts j 0) .name) name) refl)
-      ∙ none-from-key g left (j + 1) (omega arith)
+      (hash-apart hashes (descriptorAt c (getD starts j 0) .name) name (hashed .each j (omega arith)) g (same (descriptorAt c (getD starts j 0) .name) name) refl)
+      ∙ none-from-hash g left (j + 1) (omega arith)
 
-  pub key-fresh : (key : ℕ) → key ≡ keyOf name → not (getD keys key false) ≡ true → false ≡ named (descriptorsAt c (take k starts)) name
-  key-fresh key e h =
-      let g : getD keys (keyOf name) false ≡ false = ap (λ (x : ℕ). getD keys x false) (sym e) ∙ not-true (getD keys key false) h in
-      let i = index-start c starts k name ∙ none-from-key g k 0 (omega arith) in
+  pub hash-fresh : (hash : ℕ) → hash ≡ hashOf name → not (getD hashes hash false) ≡ true → false ≡ named (descriptorsAt c (take k starts)) name
+  hash-fresh hash e h =
+      let g : getD hashes (hashOf name) false ≡ false = ap (λ (x : ℕ). getD hashes x false) (sym e) ∙ not-true (getD hashes hash false) h in
+      let i = index-start c starts k name ∙ none-from-hash g k 0 (omega arith) in
       sym (le-ltb k k (omega arith)) ∙ named-index c starts k long name k (sym i)
 
-pub keyed-none : (c starts : List ℕ) (keys : List Bool) → length keys ≡ 1024 → Keyed c starts 0 keys
-keyed-none c starts keys long = record { long = long; each = λ j h. absurd (omega arith) }
+pub hashed-none : (c starts : List ℕ) (hashes : List Bool) → length hashes ≡ 1024 → Hashed c starts 0 hashes
+hashed-none c starts hashes long = record { long = long; each = λ j h. absurd (omega arith) }
 
 -- descriptors of one more block
 pub descriptors-snoc : (c : List ℕ) (ps : List ℕ) (p : ℕ) → descriptorsAt c (ps ++ (p ∷ [])) ≡ descriptorsAt c ps ++ (descriptorAt c p ∷ [])
@@ -185,25 +185,25 @@ walked-none c h =
     }
 
 -- one more name passed
-pub keyed-more : (c starts : List ℕ) (k : ℕ) (keys : List Bool) → Keyed c starts k keys → (name : List ℕ) → name ≡ descriptorAt c (getD starts k 0) .name → (key : ℕ) → key ≡ keyOf name → key < 1024
-    → Keyed c starts (k + 1) (set keys key true)
-keyed-more c starts k keys keyed name name-is key key-is low = record { long = length-set keys key true ∙ keyed .long; each = λ j h. each-by j h (ltb j k) refl }
+pub hashed-more : (c starts : List ℕ) (k : ℕ) (hashes : List Bool) → Hashed c starts k hashes → (name : List ℕ) → name ≡ descriptorAt c (getD starts k 0) .name → (hash : ℕ) → hash ≡ hashOf name → hash < 1024
+    → Hashed c starts (k + 1) (set hashes hash true)
+hashed-more c starts k hashes hashed name name-is hash hash-is low = record { long = length-set hashes hash true ∙ hashed .long; each = λ j h. each-by j h (ltb j k) refl }
   where
-    kept : (x : ℕ) → (t : Bool) → eqb x key ≡ t → getD keys x false ≡ true → getD (set keys key true) x false ≡ true
-    kept x true e h = rw (eqb-true x key e) (getD-set-same keys key true false (omega (arith, keyed .long)))
-    kept x false e h = getD-set-other keys key x true false (eqb-false x key e) ∙ h
+    kept : (x : ℕ) → (t : Bool) → eqb x hash ≡ t → getD hashes x false ≡ true → getD (set hashes hash true) x false ≡ true
+    kept x true e h = rw (eqb-true x hash e) (getD-set-same hashes hash true false (omega (arith, hashed .long)))
+    kept x false e h = getD-set-other hashes hash x true false (eqb-false x hash e) ∙ h
 
-    each-by : (j : ℕ) → j < k + 1 → (t : Bool) → ltb j k ≡ t → getD (set keys key true) (keyOf (descriptorAt c (getD starts j 0) .name)) false ≡ true
-    each-by j h true e = kept (keyOf (descriptorAt c (getD starts j 0) .name)) (eqb (keyOf (descriptorAt c (getD starts j 0) .name)) key) refl (keyed .each j (ltb-true j k e))
+    each-by : (j : ℕ) → j < k + 1 → (t : Bool) → ltb j k ≡ t → getD (set hashes hash true) (hashOf (descriptorAt c (getD starts j 0) .name)) false ≡ true
+    each-by j h true e = kept (hashOf (descriptorAt c (getD starts j 0) .name)) (eqb (hashOf (descriptorAt c (getD starts j 0) .name)) hash) refl (hashed .each j (ltb-true j k e))
     each-by j h false e =
         let q : j ≡ k = omega (arith, ltb-false j k e) in
         let at : descriptorAt c (getD starts j 0) .name ≡ name = ap (λ (x : ℕ). descriptorAt c (getD starts x 0) .name) q ∙ sym name-is in
-        ap (λ (x : List ℕ). getD (set keys key true) (keyOf x) false) at ∙ ap (λ (x : ℕ). getD (set keys key true) x false) (sym key-is)
-        ∙ getD-set-same keys key true false (omega (arith, keyed .long))
+        ap (λ (x : List ℕ). getD (set hashes hash true) (hashOf x) false) at ∙ ap (λ (x : ℕ). getD (set hashes hash true) x false) (sym hash-is)
+        ∙ getD-set-same hashes hash true false (omega (arith, hashed .long))
 
 -- starts changed past those
-pub keyed-starts : (c starts : List ℕ) (k : ℕ) (keys : List Bool) → Keyed c starts k keys → (i v : ℕ) → k ≤ i → Keyed c (set starts i v) k keys
-keyed-starts c starts k keys keyed i v h = record { long = keyed .long; each = λ j l. rw (getD-set-other starts i j v 0 (omega arith)) (keyed .each j l) }
+pub hashed-starts : (c starts : List ℕ) (k : ℕ) (hashes : List Bool) → Hashed c starts k hashes → (i v : ℕ) → k ≤ i → Hashed c (set starts i v) k hashes
+hashed-starts c starts k hashes hashed i v h = record { long = hashed .long; each = λ j l. rw (getD-set-other starts i j v 0 (omega arith)) (hashed .each j l) }
 
 module _ (c starts : List ℕ) (p k : ℕ) (w : Walked c starts p k) where
   abbrev ds : List Descriptor

@@ -36,9 +36,9 @@ isText t = ltb 0 (length t) && leb (length t) nameSize && eqb (nameLength t) (le
 unfoldable pub padded : List ℕ → List ℕ
 padded t = pick (isText t) (t ++ replicate (nameSize - length t) 0) noName
 
--- a number for sixteen bytes, one of keyCount, by which the walk in code tells most names apart
-abbrev pub keyCount : ℕ
-keyCount = 1024
+-- a hash of sixteen bytes, one of hashCount numbers, by which the walk in code tells most names apart
+abbrev pub hashCount : ℕ
+hashCount = 1024
 
-unfoldable pub keyOf : List ℕ → ℕ
-keyOf n = (u64At n 0 % 997 + u64At n 8 % 991) % keyCount
+unfoldable pub hashOf : List ℕ → ℕ
+hashOf n = (u64At n 0 % 997 + u64At n 8 % 991) % hashCount

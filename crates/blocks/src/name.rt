@@ -1,9 +1,9 @@
-// Names: sixteen bytes by value, judged, made of a text, and given a key.
+// Names: sixteen bytes by value, judged, made of a text, and given a hash.
 use crate::bytes;
 ghost use mathlib.Core.Path.{_≡_};
 ghost use Prim.Native.Nat.{_≤_, _<_};
 ghost use lib.ListN.{length};
-ghost use Rattle.blocks.specs.Name.{nameByte, nameLength, isName, padded, keyCount, keyOf};
+ghost use Rattle.blocks.specs.Name.{nameByte, nameLength, isName, padded, hashCount, hashOf};
 
 // Whether a name may have the byte.
 pub fn is_name_byte(b: u8) -> bool
@@ -81,10 +81,10 @@ pub fn pad_name(text: &[u8]) -> [u8; 16]
     name
 }
 
-// A number for sixteen bytes: bytes that have different numbers differ.
-pub fn key(name: [u8; 16]) -> usize
-    ensures { λ r. ⌜ r ≡ keyOf name ⌝ }
-    ensures { λ r. ⌜ r < keyCount ⌝ }
+// A hash of sixteen bytes: bytes that have different hashes differ.
+pub fn hash(name: [u8; 16]) -> usize
+    ensures { λ r. ⌜ r ≡ hashOf name ⌝ }
+    ensures { λ r. ⌜ r < hashCount ⌝ }
 {
     let first = bytes::get_u64(&name, 0) % 997;
     let second = bytes::get_u64(&name, 8) % 991;

@@ -10,7 +10,7 @@ ghost use Rattle.blocks.specs.Bytes.{splice};
 ghost use Rattle.boundary.specs.RecordBytes.{recordBytes, filledBytes};
 
 // Stores the bytes of a record at `at`.
-fn put_record(area: &mut [u8], at: usize, r: Record)
+fn put_record_bytes(area: &mut [u8], at: usize, r: Record)
     requires { ⌜ at + 28 ≤ length (now area) ⌝ }
     ensures { λ _. ⌜ now (area .exit) ≡ splice (now (area .entry)) at (recordBytes r) ⌝ }
 {
@@ -29,7 +29,7 @@ pub fn fill_bytes(card: &[u8], starts: &[u32], area: &mut [u8], n: usize)
     let mut i = 0;
     while i < n {
         let r = list::record_of(card, starts, n, i);
-        put_record(area, 28 * i, r);
+        put_record_bytes(area, 28 * i, r);
         i += 1;
     }
 }

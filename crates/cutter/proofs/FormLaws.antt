@@ -16,7 +16,7 @@ use Rattle.cutter.specs.declared.number.Number.{Number}
 use Rattle.cutter.specs.declared.number.Number.the-variants.{Not, Is}
 use Rattle.cutter.specs.Words.{opReam, opWrite, opRead, opSnap, opRevert, opList, opCheck, keyLayout, keyBlocks, keyVolume, keyName, keyBlock, keyFill, keyFrom, star}
 use Rattle.cutter.specs.Grammar.{wordsOf, hasKey, lineWith, malformed, logical, lineOfOne, lineOfTwo, readFrom, lineOfWrite, lineOfRead, lineOfThree, lineOfFive, lineOfWords, lineOf, lengthTo}
-use Rattle.cutter.specs.Parts.{numberAfter}
+use Rattle.cutter.specs.ReadNumber.{numberAfter}
 use Rattle.cutter.proofs.WordLaws.{words-at, words-end, words-first, key-fits, rest-is}
 use Rattle.cutter.proofs.NumberLaws.{after-not, after-is}
 

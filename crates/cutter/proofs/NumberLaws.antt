@@ -13,7 +13,7 @@ use Rattle.blocks.specs.Pick.{pick}
 use Rattle.cutter.specs.declared.number.Number.{Number}
 use Rattle.cutter.specs.declared.number.Number.the-variants.{Not, Is}
 use Rattle.cutter.specs.Grammar.{isDigit, allDigits, digitsFrom, isNumber, hasKey, hasNumber, numberOf}
-use Rattle.cutter.specs.Parts.{digitsNumber, numberIn, numberAfter}
+use Rattle.cutter.specs.ReadNumber.{digitsNumber, numberIn, numberAfter}
 use Rattle.cutter.proofs.WordLaws.{key-fits, rest-is}
 
 -- more digits never say less

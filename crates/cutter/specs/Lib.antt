@@ -1,4 +1,4 @@
 -- The definitions of the work sheet's lines, in reading order.
 pub mod Words
 pub mod Grammar
-pub mod Parts
+pub mod ReadNumber

@@ -1,7 +1,7 @@
 // Decimal numbers, 0 to 65,535 without a leading zero.
 use crate::word;
 ghost use mathlib.Core.Path.{_≡_};
-ghost use Rattle.cutter.specs.Parts.{digitsNumber, numberIn, numberAfter};
+ghost use Rattle.cutter.specs.ReadNumber.{digitsNumber, numberIn, numberAfter};
 
 // What a text says as a number.
 pub enum Number {

@@ -26,8 +26,8 @@ descriptor layout volume alpha beta next name = record { layout = layout; volume
 abbrev pub bare : Descriptor → List ℕ
 bare d = descriptorBlock d (replicate 472 0)
 
-abbrev pub withByte : ℕ → Descriptor → List ℕ
-withByte i d = descriptorBlock d (set (replicate 472 0) i 1)
+abbrev pub withTailByte : ℕ → Descriptor → List ℕ
+withTailByte i d = descriptorBlock d (set (replicate 472 0) i 1)
 
 abbrev pub withPhi : Descriptor → ℕ → ℕ → List ℕ
 withPhi d a b = descriptorBlock d (replicate 24 0 ++ le32 a ++ le32 b ++ replicate 440 0)
@@ -48,8 +48,8 @@ literal mark beta next m =
     ++ (m ∷ replicate 447 0)
 
 -- the bytes `snap`; a name of one byte; fifteen letters `a` and one more byte; another name as text
-abbrev pub snap : List ℕ
-snap = 115 ∷ 110 ∷ 97 ∷ 112 ∷ []
+abbrev pub snapText : List ℕ
+snapText = 115 ∷ 110 ∷ 97 ∷ 112 ∷ []
 
 abbrev pub oneByte : ℕ → List ℕ
 oneByte b = b ∷ replicate 15 0
@@ -81,10 +81,10 @@ twoNames a b = bare (descriptor 2 1 0 1 1 a) ++ bare (descriptor 2 1 1 3 0 b) ++
 
 -- the snapshot mon, then a descriptor with byte 40 + i set: layout 1, four blocks; layout 2, three blocks
 abbrev pub second1 : ℕ → List ℕ
-second1 i = bare (descriptor 1 1 0 2 2 mon) ++ zeroBlock ++ withByte i (descriptor 1 1 2 4 0 fs) ++ zeroBlock
+second1 i = bare (descriptor 1 1 0 2 2 mon) ++ zeroBlock ++ withTailByte i (descriptor 1 1 2 4 0 fs) ++ zeroBlock
 
 abbrev pub second2 : ℕ → List ℕ
-second2 i = bare (descriptor 2 1 0 1 1 mon) ++ withByte i (descriptor 2 1 1 3 0 fs) ++ zeroBlock
+second2 i = bare (descriptor 2 1 0 1 1 mon) ++ withTailByte i (descriptor 2 1 1 3 0 fs) ++ zeroBlock
 
 -- three blocks: a descriptor with its beta and next, and one in block 1 or in block 2
 abbrev pub apart1 : ℕ → ℕ → List ℕ
@@ -124,8 +124,8 @@ pair p q = bare (descriptor 1 1 0 3 3 mon) ++ table p 0 ++ ones ++ bare (descrip
 
 -- seven blocks, layout 2, L 1: the snapshots mon and tue, the snapshot wed in block 2 with Phi's first entry, a table block with its first entry and a
 -- block of ones, the active store in block 5 with the same Phi and a block of nines
-abbrev pub chained : ℕ → ℕ → List ℕ
-chained m p =
+abbrev pub threeSnapshots : ℕ → ℕ → List ℕ
+threeSnapshots m p =
     bare (descriptor 2 1 0 1 1 mon)
     ++ bare (descriptor 2 1 1 2 2 tue)
     ++ withPhi (descriptor 2 1 2 5 5 wed) m 0
@@ -179,7 +179,7 @@ abbrev pub lastEntry : ℕ → List ℕ
 lastEntry volume = bare (descriptor 1 volume 0 3 0 fs) ++ tableEnd 2 ++ ones
 
 abbrev pub lastPhi : ℕ → List ℕ
-lastPhi volume = withByte 468 (descriptor 2 volume 0 3 0 fs) ++ table 2 0 ++ ones
+lastPhi volume = withTailByte 468 (descriptor 2 volume 0 3 0 fs) ++ table 2 0 ++ ones
 
 abbrev pub reading : ℕ → Call
 reading l = Read Active noName l lent
@@ -272,10 +272,10 @@ nameEdges =
 unfoldable pub formEdges : List Value
 formEdges =
     -- L 300, lowest byte first; Phi's entry and a table's entry byte by byte; beta and next, with a second descriptor
-    showingBlock (literal snap 2 0 0 ++ zeroBlock) (reading 299) zeroBlock
-    ∷ only (literal snap 2 0 0 ++ zeroBlock) (reading 300) 8 0
-    ∷ showingBlock (literal snap 3 0 1 ++ (2 ∷ replicate 511 0) ++ ones) (reading 0) ones
-    ∷ only (literal snap 1 1 0 ++ bare (descriptor 2 300 1 2 0 mon)) (Listing (blank ∷ [])) 14 0
+    showingBlock (literal snapText 2 0 0 ++ zeroBlock) (reading 299) zeroBlock
+    ∷ only (literal snapText 2 0 0 ++ zeroBlock) (reading 300) 8 0
+    ∷ showingBlock (literal snapText 3 0 1 ++ (2 ∷ replicate 511 0) ++ ones) (reading 0) ones
+    ∷ only (literal snapText 1 1 0 ++ bare (descriptor 2 300 1 2 0 mon)) (Listing (blank ∷ [])) 14 0
     -- a wrong byte in the mark
     ∷ only (literal (114 ∷ 110 ∷ 97 ∷ 112 ∷ []) 2 0 0 ++ zeroBlock) (Listing []) 6 0
     ∷ only (literal (115 ∷ 111 ∷ 97 ∷ 112 ∷ []) 2 0 0 ++ zeroBlock) (Listing []) 6 0
@@ -294,15 +294,15 @@ formEdges =
     ∷ only (first 2 1 noName) (Listing []) 6 0
     ∷ only (first 2 1 (oneByte 47)) (Listing []) 6 0
     -- byte 40, 50 or 63 is set
-    ∷ only (withByte 0 (descriptor 2 1 0 2 0 fs) ++ zeroBlock) (Listing []) 6 0
-    ∷ only (withByte 10 (descriptor 2 1 0 2 0 fs) ++ zeroBlock) (Listing []) 6 0
-    ∷ only (withByte 23 (descriptor 2 1 0 2 0 fs) ++ zeroBlock) (Listing []) 6 0
+    ∷ only (withTailByte 0 (descriptor 2 1 0 2 0 fs) ++ zeroBlock) (Listing []) 6 0
+    ∷ only (withTailByte 10 (descriptor 2 1 0 2 0 fs) ++ zeroBlock) (Listing []) 6 0
+    ∷ only (withTailByte 23 (descriptor 2 1 0 2 0 fs) ++ zeroBlock) (Listing []) 6 0
     -- byte 64 or 511 is set, in layout 2; byte 64, 240 or 511 in layout 1
-    ∷ only (withByte 24 (descriptor 2 1 0 2 0 fs) ++ zeroBlock) (Listing []) 14 0
-    ∷ only (withByte 471 (descriptor 2 1 0 2 0 fs) ++ zeroBlock) (Listing []) 14 0
-    ∷ only (withByte 24 (descriptor 1 1 0 2 0 fs) ++ zeroBlock) (Listing []) 6 0
-    ∷ only (withByte 200 (descriptor 1 1 0 2 0 fs) ++ zeroBlock) (Listing []) 6 0
-    ∷ only (withByte 471 (descriptor 1 1 0 2 0 fs) ++ zeroBlock) (Listing []) 6 0
+    ∷ only (withTailByte 24 (descriptor 2 1 0 2 0 fs) ++ zeroBlock) (Listing []) 14 0
+    ∷ only (withTailByte 471 (descriptor 2 1 0 2 0 fs) ++ zeroBlock) (Listing []) 14 0
+    ∷ only (withTailByte 24 (descriptor 1 1 0 2 0 fs) ++ zeroBlock) (Listing []) 6 0
+    ∷ only (withTailByte 200 (descriptor 1 1 0 2 0 fs) ++ zeroBlock) (Listing []) 6 0
+    ∷ only (withTailByte 471 (descriptor 1 1 0 2 0 fs) ++ zeroBlock) (Listing []) 6 0
     -- in the second descriptor: byte 40, 63 or 64 in layout 2; byte 40, 64 or 511 in layout 1; no name
     ∷ only (second2 0) (Listing []) 6 1
     ∷ only (second2 23) (Listing []) 6 1
@@ -408,22 +408,22 @@ openingEdges =
     ∷ only (pair 5 0) (readingFrom mon 0) 10 1
     -- layout 2, a snapshot's entry: it names its data block, an earlier descriptor, its own, the later one, a data block after that; Phi's entry names an
     -- earlier descriptor
-    ∷ showingBlock (chained 3 4) (readingFrom wed 0) ones
-    ∷ only (chained 3 1) (readingFrom wed 0) 10 3
-    ∷ only (chained 3 2) (readingFrom wed 0) 10 3
-    ∷ only (chained 3 5) (readingFrom wed 0) 10 3
-    ∷ only (chained 3 6) (readingFrom wed 0) 10 3
-    ∷ only (chained 1 0) (readingFrom wed 0) 10 2
+    ∷ showingBlock (threeSnapshots 3 4) (readingFrom wed 0) ones
+    ∷ only (threeSnapshots 3 1) (readingFrom wed 0) 10 3
+    ∷ only (threeSnapshots 3 2) (readingFrom wed 0) 10 3
+    ∷ only (threeSnapshots 3 5) (readingFrom wed 0) 10 3
+    ∷ only (threeSnapshots 3 6) (readingFrom wed 0) 10 3
+    ∷ only (threeSnapshots 1 0) (readingFrom wed 0) 10 2
     -- the same entries through the active descriptor
-    ∷ showingBlock (chained 3 4) (reading 0) ones
-    ∷ only (chained 3 1) (reading 0) 10 3
-    ∷ only (chained 3 2) (reading 0) 10 3
-    ∷ only (chained 3 5) (reading 0) 10 3
-    ∷ showingBlock (chained 3 6) (reading 0) lent
-    ∷ only (chained 1 0) (reading 0) 10 5
-    ∷ only (chained 2 0) (reading 0) 10 5
+    ∷ showingBlock (threeSnapshots 3 4) (reading 0) ones
+    ∷ only (threeSnapshots 3 1) (reading 0) 10 3
+    ∷ only (threeSnapshots 3 2) (reading 0) 10 3
+    ∷ only (threeSnapshots 3 5) (reading 0) 10 3
+    ∷ showingBlock (threeSnapshots 3 6) (reading 0) lent
+    ∷ only (threeSnapshots 1 0) (reading 0) 10 5
+    ∷ only (threeSnapshots 2 0) (reading 0) 10 5
     -- through a snapshot whose Phi is nil
-    ∷ showingBlock (chained 3 4) (readingFrom tue 0) zeroBlock
+    ∷ showingBlock (threeSnapshots 3 4) (readingFrom tue 0) zeroBlock
     ∷ []
 
 unfoldable pub tableEdges : List Value
@@ -463,7 +463,7 @@ faultEdges =
     ∷ only (pair 2 1) Check 10 4
     ∷ only (pair 3 1) Check 10 1
     -- an entry of Phi in a later descriptor: it names an earlier descriptor, and its own
-    ∷ only (chained 1 0) Check 10 2
+    ∷ only (threeSnapshots 1 0) Check 10 2
     ∷ only (snapped 1 3) Check 10 1
     ∷ []
 
@@ -550,7 +550,7 @@ orderEdges =
     ∷ only (area 2) (Revert mon) 6 0
     ∷ only (one 2 1) (Snap fs) 6 0
     ∷ only (area 2) (Listing []) 6 0
-    ∷ only (withByte 0 (descriptor 1 1 0 2 0 fs) ++ table 9 0) Check 6 0
+    ∷ only (withTailByte 0 (descriptor 1 1 0 2 0 fs) ++ table 9 0) Check 6 0
     -- 7 before 8, and the active name is no snapshot's
     ∷ only (four 1 3 1 2 0) (Read Snapshot fs 9 lent) 7 0
     ∷ only (four 1 3 1 2 0) (reading 1) 8 0
@@ -563,9 +563,9 @@ orderEdges =
     ∷ only (four 1 3 1 2 9) (Write 1 ones) 8 0
     ∷ only (four 1 3 9 0 0) (Write 1 ones) 8 0
     -- on a full card with a table block below alpha: 11 where the entries are in place, 10 where the table's or Phi's is not
-    ∷ only (chained 3 4) (Write 0 ones) 11 0
-    ∷ only (chained 3 1) (Write 0 ones) 10 3
-    ∷ only (chained 1 0) (Write 0 ones) 10 5
+    ∷ only (threeSnapshots 3 4) (Write 0 ones) 11 0
+    ∷ only (threeSnapshots 3 1) (Write 0 ones) 10 3
+    ∷ only (threeSnapshots 1 0) (Write 0 ones) 10 5
     -- 12 before 11
     ∷ only (four 2 4 0 0 0) (Snap fs) 12 0
     ∷ []
@@ -593,8 +593,8 @@ allowed test zero = []
 allowed test (suc n) = allowed test n ++ pick (test n) (n ∷ []) []
 
 -- `-`, `.`, `0-9`, `a-z`
-abbrev pub nameBytes : List ℕ
-nameBytes =
+abbrev pub allowedBytes : List ℕ
+allowedBytes =
     45 ∷ 46
     ∷ 48 ∷ 49 ∷ 50 ∷ 51 ∷ 52 ∷ 53 ∷ 54 ∷ 55 ∷ 56 ∷ 57
     ∷ 97 ∷ 98 ∷ 99 ∷ 100 ∷ 101 ∷ 102 ∷ 103 ∷ 104 ∷ 105 ∷ 106 ∷ 107 ∷ 108 ∷ 109
@@ -603,7 +603,7 @@ nameBytes =
 
 -- of all bytes, a name may have these and no others, and of one byte alone the same are names
 unfoldable pub NameBytes : Type 0
-NameBytes = (allowed nameByte 256 ≡ nameBytes) × (allowed (λ (b : ℕ). isName (oneByte b)) 256 ≡ nameBytes)
+NameBytes = (allowed nameByte 256 ≡ allowedBytes) × (allowed (λ (b : ℕ). isName (oneByte b)) 256 ≡ allowedBytes)
 
 -- N 65,536 and 65,537, whatever the area holds: the first goes on to the next refusal of a ream, the second is refused with each call
 unfoldable pub SizeEdges : Type 0

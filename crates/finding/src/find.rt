@@ -81,25 +81,25 @@ pub fn need(alpha: Physical, found: Found) -> u32
 {
     match found {
         Found::Misplaced(_) => 0,
-        Found::Entry(m, p) => taken(alpha.0, m.0, p.0),
+        Found::Entry(m, p) => entry_need(alpha.0, m.0, p.0),
     }
 }
 
 // The same for the table block `m` and the entry `p`.
-fn taken(alpha: u32, m: u32, p: u32) -> u32
+fn entry_need(alpha: u32, m: u32, p: u32) -> u32
     ensures { λ r. ⌜ r ≡ needing alpha (Found.Entry (physical m) (physical p)) ⌝ }
 {
     if p == 0 {
-        return taken_fresh(alpha, m);
+        return fresh_need(alpha, m);
     }
     if alpha <= p {
         return 0;
     }
-    taken_fresh(alpha, m)
+    fresh_need(alpha, m)
 }
 
 // The data block, and the table block where that is new.
-fn taken_fresh(alpha: u32, m: u32) -> u32
+fn fresh_need(alpha: u32, m: u32) -> u32
     ensures { λ r. ⌜ r ≡ pick (tableIsNew alpha m) 2 1 ⌝ }
 {
     if m == 0 {

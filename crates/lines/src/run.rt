@@ -9,8 +9,8 @@ use cutter::line::Line;
 use cutter::line::SheetCall;
 use reading::list;
 use reading::read;
+use sheet::run::Addition;
 use sheet::run::Ran;
-use sheet::run::Shown;
 use storing::ream;
 use storing::revert;
 use storing::snap;
@@ -46,7 +46,7 @@ fn run_ream(
         return Ran {
             answer,
             blocks,
-            shown: Shown::Nothing,
+            addition: Addition::Nothing,
             records,
             ended: false,
         };
@@ -54,7 +54,7 @@ fn run_ream(
     Ran {
         answer,
         blocks: size,
-        shown: Shown::Nothing,
+        addition: Addition::Nothing,
         records,
         ended: false,
     }
@@ -71,13 +71,13 @@ fn run_write(area: &mut [u8], blocks: u32, records: [Record; 64], l: Logical, fi
     Ran {
         answer,
         blocks,
-        shown: Shown::Nothing,
+        addition: Addition::Nothing,
         records,
         ended: false,
     }
 }
 
-// A read, which shows the first byte.
+// A read, which adds the first byte.
 fn run_read(
     area: &[u8],
     blocks: u32,
@@ -98,7 +98,7 @@ fn run_read(
         return Ran {
             answer,
             blocks,
-            shown: Shown::Nothing,
+            addition: Addition::Nothing,
             records,
             ended: false,
         };
@@ -106,7 +106,7 @@ fn run_read(
     Ran {
         answer,
         blocks,
-        shown: Shown::Byte(first),
+        addition: Addition::Byte(first),
         records,
         ended: false,
     }
@@ -122,7 +122,7 @@ fn run_snap(area: &mut [u8], blocks: u32, records: [Record; 64], name: [u8; 16])
     Ran {
         answer,
         blocks,
-        shown: Shown::Nothing,
+        addition: Addition::Nothing,
         records,
         ended: false,
     }
@@ -138,13 +138,13 @@ fn run_revert(area: &mut [u8], blocks: u32, records: [Record; 64], name: [u8; 16
     Ran {
         answer,
         blocks,
-        shown: Shown::Nothing,
+        addition: Addition::Nothing,
         records,
         ended: false,
     }
 }
 
-// A listing, which shows a record for each descriptor.
+// A listing, which adds a record for each descriptor.
 fn run_list(area: &[u8], blocks: u32, records: [Record; 64]) -> Ran
     requires { ⌜ (length (now area) ≡ 32768) × (blocks ≤ 64) ⌝ }
     ensures { λ r. ⌜ record { ran = r; area = now (area .entry) } ≡ afterCall (record { area = now (area .entry); blocks = blocks; records = records }) (SheetCall.List) noName ⌝ }
@@ -159,7 +159,7 @@ fn run_list(area: &[u8], blocks: u32, records: [Record; 64]) -> Ran
         return Ran {
             answer,
             blocks,
-            shown: Shown::Nothing,
+            addition: Addition::Nothing,
             records: filled,
             ended: false,
         };
@@ -167,7 +167,7 @@ fn run_list(area: &[u8], blocks: u32, records: [Record; 64]) -> Ran
     Ran {
         answer,
         blocks,
-        shown: Shown::Listed(count),
+        addition: Addition::FirstRecords(count),
         records: filled,
         ended: false,
     }
@@ -183,7 +183,7 @@ fn run_check(area: &[u8], blocks: u32, records: [Record; 64]) -> Ran
     Ran {
         answer,
         blocks,
-        shown: Shown::Nothing,
+        addition: Addition::Nothing,
         records,
         ended: false,
     }
@@ -193,7 +193,7 @@ fn run_check(area: &[u8], blocks: u32, records: [Record; 64]) -> Ran
 pub fn run_line(area: &mut [u8], blocks: u32, records: [Record; 64], number: u32, line: Line) -> Ran
     requires { ⌜ (length (now area) ≡ 32768) × (blocks ≤ 64) × (sizeOf (line .call) ≤ 64) ⌝ }
     ensures { λ r. ⌜ record { ran = r; area = now (area .exit) } ≡ afterLine (record { area = now (area .entry); blocks = blocks; records = records }) number line ⌝ }
-    ensures { λ r. ⌜ (r .blocks ≤ 64) × (countOf (r .shown) ≤ 64) ⌝ }
+    ensures { λ r. ⌜ (r .blocks ≤ 64) × (countOf (r .addition) ≤ 64) ⌝ }
 {
     let call = line.call;
     let name = line.name;
@@ -204,7 +204,7 @@ pub fn run_line(area: &mut [u8], blocks: u32, records: [Record; 64], number: u32
                 place: number,
             },
             blocks,
-            shown: Shown::Nothing,
+            addition: Addition::Nothing,
             records,
             ended: true,
         },

@@ -12,7 +12,7 @@ use Rattle.blocks.specs.Name.{nameLength}
 use Rattle.blocks.proofs.ByteLaws.{put-next}
 use Rattle.calls.specs.declared.answer.Answer.{Answer}
 use Rattle.calls.specs.declared.answer.Record.{Record}
-use Rattle.printing.specs.Text.{answerKey, placeKey, nameKey, alphaKey, betaKey, nextKey, lineFeed, decimal, shown, answerText, recordText, recordsText}
+use Rattle.printing.specs.Text.{answerKey, placeKey, nameKey, alphaKey, betaKey, nextKey, lineFeed, decimal, nameText, answerText, recordText, recordsText}
 use Rattle.printing.proofs.DecimalLaws.{decimal-one, decimal-more, decimal-length}
 
 -- the area o with s put in from index at is o′, and r is the index after it
@@ -43,9 +43,9 @@ pub tenth-length : (v : ℕ) → 10 ≤ v → v < 2 ^ 32 → length (decimal (v 
 tenth-length v h l = omega (arith, decimal-length v, ap length (decimal-more v h l), length-append (decimal (v / 10)) ((48 + v % 10) ∷ []))
 
 -- a name
-pub shown-is : (name : List ℕ) (n : ℕ) → n ≡ nameLength name → shown name ≡ take n name
-unfolding shown
-shown-is name n e = rw e
+pub name-text-is : (name : List ℕ) (n : ℕ) → n ≡ nameLength name → nameText name ≡ take n name
+unfolding nameText
+name-text-is name n e = rw e
 
 -- an answer and a record
 pub answer-put : (a : Answer) (o o₁ o₂ : List ℕ) (at b r : ℕ) → Put o at (answerKey ++ decimal (a .number)) b o₁ → Put o₁ b (placeKey ++ decimal (a .place)) r o₂ → r ≤ length o
@@ -53,7 +53,7 @@ pub answer-put : (a : Answer) (o o₁ o₂ : List ℕ) (at b r : ℕ) → Put o 
 unfolding answerText
 answer-put a o o₁ o₂ at b r p q h = put-two o o₁ o₂ at b r (answerKey ++ decimal (a .number)) placeKey (decimal (a .place)) p q h
 
-pub record-put : (d : Record) (o o₁ o₂ o₃ o₄ o₅ o₆ : List ℕ) (at b₁ b₂ b₃ b₄ b₅ b₆ : ℕ) → Put o at nameKey b₁ o₁ → Put o₁ b₁ (shown (d .name)) b₂ o₂
+pub record-put : (d : Record) (o o₁ o₂ o₃ o₄ o₅ o₆ : List ℕ) (at b₁ b₂ b₃ b₄ b₅ b₆ : ℕ) → Put o at nameKey b₁ o₁ → Put o₁ b₁ (nameText (d .name)) b₂ o₂
     → Put o₂ b₂ (alphaKey ++ decimal (d .alpha)) b₃ o₃ → Put o₃ b₃ (betaKey ++ decimal (d .beta)) b₄ o₄ → Put o₄ b₄ (nextKey ++ decimal (d .next)) b₅ o₅ → Put o₅ b₅ lineFeed b₆ o₆
     → b₆ ≤ length o → Put o at (recordText d) b₆ o₆
 unfolding recordText
@@ -62,11 +62,11 @@ record-put d o o₁ o₂ o₃ o₄ o₅ o₆ at b₁ b₂ b₃ b₄ b₅ b₆ p�
     let f₅ : b₅ ≡ b₄ + length (nextKey ++ decimal (d .next)) = p₅ .0 in
     let f₄ : b₄ ≡ b₃ + length (betaKey ++ decimal (d .beta)) = p₄ .0 in
     let f₃ : b₃ ≡ b₂ + length (alphaKey ++ decimal (d .alpha)) = p₃ .0 in
-    let q₂ = put-then o o₁ o₂ at b₁ b₂ nameKey (shown (d .name)) p₁ p₂ (omega arith) in
-    let q₃ = put-two o o₂ o₃ at b₂ b₃ (nameKey ++ shown (d .name)) alphaKey (decimal (d .alpha)) q₂ p₃ (omega arith) in
-    let q₄ = put-two o o₃ o₄ at b₃ b₄ (nameKey ++ shown (d .name) ++ alphaKey ++ decimal (d .alpha)) betaKey (decimal (d .beta)) q₃ p₄ (omega arith) in
-    let q₅ = put-two o o₄ o₅ at b₄ b₅ (nameKey ++ shown (d .name) ++ alphaKey ++ decimal (d .alpha) ++ betaKey ++ decimal (d .beta)) nextKey (decimal (d .next)) q₄ p₅ (omega arith) in
-    put-then o o₅ o₆ at b₅ b₆ (nameKey ++ shown (d .name) ++ alphaKey ++ decimal (d .alpha) ++ betaKey ++ decimal (d .beta) ++ nextKey ++ decimal (d .next)) lineFeed q₅ p₆ h
+    let q₂ = put-then o o₁ o₂ at b₁ b₂ nameKey (nameText (d .name)) p₁ p₂ (omega arith) in
+    let q₃ = put-two o o₂ o₃ at b₂ b₃ (nameKey ++ nameText (d .name)) alphaKey (decimal (d .alpha)) q₂ p₃ (omega arith) in
+    let q₄ = put-two o o₃ o₄ at b₃ b₄ (nameKey ++ nameText (d .name) ++ alphaKey ++ decimal (d .alpha)) betaKey (decimal (d .beta)) q₃ p₄ (omega arith) in
+    let q₅ = put-two o o₄ o₅ at b₄ b₅ (nameKey ++ nameText (d .name) ++ alphaKey ++ decimal (d .alpha) ++ betaKey ++ decimal (d .beta)) nextKey (decimal (d .next)) q₄ p₅ (omega arith) in
+    put-then o o₅ o₆ at b₅ b₆ (nameKey ++ nameText (d .name) ++ alphaKey ++ decimal (d .alpha) ++ betaKey ++ decimal (d .beta) ++ nextKey ++ decimal (d .next)) lineFeed q₅ p₆ h
 
 -- the text of the first i records. Shut, so that `_` and `rw` find its arguments
 unfoldable pub firstText : List Record → ℕ → List ℕ

@@ -50,8 +50,8 @@ unfoldable pub decimal : ℕ → List ℕ
 decimal n = digits 10 n
 
 -- a name without the zero bytes that pad it
-unfoldable pub shown : List ℕ → List ℕ
-shown name = take (nameLength name) name
+unfoldable pub nameText : List ℕ → List ℕ
+nameText name = take (nameLength name) name
 
 -- `answer= place=`
 unfoldable pub answerText : Answer → List ℕ
@@ -63,7 +63,7 @@ byteText b = byteKey ++ decimal b
 
 -- a record of a listing, on a line of its own
 unfoldable pub recordText : Record → List ℕ
-recordText r = nameKey ++ shown (r .name) ++ alphaKey ++ decimal (r .alpha) ++ betaKey ++ decimal (r .beta) ++ nextKey ++ decimal (r .next) ++ lineFeed
+recordText r = nameKey ++ nameText (r .name) ++ alphaKey ++ decimal (r .alpha) ++ betaKey ++ decimal (r .beta) ++ nextKey ++ decimal (r .next) ++ lineFeed
 
 unfoldable pub recordsText : List Record → List ℕ
 recordsText [] = []

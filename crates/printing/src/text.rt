@@ -8,7 +8,7 @@ ghost use mathlib.Core.List.{_∷_, [], _++_};
 ghost use Prim.Native.Nat.{_+_, _*_, _≤_, _<_};
 ghost use lib.ListN.{length, take};
 ghost use Rattle.blocks.specs.Bytes.{splice};
-ghost use Rattle.printing.specs.Text.{decimal, shown, answerText, byteText, recordText, recordsText};
+ghost use Rattle.printing.specs.Text.{decimal, nameText, answerText, byteText, recordText, recordsText};
 
 // The text as it is.
 pub fn put_text(out: &mut [u8], at: usize, text: &[u8]) -> usize
@@ -52,9 +52,9 @@ fn put_field(out: &mut [u8], at: usize, key: &[u8], v: u32) -> usize
 }
 
 // The bytes that a list starts with and that a name may have.
-fn put_shown(out: &mut [u8], at: usize, name: &[u8]) -> usize
+fn put_unpadded(out: &mut [u8], at: usize, name: &[u8]) -> usize
     requires { ⌜ at + length (now name) ≤ length (now out) ⌝ }
-    ensures { λ r. ⌜ (r ≡ at + length (shown (now (name .entry)))) × (now (out .exit) ≡ splice (now (out .entry)) at (shown (now (name .entry)))) ⌝ }
+    ensures { λ r. ⌜ (r ≡ at + length (nameText (now (name .entry)))) × (now (out .exit) ≡ splice (now (out .entry)) at (nameText (now (name .entry)))) ⌝ }
     ensures { λ r. ⌜ r ≤ at + length (now (name .entry)) ⌝ }
 {
     let n = name::name_length(name);
@@ -62,12 +62,12 @@ fn put_shown(out: &mut [u8], at: usize, name: &[u8]) -> usize
 }
 
 // A name without the zero bytes that pad it.
-pub fn put_name(out: &mut [u8], at: usize, name: [u8; 16]) -> usize
+pub fn put_name_text(out: &mut [u8], at: usize, name: [u8; 16]) -> usize
     requires { ⌜ at + 16 ≤ length (now out) ⌝ }
-    ensures { λ r. ⌜ (r ≡ at + length (shown name)) × (now (out .exit) ≡ splice (now (out .entry)) at (shown name)) ⌝ }
+    ensures { λ r. ⌜ (r ≡ at + length (nameText name)) × (now (out .exit) ≡ splice (now (out .entry)) at (nameText name)) ⌝ }
     ensures { λ r. ⌜ r ≤ at + 16 ⌝ }
 {
-    put_shown(out, at, &name)
+    put_unpadded(out, at, &name)
 }
 
 // The number and the place of an answer.
@@ -92,7 +92,7 @@ pub fn put_byte(out: &mut [u8], at: usize, b: u8) -> usize
 }
 
 // A record of a listing, with the line feed that ends it.
-pub fn put_record(out: &mut [u8], at: usize, r: Record) -> usize
+pub fn put_record_text(out: &mut [u8], at: usize, r: Record) -> usize
     requires { ⌜ at + 80 ≤ length (now out) ⌝ }
     ensures { λ e. ⌜ (e ≡ at + length (recordText r)) × (now (out .exit) ≡ splice (now (out .entry)) at (recordText r)) ⌝ }
     ensures { λ e. ⌜ e ≤ at + 80 ⌝ }
@@ -102,7 +102,7 @@ pub fn put_record(out: &mut [u8], at: usize, r: Record) -> usize
     let beta = r.beta;
     let link = r.next;
     let mut next = put_text(out, at, b"name=");
-    next = put_name(out, next, name);
+    next = put_name_text(out, next, name);
     next = put_field(out, next, b" alpha=", alpha);
     next = put_field(out, next, b" beta=", beta);
     next = put_field(out, next, b" next=", link);
@@ -110,7 +110,7 @@ pub fn put_record(out: &mut [u8], at: usize, r: Record) -> usize
 }
 
 // The first `n` records, one after the other.
-pub fn put_records(out: &mut [u8], at: usize, records: [Record; 64], n: usize) -> usize
+pub fn put_records_text(out: &mut [u8], at: usize, records: [Record; 64], n: usize) -> usize
     requires { ⌜ (n ≤ 64) × (at + 80 * n ≤ length (now out)) ⌝ }
     ensures { λ r. ⌜ (r ≡ at + length (recordsText (take n records))) × (now (out .exit) ≡ splice (now (out .entry)) at (recordsText (take n records))) ⌝ }
     ensures { λ r. ⌜ r ≤ at + 80 * n ⌝ }
@@ -119,7 +119,7 @@ pub fn put_records(out: &mut [u8], at: usize, records: [Record; 64], n: usize) -
     let mut i = 0;
     while i < n {
         let r = records[i];
-        next = put_record(out, next, r);
+        next = put_record_text(out, next, r);
         i += 1;
     }
     next

@@ -2,4 +2,4 @@
 pub mod SheetLaws
 pub mod PrintLaws
 pub mod TurnLaws
-pub mod Example
+pub mod ExampleSheet

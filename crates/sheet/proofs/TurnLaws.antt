@@ -20,7 +20,7 @@ use Rattle.cutter.specs.Words.{opReam, keyLayout, keyBlocks, keyVolume, keyName
 use Rattle.cutter.specs.Grammar.{hasKey, valueOf, hasNumber, numberOf, lineWith, malformed, logical, lineOfOne, lineOfTwo, readFrom, lineOfWrite, lineOfRead, lineOfThree, lineOfFive, lineOfWords, wordsOf, lineOf, lineLength, linesOf, cutAt}
 use Rattle.cutter.proofs.LineLaws.{cut-lines, cut-line-in, lines-none}
 use Rattle.sheet.specs.declared.run.Ran.{Ran}
-use Rattle.sheet.specs.Sheet.{State, After, blocksOf, sizeOf, afterLine, stateAfter, printed, turnOf, turnsText, linesText, start, tooLong, sheetText, TurnsClaim}
+use Rattle.sheet.specs.Sheet.{State, LineResult, blocksOf, sizeOf, afterLine, stateAfter, printed, turnOf, turnsText, linesText, start, tooLong, sheetText, TurnsClaim}
 
 -- a line asks for at most 64 blocks
 abbrev Small : Line → Type 0
@@ -118,9 +118,9 @@ turn-done s number sheet at cut r area o o′ n e f l p =
     let g : record { ran = r; area = area } ≡ afterLine s number (cutAt sheet at .line) = f ∙ ap (λ (c : Cut). afterLine s number (c .line)) e in (
       ap (λ (c : Cut). record { next = c .next; length = n; blocks = r .blocks; records = r .records; ended = r .ended }) e
           ∙ ap (λ (k : ℕ). record { next = cutAt sheet at .next; length = k; blocks = r .blocks; records = r .records; ended = r .ended }) l
-          ∙ ap (λ (a : After). record { next = cutAt sheet at .next; length = length (printed (a .ran)); blocks = a .ran .blocks; records = a .ran .records; ended = a .ran .ended }) g,
-      ap (λ (a : After). a .area) g,
-      p ∙ ap (λ (a : After). splice o 0 (printed (a .ran))) g,
+          ∙ ap (λ (a : LineResult). record { next = cutAt sheet at .next; length = length (printed (a .ran)); blocks = a .ran .blocks; records = a .ran .records; ended = a .ran .ended }) g,
+      ap (λ (a : LineResult). a .area) g,
+      p ∙ ap (λ (a : LineResult). splice o 0 (printed (a .ran))) g,
     )
 
 -- the next line starts further on

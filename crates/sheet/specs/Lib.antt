@@ -1,3 +1,3 @@
 -- The definitions of the work sheet.
 pub mod Sheet
-pub mod Example
+pub mod ExampleSheet

@@ -18,8 +18,8 @@ use Rattle.cutter.specs.declared.line.SheetCall.the-variants as line
 use Rattle.cutter.specs.declared.line.Line.{Line}
 use Rattle.cutter.specs.Grammar.{sheetBlocks, SheetLine, linesOf, lineIn, cutAt}
 use Rattle.printing.specs.Text.{lineFeed, answerText, byteText, recordsText}
-use Rattle.sheet.specs.declared.run.Shown.{Shown}
-use Rattle.sheet.specs.declared.run.Shown.the-variants.{Nothing, Byte, Listed}
+use Rattle.sheet.specs.declared.run.Addition.{Addition}
+use Rattle.sheet.specs.declared.run.Addition.the-variants.{Nothing, Byte, FirstRecords}
 use Rattle.sheet.specs.declared.run.Ran.{Ran}
 use Rattle.sheet.specs.declared.next.Turn.{Turn}
 
@@ -93,68 +93,68 @@ recordsAfter (Block b) records = records
 recordsAfter (Records rs) records = rs
 
 -- what an accepted call prints besides its answer: a read the first byte, a listing a record for each descriptor
-unfoldable pub shownOf : SheetCall → Lent → List ℕ → Shown
-shownOf line.Malformed lent card = Nothing
-shownOf (line.Ream layout blocks volume) lent card = Nothing
-shownOf (line.Write l fill) lent card = Nothing
-shownOf (line.Read target l) lent card = Byte (firstByteOf lent)
-shownOf line.Snap lent card = Nothing
-shownOf line.Revert lent card = Nothing
-shownOf line.List lent card = Listed (length (descriptorsOf card))
-shownOf line.Check lent card = Nothing
+unfoldable pub additionOf : SheetCall → Lent → List ℕ → Addition
+additionOf line.Malformed lent card = Nothing
+additionOf (line.Ream layout blocks volume) lent card = Nothing
+additionOf (line.Write l fill) lent card = Nothing
+additionOf (line.Read target l) lent card = Byte (firstByteOf lent)
+additionOf line.Snap lent card = Nothing
+additionOf line.Revert lent card = Nothing
+additionOf line.List lent card = FirstRecords (length (descriptorsOf card))
+additionOf line.Check lent card = Nothing
 
--- how many records are shown
-unfoldable pub countOf : Shown → ℕ
+-- how many records are added
+unfoldable pub countOf : Addition → ℕ
 countOf Nothing = 0
 countOf (Byte b) = 0
-countOf (Listed n) = n
+countOf (FirstRecords n) = n
 
 -- what a line leaves, and its blocks
-pub record After : Type 0 where
+pub record LineResult : Type 0 where
   pub ran : Ran
   pub area : List ℕ
 
 -- a call made on the first n blocks: where it is accepted these are the card
-unfoldable pub afterCall : State → SheetCall → List ℕ → After
+unfoldable pub afterCall : State → SheetCall → List ℕ → LineResult
 afterCall s call name =
     let n = blocksOf call (s .blocks) in
     let card = cardOf (s .area) n in
-    let done = step (callOf call name (s .records)) card in
-    let a = done .outcome .answer in
+    let d = step (callOf call name (s .records)) card in
+    let a = d .outcome .answer in
     record {
       ran = record {
         answer = a;
         blocks = pick (isAccepted a) n (s .blocks);
-        shown = pick (isAccepted a) (shownOf call (done .outcome .lent) card) Nothing;
-        records = recordsAfter (done .outcome .lent) (s .records);
+        addition = pick (isAccepted a) (additionOf call (d .outcome .lent) card) Nothing;
+        records = recordsAfter (d .outcome .lent) (s .records);
         ended = false;
       };
-      area = withCard (s .area) n (done .card);
+      area = withCard (s .area) n (d .card);
     }
 
 -- the line of a number, from 1: one that is not of the form answers 15 with that number, and the sheet ends
-unfoldable pub afterLine : State → ℕ → Line → After
+unfoldable pub afterLine : State → ℕ → Line → LineResult
 afterLine s number l =
     pick (isMalformed (l .call))
-    (record { ran = record { answer = answer 15 number; blocks = s .blocks; shown = Nothing; records = s .records; ended = true }; area = s .area })
+    (record { ran = record { answer = answer 15 number; blocks = s .blocks; addition = Nothing; records = s .records; ended = true }; area = s .area })
     (afterCall s (l .call) (l .name))
 
-abbrev pub stateAfter : After → State
+abbrev pub stateAfter : LineResult → State
 stateAfter a = record { area = a .area; blocks = a .ran .blocks; records = a .ran .records }
 
 -- what a line prints: its answer, a read's byte, a line feed, a listing's records
-unfoldable pub byteShown : Shown → List ℕ
-byteShown Nothing = []
-byteShown (Byte b) = byteText b
-byteShown (Listed n) = []
+unfoldable pub addedByte : Addition → List ℕ
+addedByte Nothing = []
+addedByte (Byte b) = byteText b
+addedByte (FirstRecords n) = []
 
-unfoldable pub listedShown : Shown → List Record → List ℕ
-listedShown Nothing records = []
-listedShown (Byte b) records = []
-listedShown (Listed n) records = recordsText (take n records)
+unfoldable pub addedRecords : Addition → List Record → List ℕ
+addedRecords Nothing records = []
+addedRecords (Byte b) records = []
+addedRecords (FirstRecords n) records = recordsText (take n records)
 
 unfoldable pub printed : Ran → List ℕ
-printed r = answerText (r .answer) ++ byteShown (r .shown) ++ lineFeed ++ listedShown (r .shown) (r .records)
+printed r = answerText (r .answer) ++ addedByte (r .addition) ++ lineFeed ++ addedRecords (r .addition) (r .records)
 
 -- a turn of the program: the line of a number that starts at a byte of the sheet
 pub record Turned : Type 0 where

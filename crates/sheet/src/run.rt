@@ -2,18 +2,18 @@
 use calls::answer::Answer;
 use calls::answer::Record;
 
-// What is printed besides an answer: nothing, a read's byte, or the first records of a listing.
-pub enum Shown {
+// What a line adds to its printed answer: nothing, a read's byte, or the first records of a listing.
+pub enum Addition {
     Nothing,
     Byte(u8),
-    Listed(usize),
+    FirstRecords(usize),
 }
 
-// What a line leaves: its answer, how many blocks are the card, what is shown, the records, and whether the sheet ends.
+// What a line leaves: its answer, how many blocks are the card, what is added to it, the records, and whether the sheet ends.
 pub struct Ran {
     pub answer: Answer,
     pub blocks: u32,
-    pub shown: Shown,
+    pub addition: Addition,
     pub records: [Record; 64],
     pub ended: bool,
 }

@@ -15,7 +15,7 @@ ghost use Rattle.blocks.specs.Bytes.{part};
 ghost use Rattle.blocks.specs.Name.{isName};
 ghost use Rattle.blocks.specs.Descriptor.{physical, mark, descriptorAt, reservedOk};
 ghost use Rattle.blocks.specs.Chain.{formOk, regionOk, indexOf, named, descriptorsAt, chain, regionsOf, Unsound};
-ghost use Rattle.blocks.specs.Walk.{Keyed};
+ghost use Rattle.blocks.specs.Walk.{Hashed};
 
 // Whether block `p` begins with the mark.
 pub fn has_mark(card: &[u8], p: Physical) -> bool
@@ -151,13 +151,13 @@ pub fn is_named(card: &[u8], starts: &[u32], k: usize, name: [u8; 16]) -> bool
     index_of(card, starts, k, name) < k
 }
 
-// The same, where `keys` has a flag for the key of each of their names: a key without one is of no name among them.
-fn is_repeated(card: &[u8], starts: &[u32], k: usize, keys: &[bool], name: [u8; 16]) -> bool
-    requires { ⌜ Keyed (now card) (now starts) k (now keys) × (k ≤ length (now starts)) × ((j : ℕ) → j < k → 512 * getD (now starts) j 0 + 512 ≤ length (now card)) ⌝ }
+// The same, where `hashes` has a flag for the hash of each of their names: a hash without one is of no name among them.
+fn is_repeated(card: &[u8], starts: &[u32], k: usize, hashes: &[bool], name: [u8; 16]) -> bool
+    requires { ⌜ Hashed (now card) (now starts) k (now hashes) × (k ≤ length (now starts)) × ((j : ℕ) → j < k → 512 * getD (now starts) j 0 + 512 ≤ length (now card)) ⌝ }
     ensures { λ r. ⌜ r ≡ named (descriptorsAt (now (card .entry)) (take k (now (starts .entry)))) name ⌝ }
 {
-    let key = name::key(name);
-    if !keys[key] {
+    let hash = name::hash(name);
+    if !hashes[hash] {
         return false;
     }
     is_named(card, starts, k, name)
@@ -193,7 +193,7 @@ fn is_right(card: &[u8], first: Descriptor, n: usize, p: Physical, d: Descriptor
     is_placed(first, n, p, d)
 }
 
-// Walks the chain of the card. A flag for each name's key says of most names that no earlier descriptor has them.
+// Walks the chain of the card. A flag for each name's hash says of most names that no earlier descriptor has them.
 pub fn walk_chain(card: &[u8]) -> Regions
     ensures { λ r. ⌜ r ≡ regionsOf (chain (now (card .entry))) ⌝ }
 {
@@ -204,7 +204,7 @@ pub fn walk_chain(card: &[u8]) -> Regions
     let first = descriptor::read_descriptor(card, Physical(0));
     let mut d = first;
     let mut starts = [0u32; 257];
-    let mut keys = [false; 1024];
+    let mut hashes = [false; 1024];
     let mut p: u32 = 0;
     let mut k: usize = 0;
     while k < 256 {
@@ -212,10 +212,10 @@ pub fn walk_chain(card: &[u8]) -> Regions
             return unsound(p);
         }
         let name = d.name;
-        if is_repeated(card, &starts, k, &keys, name) {
+        if is_repeated(card, &starts, k, &hashes, name) {
             return unsound(p);
         }
-        keys[name::key(name)] = true;
+        hashes[name::hash(name)] = true;
         let beta = d.beta.0;
         let next = d.next.0;
         k += 1;

@@ -22,11 +22,11 @@ record-of-requires c κs =
     let pre = c .before .before .before .before .before .pre in
     (c .loop-test .taken, pre .1, pre .2 (c .before .loop .i) (c .loop-test .taken))
 
-mul-put-record : tie.Need-mul-put-record Inv-loop μ-loop
-mul-put-record c = omega arith
+mul-put-record-bytes : tie.Need-mul-put-record-bytes Inv-loop μ-loop
+mul-put-record-bytes c = omega arith
 
-put-record-requires : tie.Need-put-record-requires Inv-loop μ-loop
-put-record-requires c κs = omega arith
+put-record-bytes-requires : tie.Need-put-record-bytes-requires Inv-loop μ-loop
+put-record-bytes-requires c κs = omega arith
 
 add-i : tie.Need-add-i Inv-loop μ-loop
 add-i c = omega arith
@@ -39,7 +39,7 @@ loop-again c =
     let put = c .before .before in
     let made = put .before .before in
     let inv = made .before .before .loop .inv in
-    (omega arith, put .put-record .kept .0 ∙ inv .1, bytes-more _ _ _ _ _ _ _ _ (made .record-of .ensures) (inv .2) (put .put-record .ensures))
+    (omega arith, put .put-record-bytes .kept .0 ∙ inv .1, bytes-more _ _ _ _ _ _ _ _ (made .record-of .ensures) (inv .2) (put .put-record-bytes .ensures))
 
 same-length : tie.Need-same-length Inv-loop μ-loop
 same-length c = c .before .loop .inv .1
@@ -55,8 +55,8 @@ fill-bytes-spec =
     μ-loop
     loop-holds
     record-of-requires
-    mul-put-record
-    put-record-requires
+    mul-put-record-bytes
+    put-record-bytes-requires
     add-i
     loop-less
     loop-again

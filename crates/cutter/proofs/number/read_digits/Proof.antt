@@ -3,7 +3,7 @@ use mathlib.Core.Path.{_≡_, sym, _∙_}
 use Prim.Native.Nat.{_≤_, _-_}
 use native.Mathlib.Omega.{arith}
 use lib.ListN.{length}
-use Rattle.cutter.specs.Parts.{digitsNumber}
+use Rattle.cutter.specs.ReadNumber.{digitsNumber}
 use Rattle.cutter.proofs.NumberLaws.{digitsLeft, digits-start, digits-low, digits-high, digits-more, digits-large, digits-end}
 use borrow.Author.Needs.{needs}
 use Rattle.cutter.proofs.number.read_digits.Statement.{statement}

@@ -10,8 +10,8 @@ enum-told c = search needs
 enum-known-found : tie.Need-enum-known-found
 enum-known-found c = search needs
 
-taken-requires : tie.Need-taken-requires
-taken-requires c κs = search needs
+entry-need-requires : tie.Need-entry-need-requires
+entry-need-requires c κs = search needs
 
 returns : tie.Need-returns
 unfolding need
@@ -21,4 +21,4 @@ returns-2 : tie.Need-returns-2
 returns-2 c = cc
 
 pub need-spec : {M : Type 1} → statement M
-need-spec = tie.close (tie.spec enum-told enum-known-found taken-requires returns returns-2)
+need-spec = tie.close (tie.spec enum-told enum-known-found entry-need-requires returns returns-2)

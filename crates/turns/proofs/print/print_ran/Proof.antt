@@ -8,8 +8,8 @@ use Rattle.turns.proofs.print.print_ran.Tie as tie
 put-answer-requires : tie.Need-put-answer-requires
 put-answer-requires c κs = search needs
 
-put-shown-requires : tie.Need-put-shown-requires
-put-shown-requires c κs = search needs
+put-added-byte-requires : tie.Need-put-added-byte-requires
+put-added-byte-requires c κs = search needs
 
 slice-aggregate-put-text : tie.Need-slice-aggregate-put-text
 slice-aggregate-put-text c = search needs
@@ -17,8 +17,8 @@ slice-aggregate-put-text c = search needs
 put-text-requires : tie.Need-put-text-requires
 put-text-requires c κs = search needs
 
-put-listed-requires : tie.Need-put-listed-requires
-put-listed-requires c κs = search needs
+put-added-records-requires : tie.Need-put-added-records-requires
+put-added-records-requires c κs = search needs
 
 same-length : tie.Need-same-length
 same-length c = search needs
@@ -31,9 +31,9 @@ returns c =
     let a = b .before .before .before .before in
     let s = a .before .before .before .before .before in
     let p = a .put-answer .ensures in
-    let q = b .put-shown .ensures in
+    let q = b .put-added-byte .ensures in
     let r = t .put-text .ensures in
-    let v = l .put-listed .ensures in
+    let v = l .put-added-records .ensures in
     let w =
     printed-put (s .args .ran) _ _ _ _ _ _ _ _ _ (p .0) (q .0) r (v .0) (omega (arith, s .pre .0, p .1, q .1)) (omega (arith, s .pre .0, p .1, q .1, r .0)) (omega (arith, s .pre .0, p .1, q .1, r .0, v .1)) in
     ((omega (arith, w .0), w .1), omega (arith, p .1, q .1, r .0, v .1))
@@ -43,9 +43,9 @@ print-ran-spec =
     tie.close
     (tie.spec
     put-answer-requires
-    put-shown-requires
+    put-added-byte-requires
     slice-aggregate-put-text
     put-text-requires
-    put-listed-requires
+    put-added-records-requires
     same-length
     returns)

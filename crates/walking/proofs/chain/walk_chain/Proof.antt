@@ -1,19 +1,19 @@
--- `walk_chain` meets its contract: after k turns k sound descriptors have passed, the next one is at hand, and the keys of their names have their flags.
+-- `walk_chain` meets its contract: after k turns k sound descriptors have passed, the next one is at hand, and the hashes of their names have their flags.
 use mathlib.Core.Path.{_≡_, refl}
 use Prim.Native.Nat.{_-_}
 use native.Mathlib.Omega.{arith}
 use borrow.Author.Needs.{needs}
 use Rattle.blocks.specs.Descriptor.{descriptorAt}
-use Rattle.blocks.specs.Walk.{Keyed}
-use Rattle.blocks.proofs.ChainLaws.{Walked, walked-here, walked-passed, walked-name, walk-none, walked-none, walk-out, walk-wrong, walk-repeated, walk-end, walked-next, walked-more, keyed-none, keyed-more, keyed-starts}
+use Rattle.blocks.specs.Walk.{Hashed}
+use Rattle.blocks.proofs.ChainLaws.{Walked, walked-here, walked-passed, walked-name, walk-none, walked-none, walk-out, walk-wrong, walk-repeated, walk-end, walked-next, walked-more, hashed-none, hashed-more, hashed-starts}
 use Rattle.walking.proofs.chain.walk_chain.Statement.{statement}
 use Rattle.walking.proofs.chain.walk_chain.Tie as tie
 
 abbrev Inv-loop : tie.InvT-loop
-Inv-loop card n first d₀ starts₀ keys₀ p₀ k₀ d starts keys p k = Walked card starts p k × (d ≡ descriptorAt card p) × Keyed card starts k keys
+Inv-loop card n first d₀ starts₀ hashes₀ p₀ k₀ d starts hashes p k = Walked card starts p k × (d ≡ descriptorAt card p) × Hashed card starts k hashes
 
 abbrev μ-loop : tie.MeasureT-loop
-μ-loop card n first d₀ starts₀ keys₀ p₀ k₀ d starts keys p k = 256 - k
+μ-loop card n first d₀ starts₀ hashes₀ p₀ k₀ d starts hashes p k = 256 - k
 
 unsound-requires : tie.Need-unsound-requires Inv-loop μ-loop
 unsound-requires c κs = search needs
@@ -25,7 +25,7 @@ read-descriptor-requires : tie.Need-read-descriptor-requires Inv-loop μ-loop
 read-descriptor-requires c κs = omega arith
 
 loop-holds : tie.Need-loop-holds Inv-loop μ-loop
-loop-holds c = (walked-none _ (c .before .if1 .left), c .read-descriptor .ensures, keyed-none _ _ _ refl)
+loop-holds c = (walked-none _ (c .before .if1 .left), c .read-descriptor .ensures, hashed-none _ _ _ refl)
 
 is-right-requires : tie.Need-is-right-requires Inv-loop μ-loop
 is-right-requires c κs = (walked-here _ _ _ _ (c .before .loop .inv .0), c .before .loop .inv .1)
@@ -55,11 +55,11 @@ returns-3 c =
     let w = c .before .before .before .before .before .before .before .before .before .loop .inv in
     walk-repeated _ _ _ _ (w .0) (omega arith) _ (w .1) _ (c .before .before .before .before .before .before .before .before .before .before .read-descriptor .ensures) _ refl _ (c .before .before .before .before .before .before .before .is-right .ensures) (c .before .before .before .before .before .before .if2 .left) _ (c .before .before .is-repeated .ensures) (c .before .if3 .taken) _ (c .unsound3 .ensures)
 
-key-requires : tie.Need-key-requires Inv-loop μ-loop
-key-requires c κs = search needs
+hash-requires : tie.Need-hash-requires Inv-loop μ-loop
+hash-requires c κs = search needs
 
-array-write-keys : tie.Need-array-write-keys Inv-loop μ-loop
-array-write-keys c = search needs
+array-write-hashes : tie.Need-array-write-hashes Inv-loop μ-loop
+array-write-hashes c = search needs
 
 add-k : tie.Need-add-k Inv-loop μ-loop
 add-k c = search needs
@@ -88,7 +88,7 @@ loop-again c =
     let w = c .before .before .before .before .before .before .before .before .before .before .before .loop .inv in (
       walked-more _ _ _ _ (w .0) (omega arith) _ (w .1) _ (c .before .before .before .before .before .before .before .before .before .before .before .before .read-descriptor .ensures) _ refl _ (c .before .before .before .before .before .before .before .before .before .is-right .ensures) (c .before .before .before .before .before .before .before .before .if2 .left) _ (c .before .before .before .before .is-repeated .ensures) (c .before .before .before .if3 .left) (c .before .if4 .left),
       c .read-descriptor2 .ensures,
-      keyed-starts _ _ _ _ (keyed-more _ _ _ _ (w .2) _ (walked-name _ _ _ _ (w .0) _ (w .1)) _ (c .before .before .key .ensures .0) (c .before .before .key .ensures .1)) _ _ (omega arith),
+      hashed-starts _ _ _ _ (hashed-more _ _ _ _ (w .2) _ (walked-name _ _ _ _ (w .0) _ (w .1)) _ (c .before .before .hash .ensures .0) (c .before .before .hash .ensures .1)) _ _ (omega arith),
     )
 
 unsound-requires-4 : tie.Need-unsound-requires-4 Inv-loop μ-loop
@@ -115,8 +115,8 @@ walk-chain-spec =
     is-repeated-requires
     unsound-requires-3
     returns-3
-    key-requires
-    array-write-keys
+    hash-requires
+    array-write-hashes
     add-k
     mul-starts
     array-write-starts

@@ -1,9 +1,9 @@
--- `key` meets its contract by computation: what is left of a division by 1024 is below it.
+-- `hash` meets its contract by computation: what is left of a division by 1024 is below it.
 use native.Mathlib.Omega.{arith}
 use borrow.Author.Needs.{needs}
-use Rattle.blocks.specs.Name.{keyOf}
-use Rattle.blocks.proofs.name.key.Statement.{statement}
-use Rattle.blocks.proofs.name.key.Tie as tie
+use Rattle.blocks.specs.Name.{hashOf}
+use Rattle.blocks.proofs.name.hash.Statement.{statement}
+use Rattle.blocks.proofs.name.hash.Tie as tie
 
 slice-aggregate-get-u64 : tie.Need-slice-aggregate-get-u64
 slice-aggregate-get-u64 c = search needs
@@ -21,11 +21,11 @@ add-result : tie.Need-add-result
 add-result c = search needs
 
 returns : tie.Need-returns
-unfolding keyOf
+unfolding hashOf
 returns c = (cc, omega arith)
 
-pub key-spec : {M : Type 1} → statement M
-key-spec =
+pub hash-spec : {M : Type 1} → statement M
+hash-spec =
     tie.close
     (tie.spec
     slice-aggregate-get-u64

@@ -1,8 +1,8 @@
--- `put_record` meets its contract: the fields, put one after the other, are the bytes of the record.
+-- `put_record_bytes` meets its contract: the fields, put one after the other, are the bytes of the record.
 use Rattle.boundary.proofs.RecordLaws.{record-put}
 use borrow.Author.Needs.{needs}
-use Rattle.boundary.proofs.record.put_record.Statement.{statement}
-use Rattle.boundary.proofs.record.put_record.Tie as tie
+use Rattle.boundary.proofs.record.put_record_bytes.Statement.{statement}
+use Rattle.boundary.proofs.record.put_record_bytes.Tie as tie
 
 put-name-requires : tie.Need-put-name-requires
 put-name-requires c κs = search needs
@@ -37,8 +37,8 @@ returns c =
     let s = c₁ .before .before .before .before in
     record-put _ _ _ _ _ _ (s .args .r) (s .pre) (c₁ .put-name .ensures .1) (c₁ .put-name .ensures .0) (c₂ .put-u32 .ensures) (c₃ .put-u322 .ensures) (c₄ .put-u323 .ensures)
 
-pub put-record-spec : {M : Type 1} → statement M
-put-record-spec =
+pub put-record-bytes-spec : {M : Type 1} → statement M
+put-record-bytes-spec =
     tie.close
     (tie.spec
     put-name-requires

@@ -1,15 +1,15 @@
--- `put_shown` meets its contract, case by case.
+-- `put_added_byte` meets its contract, case by case.
 use mathlib.Core.Path.{_≡_}
 use native.Mathlib.Omega.{arith}
-use Rattle.sheet.specs.declared.run.Shown.the-variants.{Nothing, Byte, Listed}
-use Rattle.sheet.specs.Sheet.{byteShown}
+use Rattle.sheet.specs.declared.run.Addition.the-variants.{Nothing, Byte, FirstRecords}
+use Rattle.sheet.specs.Sheet.{addedByte}
 use Rattle.sheet.proofs.PrintLaws.{byte-put}
 use borrow.Author.Needs.{needs}
-use Rattle.turns.proofs.print.put_shown.Statement.{statement}
-use Rattle.turns.proofs.print.put_shown.Tie as tie
+use Rattle.turns.proofs.print.put_added_byte.Statement.{statement}
+use Rattle.turns.proofs.print.put_added_byte.Tie as tie
 
-enum-known-shown : tie.Need-enum-known-shown
-enum-known-shown c = search needs
+enum-known-addition : tie.Need-enum-known-addition
+enum-known-addition c = search needs
 
 put-byte-requires : tie.Need-put-byte-requires
 put-byte-requires c κs = search needs
@@ -36,11 +36,11 @@ same-length : tie.Need-same-length
 same-length c = search needs
 
 returns : tie.Need-returns
-unfolding byteShown
+unfolding addedByte
 returns c =
     let s = c .before .before .before .before .before .before .before .before in
-    let g = c .before .before .before .before .before .shown .given .0 in
-    let e : s .args .shown ≡ Byte (g .0) = cc in
+    let g = c .before .before .before .before .before .addition .given .0 in
+    let e : s .args .addition ≡ Byte (g .0) = cc in
     let p = c .before .before .put-byte .ensures in
     (byte-put _ _ _ _ _ _ e (p .0), omega (arith, p .1))
 
@@ -48,10 +48,10 @@ same-length-2 : tie.Need-same-length-2
 same-length-2 c = search needs
 
 returns-2 : tie.Need-returns-2
-unfolding byteShown
+unfolding addedByte
 returns-2 c =
     let s = c .before .before .before .before .before .before .before .before in
-    let e : s .args .shown ≡ Nothing = cc in
+    let e : s .args .addition ≡ Nothing = cc in
     let p = c .before .before .put-text .ensures in
     (byte-put _ _ _ _ _ _ e p, omega (arith, p .0))
 
@@ -59,19 +59,19 @@ same-length-3 : tie.Need-same-length-3
 same-length-3 c = search needs
 
 returns-3 : tie.Need-returns-3
-unfolding byteShown
+unfolding addedByte
 returns-3 c =
     let s = c .before .before .before .before .before .before .before .before in
     let g = c .before .before .before .before .before .enum-told2 .given in
-    let e : s .args .shown ≡ Listed (g .0 .0) = cc in
+    let e : s .args .addition ≡ FirstRecords (g .0 .0) = cc in
     let p = c .before .before .put-text2 .ensures in
     (byte-put _ _ _ _ _ _ e p, omega (arith, p .0))
 
-pub put-shown-spec : {M : Type 1} → statement M
-put-shown-spec =
+pub put-added-byte-spec : {M : Type 1} → statement M
+put-added-byte-spec =
     tie.close
     (tie.spec
-    enum-known-shown
+    enum-known-addition
     put-byte-requires
     enum-told
     slice-aggregate-put-text

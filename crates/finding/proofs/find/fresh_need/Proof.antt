@@ -1,8 +1,8 @@
--- `taken_fresh` meets its contract, by its tests.
+-- `fresh_need` meets its contract, by its tests.
 use Rattle.blocks.proofs.Tests.{tests}
 use Rattle.entries.specs.Entry.{tableIsNew}
-use Rattle.finding.proofs.find.taken_fresh.Statement.{statement}
-use Rattle.finding.proofs.find.taken_fresh.Tie as tie
+use Rattle.finding.proofs.find.fresh_need.Statement.{statement}
+use Rattle.finding.proofs.find.fresh_need.Tie as tie
 
 returns : tie.Need-returns
 unfolding tableIsNew
@@ -16,5 +16,5 @@ returns-3 : tie.Need-returns-3
 unfolding tableIsNew
 returns-3 c = search tests
 
-pub taken-fresh-spec : {M : Type 1} → statement M
-taken-fresh-spec = tie.close (tie.spec returns returns-2 returns-3)
+pub fresh-need-spec : {M : Type 1} → statement M
+fresh-need-spec = tie.close (tie.spec returns returns-2 returns-3)

@@ -1,9 +1,9 @@
--- `put_record` meets its contract: each part stands where the one before it ends.
+-- `put_record_text` meets its contract: each part stands where the one before it ends.
 use native.Mathlib.Omega.{arith}
 use Rattle.printing.proofs.TextLaws.{record-put}
 use borrow.Author.Needs.{needs}
-use Rattle.printing.proofs.text.put_record.Statement.{statement}
-use Rattle.printing.proofs.text.put_record.Tie as tie
+use Rattle.printing.proofs.text.put_record_text.Statement.{statement}
+use Rattle.printing.proofs.text.put_record_text.Tie as tie
 
 slice-aggregate-put-text : tie.Need-slice-aggregate-put-text
 slice-aggregate-put-text c = search needs
@@ -11,8 +11,8 @@ slice-aggregate-put-text c = search needs
 put-text-requires : tie.Need-put-text-requires
 put-text-requires c κs = search needs
 
-put-name-requires : tie.Need-put-name-requires
-put-name-requires c κs = search needs
+put-name-text-requires : tie.Need-put-name-text-requires
+put-name-text-requires c κs = search needs
 
 slice-aggregate-put-field : tie.Need-slice-aggregate-put-field
 slice-aggregate-put-field c = search needs
@@ -51,7 +51,7 @@ returns c =
     let c₁ = c₂ .before .before .before .before in
     let s = c₁ .before .before .before .before .before in
     let p₁ = c₁ .put-text .ensures in
-    let p₂ = c₂ .put-name .ensures in
+    let p₂ = c₂ .put-name-text .ensures in
     let p₃ = c₃ .put-field .ensures in
     let p₄ = c₄ .put-field2 .ensures in
     let p₅ = c₅ .put-field3 .ensures in
@@ -60,13 +60,13 @@ returns c =
       omega (arith, p₁ .0, p₂ .1, p₃ .1, p₄ .1, p₅ .1, p₆ .0),
     )
 
-pub put-record-spec : {M : Type 1} → statement M
-put-record-spec =
+pub put-record-text-spec : {M : Type 1} → statement M
+put-record-text-spec =
     tie.close
     (tie.spec
     slice-aggregate-put-text
     put-text-requires
-    put-name-requires
+    put-name-text-requires
     slice-aggregate-put-field
     put-field-requires
     slice-aggregate-put-field-2

@@ -1,11 +1,11 @@
--- `put_shown` meets its contract: the first bytes, as many as `name_length` says.
+-- `put_unpadded` meets its contract: the first bytes, as many as `name_length` says.
 use mathlib.Core.Path.{sym}
 use native.Mathlib.Omega.{arith}
 use lib.Seq.{length-take-le}
-use Rattle.printing.proofs.TextLaws.{shown-is}
+use Rattle.printing.proofs.TextLaws.{name-text-is}
 use borrow.Author.Needs.{needs}
-use Rattle.printing.proofs.text.put_shown.Statement.{statement}
-use Rattle.printing.proofs.text.put_shown.Tie as tie
+use Rattle.printing.proofs.text.put_unpadded.Statement.{statement}
+use Rattle.printing.proofs.text.put_unpadded.Tie as tie
 
 name-length-requires : tie.Need-name-length-requires
 name-length-requires c κs = search needs
@@ -27,9 +27,9 @@ returns c =
     let p = c .before .before .put-text .ensures in
     let n = c .before .before .before .before .before .name-length in
     let long = length-take-le (n .result) (c .before .before .before .before .before .before .before .before .args .name .now) (n .ensures .1) in
-    (rw (shown-is _ _ (n .ensures .0)) p, omega (arith, p .0, long, n .ensures .1))
+    (rw (name-text-is _ _ (n .ensures .0)) p, omega (arith, p .0, long, n .ensures .1))
 
-pub put-shown-spec : {M : Type 1} → statement M
-put-shown-spec =
+pub put-unpadded-spec : {M : Type 1} → statement M
+put-unpadded-spec =
     tie.close
     (tie.spec name-length-requires slice-aggregate-put-text put-text-requires same-length returns)

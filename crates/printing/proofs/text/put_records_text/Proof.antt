@@ -1,12 +1,12 @@
--- `put_records` meets its contract: after i turns the text of the first i records is put.
+-- `put_records_text` meets its contract: after i turns the text of the first i records is put.
 use mathlib.Core.Path.{_≡_, refl, _∙_}
 use Prim.Native.Nat.{_+_, _*_, _-_, _≤_}
 use native.Mathlib.Omega.{arith}
 use lib.ListN.{length}
 use borrow.Author.Needs.{needs}
 use Rattle.printing.proofs.TextLaws.{Put, firstText, records-none, records-more, records-all}
-use Rattle.printing.proofs.text.put_records.Statement.{statement}
-use Rattle.printing.proofs.text.put_records.Tie as tie
+use Rattle.printing.proofs.text.put_records_text.Statement.{statement}
+use Rattle.printing.proofs.text.put_records_text.Tie as tie
 
 abbrev Inv-loop : tie.InvT-loop
 Inv-loop out₀ at n records next₀ i₀ out next i = (i ≤ n) × (length out ≡ length out₀) × (next ≤ at + 80 * i) × Put out₀ at (firstText records i) next out
@@ -26,8 +26,8 @@ mul-r c = omega arith
 array-copy-out-r : tie.Need-array-copy-out-r Inv-loop μ-loop
 array-copy-out-r c = omega arith
 
-put-record-requires : tie.Need-put-record-requires Inv-loop μ-loop
-put-record-requires c κs = omega arith
+put-record-text-requires : tie.Need-put-record-text-requires Inv-loop μ-loop
+put-record-text-requires c κs = omega arith
 
 add-i : tie.Need-add-i Inv-loop μ-loop
 add-i c = omega arith
@@ -37,7 +37,7 @@ loop-less c = omega arith
 
 loop-again : tie.Need-loop-again Inv-loop μ-loop
 loop-again c =
-    let p = c .before .before .put-record in
+    let p = c .before .before .put-record-text in
     let l = c .before .before .before .before .before .before in
     let inv = l .loop .inv in
     let s = l .before .before in
@@ -58,8 +58,8 @@ returns c =
     let all : l .i ≡ n = omega arith in
     (records-all _ _ _ _ _ _ n all (l .inv .3), omega (arith, l .inv .2))
 
-pub put-records-spec : {M : Type 1} → statement M
-put-records-spec =
+pub put-records-text-spec : {M : Type 1} → statement M
+put-records-text-spec =
     tie.close
     (tie.spec
     Inv-loop
@@ -67,7 +67,7 @@ put-records-spec =
     loop-holds
     mul-r
     array-copy-out-r
-    put-record-requires
+    put-record-text-requires
     add-i
     loop-less
     loop-again
