@@ -7,13 +7,17 @@ use lib.Dec.{eqb, ltb, leb}
 use Rattle.blocks.specs.Pick.{pick, same}
 use Rattle.blocks.specs.Bytes.{blockSize, part, blockCount}
 use Rattle.blocks.specs.Name.{isName}
-use Rattle.blocks.specs.Descriptor.{physical, mark, mostVolume, phiStart, headSize, costOf, descriptorAt, reservedOk, phiOk, noDescriptor}
+use Rattle.blocks.specs.Descriptor.{physical, mark, mostVolume, phiStart, headSize, reservedSize, phiBytes, costOf, descriptorAt, reservedOk, phiOk, noDescriptor}
 use Rattle.blocks.specs.declared.descriptor.Descriptor.{Descriptor}
 use Rattle.blocks.specs.declared.chain.Regions.{Regions}
 
 -- the most descriptors of a chain
 abbrev pub mostDescriptors : ℕ
 mostDescriptors = 256
+
+-- the places for the starts of its regions: one more, for where the last one ends
+abbrev pub startsSize : ℕ
+startsSize = mostDescriptors + 1
 
 -- mark, layout, L, name and zero bytes are those of a descriptor
 unfoldable pub formOk : List ℕ → ℕ → Descriptor → Bool
@@ -23,8 +27,8 @@ formOk c p d =
     && ltb 0 (d .volume)
     && leb (d .volume) mostVolume
     && isName (d .name)
-    && reservedOk (part c (blockSize * p + headSize) 24)
-    && phiOk (d .layout) (part c (blockSize * p + phiStart) 448)
+    && reservedOk (part c (blockSize * p + headSize) reservedSize)
+    && phiOk (d .layout) (part c (blockSize * p + phiStart) phiBytes)
 
 -- layout and L equal those of block 0; alpha is its own block p; alpha + c ≤ beta ≤ N; next is 0, or equals beta with beta < N
 unfoldable pub regionOk : Descriptor → ℕ → ℕ → Descriptor → Bool
@@ -104,5 +108,5 @@ startsOf ds = (0 ∷ ends ds) ++ replicate (mostDescriptors - length ds) 0
 
 -- the same as the walk in code gives it
 unfoldable pub regionsOf : Chain → Regions
-regionsOf (Unsound p) = record { sound = false; place = physical p; active = noDescriptor; count = 0; starts = replicate (mostDescriptors + 1) 0 }
+regionsOf (Unsound p) = record { sound = false; place = physical p; active = noDescriptor; count = 0; starts = replicate startsSize 0 }
 regionsOf (Sound ds) = record { sound = true; place = physical 0; active = activeOf ds; count = length ds; starts = startsOf ds }

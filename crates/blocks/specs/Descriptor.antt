@@ -28,16 +28,29 @@ mostVolume = 14336
 abbrev pub mark : List ℕ
 mark = 115 ∷ 110 ∷ 97 ∷ 112 ∷ []
 
--- the first byte after those of the record, and the first of Phi
+-- the first byte of the name, the first after those of the record, and the first of Phi
+abbrev pub nameStart : ℕ
+nameStart = 24
+
 abbrev pub headSize : ℕ
 headSize = 40
 
 abbrev pub phiStart : ℕ
 phiStart = 64
 
+-- the bytes after those of the record; of these the bytes before Phi, and those of Phi
+abbrev pub tailSize : ℕ
+tailSize = 472
+
+abbrev pub reservedSize : ℕ
+reservedSize = 24
+
+abbrev pub phiBytes : ℕ
+phiBytes = 448
+
 -- n: L divided by 128, rounded up
 unfoldable pub tableCount : ℕ → ℕ
-tableCount volume = (volume + 127) / tableSize
+tableCount volume = (volume + (tableSize - 1)) / tableSize
 
 -- c, the opening cost: 1 + n in layout 1, 1 in layout 2
 unfoldable pub cost : ℕ → ℕ → ℕ
@@ -55,7 +68,7 @@ descriptorAt c p =
       alpha = physical (u32At c (blockSize * p + 12));
       beta = physical (u32At c (blockSize * p + 16));
       next = physical (u32At c (blockSize * p + 20));
-      name = part c (blockSize * p + 24) nameSize;
+      name = part c (blockSize * p + nameStart) nameSize;
     }
 
 -- bytes 0 to 39 of its block
@@ -64,7 +77,7 @@ headBytes d = mark ++ le32 (d .layout) ++ le32 (d .volume) ++ le32 (d .alpha .0)
 
 -- bytes 40 to 511 of block p, which travel as they are
 abbrev pub tailAt : List ℕ → ℕ → List ℕ
-tailAt c p = part c (blockSize * p + headSize) 472
+tailAt c p = part c (blockSize * p + headSize) tailSize
 
 -- the whole block of a descriptor, with bytes 40 to 511 given
 unfoldable pub descriptorBlock : Descriptor → List ℕ → List ℕ
@@ -123,4 +136,4 @@ copying c from p (suc n) = store p (blockAt c from) ∷ copying c (suc from) (su
 
 -- the stores of a format: the c - 1 table blocks after the descriptor, rising, then the first descriptor with a cleared Phi
 unfoldable pub opening : Format → List Store
-opening format = clearing 1 (costIn format - 1) ++ (store 0 (descriptorBlock (firstOf format) (replicate 472 0)) ∷ [])
+opening format = clearing 1 (costIn format - 1) ++ (store 0 (descriptorBlock (firstOf format) (replicate tailSize 0)) ∷ [])

@@ -1,12 +1,13 @@
 // Bytes, 32-bit numbers and whole blocks of a lent area.
 use crate::numbers::Physical;
+use crate::sizes::BLOCK_SIZE;
 ghost use mathlib.Core.Path.{_≡_};
 ghost use mathlib.Core.Bool.{_&&_};
 ghost use Prim.Native.Nat.{_+_, _*_, _≤_, _<_};
 ghost use lib.ListN.{length};
 ghost use lib.Dec.{eqb};
 ghost use Rattle.blocks.specs.Pick.{same, allZero};
-ghost use Rattle.blocks.specs.Bytes.{u32At, u64At, le32, splice, part, blockAt, zeroBlock, storeBlock};
+ghost use Rattle.blocks.specs.Bytes.{blockSize, u32At, u64At, le32, splice, part, blockAt, zeroBlock, storeBlock};
 
 fn wide(x: u8) -> u32
     ensures { λ r. ⌜ r ≡ x ⌝ }
@@ -72,21 +73,21 @@ pub fn get_bytes(area: &[u8], at: usize, out: &mut [u8])
 
 // Block `p` is now `block`.
 pub fn store_block(card: &mut [u8], p: Physical, block: &[u8])
-    requires { ⌜ (length (now block) ≡ 512) × (512 * p .0 + 512 ≤ length (now card)) ⌝ }
+    requires { ⌜ (length (now block) ≡ blockSize) × (blockSize * p .0 + blockSize ≤ length (now card)) ⌝ }
     ensures { λ _. ⌜ now (card .exit) ≡ storeBlock (now (card .entry)) (p .0) (now (block .entry)) ⌝ }
 {
-    put_bytes(card, 512 * (p.0 as usize), block);
+    put_bytes(card, BLOCK_SIZE * (p.0 as usize), block);
 }
 
 // Block `to` is now a copy of block `from`.
 pub fn copy_block(card: &mut [u8], from: Physical, to: Physical)
-    requires { ⌜ (512 * from .0 + 512 ≤ length (now card)) × (512 * «to» .0 + 512 ≤ length (now card)) ⌝ }
+    requires { ⌜ (blockSize * from .0 + blockSize ≤ length (now card)) × (blockSize * «to» .0 + blockSize ≤ length (now card)) ⌝ }
     ensures { λ _. ⌜ now (card .exit) ≡ storeBlock (now (card .entry)) («to» .0) (blockAt (now (card .entry)) (from .0)) ⌝ }
 {
-    let a = 512 * (from.0 as usize);
-    let b = 512 * (to.0 as usize);
+    let a = BLOCK_SIZE * (from.0 as usize);
+    let b = BLOCK_SIZE * (to.0 as usize);
     let mut i = 0;
-    while i < 512 {
+    while i < BLOCK_SIZE {
         card[b + i] = card[a + i];
         i += 1;
     }
@@ -94,12 +95,12 @@ pub fn copy_block(card: &mut [u8], from: Physical, to: Physical)
 
 // Block `p` is now zeros.
 pub fn clear_block(card: &mut [u8], p: Physical)
-    requires { ⌜ 512 * p .0 + 512 ≤ length (now card) ⌝ }
+    requires { ⌜ blockSize * p .0 + blockSize ≤ length (now card) ⌝ }
     ensures { λ _. ⌜ now (card .exit) ≡ storeBlock (now (card .entry)) (p .0) zeroBlock ⌝ }
 {
-    let b = 512 * (p.0 as usize);
+    let b = BLOCK_SIZE * (p.0 as usize);
     let mut i = 0;
-    while i < 512 {
+    while i < BLOCK_SIZE {
         card[b + i] = 0;
         i += 1;
     }

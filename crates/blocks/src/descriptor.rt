@@ -1,11 +1,17 @@
 // A descriptor by value: the first 40 bytes of its block. Bytes 40 to 511 travel as they are.
 use crate::bytes;
 use crate::numbers::Physical;
+use crate::sizes::BLOCK_SIZE;
+use crate::sizes::HEAD_SIZE;
+use crate::sizes::NAME_SIZE;
+use crate::sizes::NAME_START;
+use crate::sizes::TABLE_SIZE;
 ghost use mathlib.Core.Path.{_≡_};
 ghost use Prim.Native.Nat.{_+_, _*_, _≤_, _<_, _^_};
 ghost use lib.ListN.{length};
-ghost use Rattle.blocks.specs.Bytes.{splice, storeBlock};
-ghost use Rattle.blocks.specs.Descriptor.{tableCount, cost, costOf, renamedOf, linkedOf, extendedOf, reopenedOf, descriptorAt, headBytes, tailAt, descriptorBlock};
+ghost use Rattle.blocks.specs.Bytes.{blockSize, splice, storeBlock};
+ghost use Rattle.blocks.specs.Name.{nameSize};
+ghost use Rattle.blocks.specs.Descriptor.{headSize, tableCount, cost, costOf, renamedOf, linkedOf, extendedOf, reopenedOf, descriptorAt, headBytes, tailAt, descriptorBlock};
 
 // What a format takes.
 pub struct Format {
@@ -21,7 +27,7 @@ pub struct Descriptor {
     pub alpha: Physical,
     pub beta: Physical,
     pub next: Physical,
-    pub name: [u8; 16],
+    pub name: [u8; NAME_SIZE],
 }
 
 // n, the table blocks of a volume.
@@ -29,7 +35,7 @@ pub fn table_count(volume: u32) -> u32
     ensures { λ r. ⌜ r ≡ tableCount volume ⌝ }
     ensures { λ r. ⌜ r ≤ 33554432 ⌝ }
 {
-    volume / 128 + (volume % 128 + 127) / 128
+    volume / TABLE_SIZE + (volume % TABLE_SIZE + (TABLE_SIZE - 1)) / TABLE_SIZE
 }
 
 // c, the blocks that opening a region takes.
@@ -44,7 +50,7 @@ pub fn opening_cost(layout: u32, volume: u32) -> u32
 
 impl Descriptor {
     // The descriptor under another name.
-    pub fn renamed(self, name: [u8; 16]) -> Descriptor
+    pub fn renamed(self, name: [u8; NAME_SIZE]) -> Descriptor
         ensures { λ r. ⌜ r ≡ renamedOf self name ⌝ }
     {
         let mut d = self;
@@ -87,21 +93,21 @@ impl Descriptor {
 }
 
 // The sixteen bytes of the name in block `p`.
-pub fn name_at(card: &[u8], p: Physical) -> [u8; 16]
-    requires { ⌜ 512 * p .0 + 512 ≤ length (now card) ⌝ }
+pub fn name_at(card: &[u8], p: Physical) -> [u8; NAME_SIZE]
+    requires { ⌜ blockSize * p .0 + blockSize ≤ length (now card) ⌝ }
     ensures { λ r. ⌜ r ≡ descriptorAt (now (card .entry)) (p .0) .name ⌝ }
 {
-    let mut name = [0u8; 16];
-    bytes::get_bytes(card, 512 * (p.0 as usize) + 24, &mut name);
+    let mut name = [0u8; NAME_SIZE];
+    bytes::get_bytes(card, BLOCK_SIZE * (p.0 as usize) + NAME_START, &mut name);
     name
 }
 
 // The descriptor in block `p`.
 pub fn read_descriptor(card: &[u8], p: Physical) -> Descriptor
-    requires { ⌜ 512 * p .0 + 512 ≤ length (now card) ⌝ }
+    requires { ⌜ blockSize * p .0 + blockSize ≤ length (now card) ⌝ }
     ensures { λ r. ⌜ r ≡ descriptorAt (now (card .entry)) (p .0) ⌝ }
 {
-    let at = 512 * (p.0 as usize);
+    let at = BLOCK_SIZE * (p.0 as usize);
     let name = name_at(card, p);
     Descriptor {
         layout: bytes::get_u32(card, at + 4),
@@ -114,19 +120,19 @@ pub fn read_descriptor(card: &[u8], p: Physical) -> Descriptor
 }
 
 // Stores sixteen bytes at `at`.
-pub fn put_name(block: &mut [u8], at: usize, name: [u8; 16])
-    requires { ⌜ at + 16 ≤ length (now block) ⌝ }
+pub fn put_name(block: &mut [u8], at: usize, name: [u8; NAME_SIZE])
+    requires { ⌜ at + nameSize ≤ length (now block) ⌝ }
     ensures { λ _. ⌜ now (block .exit) ≡ splice (now (block .entry)) at name ⌝ }
-    ensures { λ _. ⌜ length name ≡ 16 ⌝ }
+    ensures { λ _. ⌜ length name ≡ nameSize ⌝ }
 {
     bytes::put_bytes(block, at, &name);
 }
 
 // The first 40 bytes of a block are now the mark and the descriptor.
 pub fn put_head(block: &mut [u8], d: Descriptor)
-    requires { ⌜ 40 ≤ length (now block) ⌝ }
+    requires { ⌜ headSize ≤ length (now block) ⌝ }
     ensures { λ _. ⌜ now (block .exit) ≡ splice (now (block .entry)) 0 (headBytes d) ⌝ }
-    ensures { λ _. ⌜ length (headBytes d) ≡ 40 ⌝ }
+    ensures { λ _. ⌜ length (headBytes d) ≡ headSize ⌝ }
 {
     let name = d.name;
     bytes::put_bytes(block, 0, b"snap");
@@ -135,23 +141,23 @@ pub fn put_head(block: &mut [u8], d: Descriptor)
     bytes::put_u32(block, 12, d.alpha.0);
     bytes::put_u32(block, 16, d.beta.0);
     bytes::put_u32(block, 20, d.next.0);
-    put_name(block, 24, name);
+    put_name(block, NAME_START, name);
 }
 
 // The first 40 bytes of block `p` are now the mark and the descriptor.
 pub fn put_descriptor(card: &mut [u8], p: Physical, d: Descriptor)
-    requires { ⌜ 512 * p .0 + 512 ≤ length (now card) ⌝ }
+    requires { ⌜ blockSize * p .0 + blockSize ≤ length (now card) ⌝ }
     ensures { λ _. ⌜ now (card .exit) ≡ storeBlock (now (card .entry)) (p .0) (descriptorBlock d (tailAt (now (card .entry)) (p .0))) ⌝ }
-    ensures { λ _. ⌜ length (headBytes d) ≡ 40 ⌝ }
+    ensures { λ _. ⌜ length (headBytes d) ≡ headSize ⌝ }
 {
-    let at = 512 * (p.0 as usize);
-    let end = at + 40;
+    let at = BLOCK_SIZE * (p.0 as usize);
+    let end = at + HEAD_SIZE;
     put_head(&mut card[at..end], d);
 }
 
 // Block `p` is now the descriptor, with bytes 40 to 511 as they stand in block `from`.
 pub fn store_descriptor(card: &mut [u8], from: Physical, p: Physical, d: Descriptor)
-    requires { ⌜ (512 * from .0 + 512 ≤ length (now card)) × (512 * p .0 + 512 ≤ length (now card)) ⌝ }
+    requires { ⌜ (blockSize * from .0 + blockSize ≤ length (now card)) × (blockSize * p .0 + blockSize ≤ length (now card)) ⌝ }
     ensures { λ _. ⌜ now (card .exit) ≡ storeBlock (now (card .entry)) (p .0) (descriptorBlock d (tailAt (now (card .entry)) (from .0))) ⌝ }
 {
     bytes::copy_block(card, from, p);

@@ -1,9 +1,13 @@
 // Names: sixteen bytes by value, judged, made of a text, and given a hash.
 use crate::bytes;
+use crate::sizes::NAME_SIZE;
 ghost use mathlib.Core.Path.{_≡_};
 ghost use Prim.Native.Nat.{_≤_, _<_};
 ghost use lib.ListN.{length};
 ghost use Rattle.blocks.specs.Name.{nameByte, nameLength, isName, padded, hashCount, hashOf};
+
+// How many hashes of names there are: the walk keeps a flag for each.
+pub const HASH_COUNT: usize = 1024;
 
 // Whether a name may have the byte.
 pub fn is_name_byte(b: u8) -> bool
@@ -46,7 +50,7 @@ pub fn name_length(text: &[u8]) -> usize
 pub fn are_name(bytes: &[u8]) -> bool
     ensures { λ r. ⌜ r ≡ isName (now (bytes .entry)) ⌝ }
 {
-    if bytes.len() != 16 {
+    if bytes.len() != NAME_SIZE {
         return false;
     }
     let n = name_length(bytes);
@@ -57,21 +61,21 @@ pub fn are_name(bytes: &[u8]) -> bool
 }
 
 // Whether sixteen bytes by value are a name.
-pub fn is_name(name: [u8; 16]) -> bool
+pub fn is_name(name: [u8; NAME_SIZE]) -> bool
     ensures { λ r. ⌜ r ≡ isName name ⌝ }
 {
     are_name(&name)
 }
 
 // Any text as sixteen bytes: padded with zeros, or sixteen zeros where it is no name.
-pub fn pad_name(text: &[u8]) -> [u8; 16]
+pub fn pad_name(text: &[u8]) -> [u8; NAME_SIZE]
     ensures { λ r. ⌜ r ≡ padded (now (text .entry)) ⌝ }
 {
-    let mut name = [0u8; 16];
+    let mut name = [0u8; NAME_SIZE];
     if text.len() == 0 {
         return name;
     }
-    if 16 < text.len() {
+    if NAME_SIZE < text.len() {
         return name;
     }
     if name_length(text) != text.len() {
@@ -82,11 +86,11 @@ pub fn pad_name(text: &[u8]) -> [u8; 16]
 }
 
 // A hash of sixteen bytes: bytes that have different hashes differ.
-pub fn hash(name: [u8; 16]) -> usize
+pub fn hash(name: [u8; NAME_SIZE]) -> usize
     ensures { λ r. ⌜ r ≡ hashOf name ⌝ }
     ensures { λ r. ⌜ r < hashCount ⌝ }
 {
     let first = bytes::get_u64(&name, 0) % 997;
     let second = bytes::get_u64(&name, 8) % 991;
-    ((first + second) % 1024) as usize
+    (first + second) as usize % HASH_COUNT
 }

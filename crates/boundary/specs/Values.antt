@@ -5,7 +5,7 @@ use mathlib.Core.List.{List, [], _∷_, _++_}
 use Prim.Native.Nat.{ℕ}
 use lib.ListN.{replicate}
 use Rattle.blocks.specs.Name.{noName, padded}
-use Rattle.blocks.specs.Descriptor.{physical, descriptorBlock}
+use Rattle.blocks.specs.Descriptor.{tailSize, physical, descriptorBlock}
 use Rattle.calls.specs.declared.answer.Record.{Record}
 use Rattle.calls.specs.declared.answer.Target.the-variants.{Active, Snapshot}
 use Rattle.calls.specs.Call.{answer, accepted}
@@ -75,7 +75,7 @@ fs = 102 ∷ 115 ∷ replicate 14 0
 
 abbrev pub opened : ℕ → ℕ → ℕ → List ℕ → List ℕ
 opened alpha beta next name =
-    descriptorBlock (record { layout = 2; volume = 1; alpha = physical alpha; beta = physical beta; next = physical next; name = name }) (replicate 472 0)
+    descriptorBlock (record { layout = 2; volume = 1; alpha = physical alpha; beta = physical beta; next = physical next; name = name }) (replicate tailSize 0)
 
 abbrev pub threeCard : List ℕ
 threeCard = opened 0 1 1 mon ++ opened 1 2 2 tue ++ opened 2 3 0 fs

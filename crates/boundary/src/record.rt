@@ -6,12 +6,15 @@ use reading::list;
 ghost use mathlib.Core.Path.{_≡_};
 ghost use Prim.Native.Nat.{ℕ, _+_, _*_, _≤_, _<_};
 ghost use lib.ListN.{length, getD};
-ghost use Rattle.blocks.specs.Bytes.{splice};
-ghost use Rattle.boundary.specs.RecordBytes.{recordBytes, filledBytes};
+ghost use Rattle.blocks.specs.Bytes.{blockSize, splice};
+ghost use Rattle.boundary.specs.RecordBytes.{recordSize, recordBytes, filledBytes};
+
+// Bytes of a record.
+pub const RECORD_SIZE: usize = 28;
 
 // Stores the bytes of a record at `at`.
 fn put_record_bytes(area: &mut [u8], at: usize, r: Record)
-    requires { ⌜ at + 28 ≤ length (now area) ⌝ }
+    requires { ⌜ at + recordSize ≤ length (now area) ⌝ }
     ensures { λ _. ⌜ now (area .exit) ≡ splice (now (area .entry)) at (recordBytes r) ⌝ }
 {
     let name = r.name;
@@ -23,13 +26,13 @@ fn put_record_bytes(area: &mut [u8], at: usize, r: Record)
 
 // The first `n` records are now those of the `n` regions.
 pub fn fill_bytes(card: &[u8], starts: &[u32], area: &mut [u8], n: usize)
-    requires { ⌜ (28 * n ≤ length (now area)) × (n < length (now starts)) × ((j : ℕ) → j < n → 512 * getD (now starts) j 0 + 512 ≤ length (now card)) ⌝ }
+    requires { ⌜ (recordSize * n ≤ length (now area)) × (n < length (now starts)) × ((j : ℕ) → j < n → blockSize * getD (now starts) j 0 + blockSize ≤ length (now card)) ⌝ }
     ensures { λ _. ⌜ now (area .exit) ≡ filledBytes (now (card .entry)) (now (starts .entry)) (now (area .entry)) n ⌝ }
 {
     let mut i = 0;
     while i < n {
         let r = list::record_of(card, starts, n, i);
-        put_record_bytes(area, 28 * i, r);
+        put_record_bytes(area, RECORD_SIZE * i, r);
         i += 1;
     }
 }

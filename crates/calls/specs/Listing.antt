@@ -6,7 +6,7 @@ use lib.ListN.{length, getD, set, replicate}
 use lib.Dec.{eqb, ltb}
 use Rattle.blocks.specs.Pick.{pick}
 use Rattle.blocks.specs.Descriptor.{descriptorAt}
-use Rattle.blocks.specs.Chain.{mostDescriptors, chain, regionsOf}
+use Rattle.blocks.specs.Chain.{startsSize, chain, regionsOf}
 use Rattle.calls.specs.declared.answer.Record.{Record}
 use Rattle.calls.specs.declared.list.Filling.{Filling}
 use Rattle.calls.specs.declared.list.Plan.{Plan}
@@ -15,6 +15,10 @@ use Rattle.calls.specs.Parts.{areaBad, descriptorsOf}
 use Rattle.calls.specs.Ladder.{firstRow, admission}
 use Rattle.calls.specs.Meaning.{answerOf}
 use Rattle.calls.specs.Step.{isAccepted}
+
+-- the records that a sheet owns
+abbrev pub sheetRecords : ℕ
+sheetRecords = 64
 
 -- an answer and a number of records to fill
 abbrev pub fillingWith : ℕ → ℕ → ℕ → Filling
@@ -32,7 +36,7 @@ fillingBy sound place count room = pick sound (pick (ltb room count) (fillingWit
 
 -- the starts of no region
 abbrev pub noStarts : List ℕ
-noStarts = replicate (mostDescriptors + 1) 0
+noStarts = replicate startsSize 0
 
 -- these, and where the regions start, by the walk, which gives zeros where the chain is unsound; zeros where the call is not admitted
 unfoldable pub planOf : List ℕ → List Record → Plan

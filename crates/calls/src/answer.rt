@@ -1,4 +1,5 @@
 // What a call takes and answers besides bytes.
+use blocks::sizes::NAME_SIZE;
 
 // The number and the place of an answer: 0 and 0 where the call is accepted, else a refusal.
 pub struct Answer {
@@ -80,7 +81,7 @@ pub enum Target {
 
 // One descriptor of the chain as a listing gives it.
 pub struct Record {
-    pub name: [u8; 16],
+    pub name: [u8; NAME_SIZE],
     pub alpha: u32,
     pub beta: u32,
     pub next: u32,

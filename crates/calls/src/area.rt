@@ -1,22 +1,28 @@
 // What is asked before the tests of any call.
 use crate::answer;
 use crate::answer::Answer;
+use blocks::sizes::BLOCK_SIZE;
 ghost use mathlib.Core.Path.{_≡_};
 ghost use Rattle.calls.specs.Parts.{areaBad};
 ghost use Rattle.calls.specs.Ladder.{firstRow, admission};
+
+// The fewest and the most blocks of a card.
+const FEWEST_BLOCKS: usize = 2;
+
+const MOST_BLOCKS: usize = 65536;
 
 // Whether the area is no card, by its length alone.
 fn is_bad(card: &[u8]) -> bool
     ensures { λ r. ⌜ r ≡ areaBad (now (card .entry)) ⌝ }
 {
-    if card.len() % 512 != 0 {
+    if card.len() % BLOCK_SIZE != 0 {
         return true;
     }
-    let n = card.len() / 512;
-    if n < 2 {
+    let n = card.len() / BLOCK_SIZE;
+    if n < FEWEST_BLOCKS {
         return true;
     }
-    65536 < n
+    MOST_BLOCKS < n
 }
 
 // The answer to what is asked before the tests of any call: that the area is a card.

@@ -1,5 +1,9 @@
-// What a listing plans before it fills a record.
+// What a listing plans before it fills a record, and how many records a sheet has.
 use crate::answer::Answer;
+use blocks::sizes::STARTS_SIZE;
+
+// The records of a sheet.
+pub const SHEET_RECORDS: usize = 64;
 
 // What a listing answers, and how many records it fills: none where it is refused.
 pub struct Filling {
@@ -11,5 +15,5 @@ pub struct Filling {
 pub struct Plan {
     pub answer: Answer,
     pub count: usize,
-    pub starts: [u32; 257],
+    pub starts: [u32; STARTS_SIZE],
 }

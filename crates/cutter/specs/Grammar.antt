@@ -86,10 +86,14 @@ lineOfTwo op a =
 unfoldable pub readFrom : List ℕ → ℕ → Line
 readFrom from l = pick (same from star) (lineWith (Read Active (logical l)) noName) (lineWith (Read Snapshot (logical l)) (padded from))
 
+-- the largest byte, which a write may fill a block with
+abbrev pub mostFill : ℕ
+mostFill = 255
+
 -- `op=write block= fill=`, by the two words after the first
 unfoldable pub lineOfWrite : List ℕ → List ℕ → Line
 lineOfWrite a b =
-    pick (hasNumber keyBlock a && hasNumber keyFill b && leb (numberOf keyFill b) 255)
+    pick (hasNumber keyBlock a && hasNumber keyFill b && leb (numberOf keyFill b) mostFill)
     (lineWith (Write (logical (numberOf keyBlock a)) (numberOf keyFill b)) noName)
     malformed
 

@@ -3,6 +3,9 @@ use crate::word;
 ghost use mathlib.Core.Path.{_≡_};
 ghost use Rattle.cutter.specs.ReadNumber.{digitsNumber, numberIn, numberAfter};
 
+// The largest number of a sheet.
+const MOST_NUMBER: u32 = 65535;
+
 // What a text says as a number.
 pub enum Number {
     Not,
@@ -24,7 +27,7 @@ fn read_digits(digits: &[u8]) -> Number
             return Number::Not;
         }
         let next = 10 * v + ((b - 48) as u32);
-        if 65535 < next {
+        if MOST_NUMBER < next {
             return Number::Not;
         }
         v = next;

@@ -2,9 +2,12 @@
 use blocks::bytes;
 use blocks::name;
 use blocks::numbers::Logical;
+use blocks::sizes::NAME_SIZE;
 use calls::answer::Target;
 use cutter::line::Cut;
 use cutter::line::Line;
+use cutter::line::MOST_LINE;
+use cutter::line::SHEET_BLOCKS;
 use cutter::line::SheetCall;
 use cutter::number;
 use cutter::number::Number;
@@ -14,13 +17,16 @@ ghost use Prim.Native.Nat.{_≤_, _<_};
 ghost use lib.ListN.{length};
 ghost use Rattle.cutter.specs.Grammar.{malformed, lineOfOne, lineOfTwo, lineOfWrite, lineOfRead, lineOfThree, lineOfFive, lineOf, readFrom, cutAt};
 
+// The largest byte, which a write may fill a block with.
+const MOST_FILL: u32 = 255;
+
 // The line that is not of the form.
 fn not_formed() -> Line
     ensures { λ r. ⌜ r ≡ malformed ⌝ }
 {
     Line {
         call: SheetCall::Malformed,
-        name: [0u8; 16],
+        name: [0u8; NAME_SIZE],
     }
 }
 
@@ -31,13 +37,13 @@ fn cut_one(op: &[u8]) -> Line
     if bytes::same_bytes(op, b"op=list") {
         return Line {
             call: SheetCall::List,
-            name: [0u8; 16],
+            name: [0u8; NAME_SIZE],
         };
     }
     if bytes::same_bytes(op, b"op=check") {
         return Line {
             call: SheetCall::Check,
-            name: [0u8; 16],
+            name: [0u8; NAME_SIZE],
         };
     }
     not_formed()
@@ -78,12 +84,12 @@ fn cut_write(a: &[u8], b: &[u8]) -> Line
         Number::Is(n) => n,
         Number::Not => return not_formed(),
     };
-    if 255 < fill {
+    if MOST_FILL < fill {
         return not_formed();
     }
     Line {
         call: SheetCall::Write(Logical(block), fill as u8),
-        name: [0u8; 16],
+        name: [0u8; NAME_SIZE],
     }
 }
 
@@ -94,7 +100,7 @@ fn read_from(from: &[u8], l: u32) -> Line
     if bytes::same_bytes(from, b"*") {
         return Line {
             call: SheetCall::Read(Target::Active, Logical(l)),
-            name: [0u8; 16],
+            name: [0u8; NAME_SIZE],
         };
     }
     Line {
@@ -144,7 +150,7 @@ fn cut_five(op: &[u8], a: &[u8], b: &[u8], c: &[u8], d: &[u8]) -> Line
         Number::Is(n) => n,
         Number::Not => return not_formed(),
     };
-    if 64 < blocks {
+    if SHEET_BLOCKS < blocks {
         return not_formed();
     }
     let volume = match number::read_pair(c, b"volume=") {
@@ -165,7 +171,7 @@ pub fn cut_line(line: &[u8]) -> Line
     ensures { λ r. ⌜ r ≡ lineOf (now (line .entry)) ⌝ }
 {
     let n = line.len();
-    if 127 < n {
+    if MOST_LINE < n {
         return not_formed();
     }
     let a = word::find_byte(line, 0, 32);

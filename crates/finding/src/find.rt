@@ -4,35 +4,39 @@ use blocks::bytes;
 use blocks::descriptor::Descriptor;
 use blocks::numbers::Logical;
 use blocks::numbers::Physical;
+use blocks::sizes::BLOCK_SIZE;
+use blocks::sizes::PHI_START;
+use blocks::sizes::TABLE_SIZE;
 use entries::find::Found;
 ghost use mathlib.Core.Path.{_≡_};
 ghost use Prim.Native.Nat.{_+_, _*_, _≤_, _<_, _^_};
 ghost use lib.ListN.{length};
 ghost use Rattle.blocks.specs.Pick.{pick};
-ghost use Rattle.blocks.specs.Descriptor.{physical};
+ghost use Rattle.blocks.specs.Bytes.{blockSize};
+ghost use Rattle.blocks.specs.Descriptor.{tableSize, phiSize, physical};
 ghost use Rattle.blocks.specs.Chain.{chain, descriptors};
 ghost use Rattle.entries.specs.Through.{Through};
 ghost use Rattle.entries.specs.Entry.{tableOf, entryAt, entryFound, find as finding, tableIsNew, need as needing};
 
 // The table block of group `i` of 128 logical blocks: the i-th after the descriptor in layout 1, as Phi names it in layout 2.
 pub fn table_of(card: &[u8], d: Descriptor, i: u32) -> Physical
-    requires { ⌜ (512 * d .alpha .0 + 512 ≤ length (now card)) × (i < 112) × (d .alpha .0 + 113 < 2 ^ 32) ⌝ }
+    requires { ⌜ (blockSize * d .alpha .0 + blockSize ≤ length (now card)) × (i < phiSize) × (d .alpha .0 + (phiSize + 1) < 2 ^ 32) ⌝ }
     ensures { λ r. ⌜ r ≡ physical (tableOf (now (card .entry)) d i) ⌝ }
 {
     let alpha = d.alpha.0;
     if d.layout == 1 {
         return Physical(alpha + 1 + i);
     }
-    let at = 512 * (alpha as usize) + 64 + 4 * (i as usize);
+    let at = BLOCK_SIZE * (alpha as usize) + PHI_START + 4 * (i as usize);
     Physical(bytes::get_u32(card, at))
 }
 
 // Entry `j` of table block `m`.
 pub fn entry_at(card: &[u8], m: Physical, j: u32) -> Physical
-    requires { ⌜ (512 * m .0 + 512 ≤ length (now card)) × (j < 128) ⌝ }
+    requires { ⌜ (blockSize * m .0 + blockSize ≤ length (now card)) × (j < tableSize) ⌝ }
     ensures { λ r. ⌜ r ≡ physical (entryAt (now (card .entry)) (m .0) j) ⌝ }
 {
-    let at = 512 * (m.0 as usize) + 4 * (j as usize);
+    let at = BLOCK_SIZE * (m.0 as usize) + 4 * (j as usize);
     Physical(bytes::get_u32(card, at))
 }
 
@@ -45,7 +49,7 @@ pub fn found_in(
     m: Physical,
     j: u32,
 ) -> Found
-    requires { ⌜ Through (now card) (now starts) count d × (512 * m .0 + 512 ≤ length (now card)) × (j < 128) ⌝ }
+    requires { ⌜ Through (now card) (now starts) count d × (blockSize * m .0 + blockSize ≤ length (now card)) × (j < tableSize) ⌝ }
     ensures { λ r. ⌜ r ≡ entryFound (descriptors (chain (now (card .entry)))) d (m .0) (entryAt (now (card .entry)) (m .0) j) ⌝ }
 {
     let p = entry_at(card, m, j);
@@ -60,8 +64,8 @@ pub fn find(card: &[u8], starts: &[u32], count: usize, d: Descriptor, l: Logical
     requires { ⌜ Through (now card) (now starts) count d × (l .0 < d .volume) ⌝ }
     ensures { λ r. ⌜ r ≡ finding (now (card .entry)) (descriptors (chain (now (card .entry)))) d (l .0) ⌝ }
 {
-    let j = l.0 % 128;
-    let m = table_of(card, d, l.0 / 128);
+    let j = l.0 % TABLE_SIZE;
+    let m = table_of(card, d, l.0 / TABLE_SIZE);
     if d.layout == 1 {
         return found_in(card, starts, count, d, m, j);
     }

@@ -5,6 +5,9 @@ use blocks::bytes;
 use blocks::descriptor;
 use blocks::descriptor::Descriptor;
 use blocks::numbers::Physical;
+use blocks::sizes::BLOCK_SIZE;
+use blocks::sizes::PHI_START;
+use blocks::sizes::TABLE_SIZE;
 use entries::check::Verdict;
 use finding::find;
 ghost use mathlib.Core.Path.{_≡_};
@@ -12,10 +15,14 @@ ghost use Prim.Native.Nat.{ℕ, _+_, _*_, _-_, _≤_, _<_};
 ghost use lib.ListN.{length, getD, replicate};
 ghost use lib.Dec.{ltb};
 ghost use Rattle.blocks.specs.Pick.{pick, allZero};
-ghost use Rattle.blocks.specs.Bytes.{part};
+ghost use Rattle.blocks.specs.Bytes.{blockSize, part};
+ghost use Rattle.blocks.specs.Descriptor.{tableSize, phiSize, phiStart, phiBytes};
 ghost use Rattle.entries.specs.Naming.{tableNamings, tablesNamings, phiNamings, namings};
 ghost use Rattle.entries.specs.Marks.{takes, taking, flagged, openingsFlagged, nextTurn, nextFlags, takingAll, namedTable, TableReady, TablesReady, PhiReady, CheckReady};
 ghost use Rattle.entries.specs.declared.check.Verdict.the-variants.{Passed, Fault};
+
+// The flag of a block of an opening, which is also the last turn.
+const OPENING: u8 = 255;
 
 // Takes an entry of value `v`: says whether it is nil, or counted, below `limit` and not flagged in this turn. A set entry that is taken is flagged.
 fn take_entry(seen: &mut [u8], turn: u8, limit: u32, counted: bool, v: u32) -> bool
@@ -57,7 +64,7 @@ fn mark_blocks(seen: &mut [u8], from: usize, n: usize)
 {
     let mut i = 0;
     while i < n {
-        seen[from + i] = 255;
+        seen[from + i] = OPENING;
         i += 1;
     }
 }
@@ -80,7 +87,7 @@ pub fn next_turn(seen: &mut [u8], starts: &[u32], count: usize, cost: usize, tur
     requires { ⌜ (count ≤ length (now starts)) × ((k : ℕ) → k < count → getD (now starts) k 0 + cost ≤ length (now seen)) ⌝ }
     ensures { λ r. ⌜ (r ≡ nextTurn turn) × (now (seen .exit) ≡ nextFlags (now (seen .entry)) (now (starts .entry)) cost count turn) ⌝ }
 {
-    if turn < 255 {
+    if turn < OPENING {
         return turn + 1;
     }
     clear_flags(seen);
@@ -111,12 +118,12 @@ fn counted_from(volume: u32, first: u32) -> u32
 // Takes the 128 entries of table block `m`, the table of group `i`, up to the first at fault.
 fn check_table(card: &[u8], d: Descriptor, i: u32, m: Physical, seen: &mut [u8], turn: u8) -> bool
     requires { ⌜ TableReady (now card) d i (m .0) (now seen) ⌝ }
-    ensures { λ r. ⌜ record { verdict = pick r Passed (Fault m); flags = now (seen .exit) } ≡ takingAll d turn (now (seen .entry)) (tableNamings (now (card .entry)) d i (m .0) 128 0) ⌝ }
+    ensures { λ r. ⌜ record { verdict = pick r Passed (Fault m); flags = now (seen .exit) } ≡ takingAll d turn (now (seen .entry)) (tableNamings (now (card .entry)) d i (m .0) tableSize 0) ⌝ }
 {
-    let left = counted_from(d.volume, 128 * i);
+    let left = counted_from(d.volume, TABLE_SIZE * i);
     let limit = limit_of(d.alpha.0, d.beta.0, m.0);
     let mut j: u32 = 0;
-    while j < 128 {
+    while j < TABLE_SIZE {
         let v = find::entry_at(card, m, j);
         let counted = j < left;
         if !take_entry(seen, turn, limit, counted, v.0) {
@@ -156,17 +163,17 @@ fn check_tables(card: &[u8], d: Descriptor, n: u32, seen: &mut [u8], turn: u8) -
 
 // Whether the entries of Phi from entry `n` on are nil, in the descriptor at block `alpha`.
 fn is_clear_past(card: &[u8], alpha: Physical, n: u32) -> bool
-    requires { ⌜ (512 * alpha .0 + 512 ≤ length (now card)) × (n ≤ 112) ⌝ }
-    ensures { λ r. ⌜ r ≡ allZero (part (now (card .entry)) (512 * alpha .0 + 64 + 4 * n) (448 - 4 * n)) ⌝ }
+    requires { ⌜ (blockSize * alpha .0 + blockSize ≤ length (now card)) × (n ≤ phiSize) ⌝ }
+    ensures { λ r. ⌜ r ≡ allZero (part (now (card .entry)) (blockSize * alpha .0 + phiStart + 4 * n) (phiBytes - 4 * n)) ⌝ }
 {
-    let at = 512 * (alpha.0 as usize);
-    bytes::all_zero(&card[at + 64 + 4 * (n as usize)..at + 512])
+    let at = BLOCK_SIZE * (alpha.0 as usize);
+    bytes::all_zero(&card[at + PHI_START + 4 * (n as usize)..at + BLOCK_SIZE])
 }
 
 // The verdict on Phi and the tables that it names, of a layout 2 descriptor with `n` tables.
 fn check_phi(card: &[u8], d: Descriptor, n: u32, seen: &mut [u8], turn: u8) -> Verdict
     requires { ⌜ PhiReady (now card) d n (now seen) ⌝ }
-    ensures { λ r. ⌜ record { verdict = r; flags = now (seen .exit) } ≡ takingAll d turn (now (seen .entry)) (phiNamings (now (card .entry)) d 112 0) ⌝ }
+    ensures { λ r. ⌜ record { verdict = r; flags = now (seen .exit) } ≡ takingAll d turn (now (seen .entry)) (phiNamings (now (card .entry)) d phiSize 0) ⌝ }
 {
     let alpha = d.alpha;
     let mut i: u32 = 0;

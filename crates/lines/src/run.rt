@@ -1,9 +1,12 @@
 // One line of a work sheet.
 use blocks::descriptor::Format;
 use blocks::numbers::Logical;
+use blocks::sizes::BLOCK_SIZE;
+use blocks::sizes::NAME_SIZE;
 use calls::answer::Answer;
 use calls::answer::Record;
 use calls::answer::Target;
+use calls::list::SHEET_RECORDS;
 use checking::check;
 use cutter::line::Line;
 use cutter::line::SheetCall;
@@ -16,25 +19,28 @@ use storing::revert;
 use storing::snap;
 use writes::write;
 ghost use mathlib.Core.Path.{_≡_};
-ghost use Prim.Native.Nat.{_≤_};
+ghost use Prim.Native.Nat.{_*_, _≤_};
 ghost use lib.ListN.{length};
+ghost use Rattle.blocks.specs.Bytes.{blockSize};
 ghost use Rattle.blocks.specs.Name.{noName};
+ghost use Rattle.calls.specs.Listing.{sheetRecords};
+ghost use Rattle.cutter.specs.Grammar.{sheetBlocks};
 ghost use Rattle.sheet.specs.Sheet.{sizeOf, countOf, afterCall, afterLine};
 
 // A format, of the first `size` blocks: where it is accepted, these are the card.
 fn run_ream(
     area: &mut [u8],
     blocks: u32,
-    records: [Record; 64],
+    records: [Record; SHEET_RECORDS],
     layout: u32,
     size: u32,
     volume: u32,
-    name: [u8; 16],
+    name: [u8; NAME_SIZE],
 ) -> Ran
-    requires { ⌜ (length (now area) ≡ 32768) × (blocks ≤ 64) × (size ≤ 64) ⌝ }
+    requires { ⌜ (length (now area) ≡ blockSize * sheetBlocks) × (blocks ≤ sheetBlocks) × (size ≤ sheetBlocks) ⌝ }
     ensures { λ r. ⌜ record { ran = r; area = now (area .exit) } ≡ afterCall (record { area = now (area .entry); blocks = blocks; records = records }) (SheetCall.Ream layout size volume) name ⌝ }
 {
-    let end = 512 * (size as usize);
+    let end = BLOCK_SIZE * (size as usize);
     let format = Format {
         layout,
         volume,
@@ -61,12 +67,18 @@ fn run_ream(
 }
 
 // A write of a block full of one byte.
-fn run_write(area: &mut [u8], blocks: u32, records: [Record; 64], l: Logical, fill: u8) -> Ran
-    requires { ⌜ (length (now area) ≡ 32768) × (blocks ≤ 64) ⌝ }
+fn run_write(
+    area: &mut [u8],
+    blocks: u32,
+    records: [Record; SHEET_RECORDS],
+    l: Logical,
+    fill: u8,
+) -> Ran
+    requires { ⌜ (length (now area) ≡ blockSize * sheetBlocks) × (blocks ≤ sheetBlocks) ⌝ }
     ensures { λ r. ⌜ record { ran = r; area = now (area .exit) } ≡ afterCall (record { area = now (area .entry); blocks = blocks; records = records }) (SheetCall.Write l fill) noName ⌝ }
 {
-    let end = 512 * (blocks as usize);
-    let block = [fill; 512];
+    let end = BLOCK_SIZE * (blocks as usize);
+    let block = [fill; BLOCK_SIZE];
     let answer = write::write(&mut area[..end], l, &block);
     Ran {
         answer,
@@ -81,16 +93,16 @@ fn run_write(area: &mut [u8], blocks: u32, records: [Record; 64], l: Logical, fi
 fn run_read(
     area: &[u8],
     blocks: u32,
-    records: [Record; 64],
+    records: [Record; SHEET_RECORDS],
     target: Target,
     l: Logical,
-    name: [u8; 16],
+    name: [u8; NAME_SIZE],
 ) -> Ran
-    requires { ⌜ (length (now area) ≡ 32768) × (blocks ≤ 64) ⌝ }
+    requires { ⌜ (length (now area) ≡ blockSize * sheetBlocks) × (blocks ≤ sheetBlocks) ⌝ }
     ensures { λ r. ⌜ record { ran = r; area = now (area .entry) } ≡ afterCall (record { area = now (area .entry); blocks = blocks; records = records }) (SheetCall.Read target l) name ⌝ }
 {
-    let end = 512 * (blocks as usize);
-    let mut block = [0u8; 512];
+    let end = BLOCK_SIZE * (blocks as usize);
+    let mut block = [0u8; BLOCK_SIZE];
     let answer = read::read(&area[..end], target, name, l, &mut block);
     let number = answer.number;
     let first = block[0];
@@ -113,11 +125,16 @@ fn run_read(
 }
 
 // A snapshot under the name.
-fn run_snap(area: &mut [u8], blocks: u32, records: [Record; 64], name: [u8; 16]) -> Ran
-    requires { ⌜ (length (now area) ≡ 32768) × (blocks ≤ 64) ⌝ }
+fn run_snap(
+    area: &mut [u8],
+    blocks: u32,
+    records: [Record; SHEET_RECORDS],
+    name: [u8; NAME_SIZE],
+) -> Ran
+    requires { ⌜ (length (now area) ≡ blockSize * sheetBlocks) × (blocks ≤ sheetBlocks) ⌝ }
     ensures { λ r. ⌜ record { ran = r; area = now (area .exit) } ≡ afterCall (record { area = now (area .entry); blocks = blocks; records = records }) (SheetCall.Snap) name ⌝ }
 {
-    let end = 512 * (blocks as usize);
+    let end = BLOCK_SIZE * (blocks as usize);
     let answer = snap::snap(&mut area[..end], name);
     Ran {
         answer,
@@ -129,11 +146,16 @@ fn run_snap(area: &mut [u8], blocks: u32, records: [Record; 64], name: [u8; 16])
 }
 
 // A rollback to the snapshot of the name.
-fn run_revert(area: &mut [u8], blocks: u32, records: [Record; 64], name: [u8; 16]) -> Ran
-    requires { ⌜ (length (now area) ≡ 32768) × (blocks ≤ 64) ⌝ }
+fn run_revert(
+    area: &mut [u8],
+    blocks: u32,
+    records: [Record; SHEET_RECORDS],
+    name: [u8; NAME_SIZE],
+) -> Ran
+    requires { ⌜ (length (now area) ≡ blockSize * sheetBlocks) × (blocks ≤ sheetBlocks) ⌝ }
     ensures { λ r. ⌜ record { ran = r; area = now (area .exit) } ≡ afterCall (record { area = now (area .entry); blocks = blocks; records = records }) (SheetCall.Revert) name ⌝ }
 {
-    let end = 512 * (blocks as usize);
+    let end = BLOCK_SIZE * (blocks as usize);
     let answer = revert::revert(&mut area[..end], name);
     Ran {
         answer,
@@ -145,11 +167,11 @@ fn run_revert(area: &mut [u8], blocks: u32, records: [Record; 64], name: [u8; 16
 }
 
 // A listing, which adds a record for each descriptor.
-fn run_list(area: &[u8], blocks: u32, records: [Record; 64]) -> Ran
-    requires { ⌜ (length (now area) ≡ 32768) × (blocks ≤ 64) ⌝ }
+fn run_list(area: &[u8], blocks: u32, records: [Record; SHEET_RECORDS]) -> Ran
+    requires { ⌜ (length (now area) ≡ blockSize * sheetBlocks) × (blocks ≤ sheetBlocks) ⌝ }
     ensures { λ r. ⌜ record { ran = r; area = now (area .entry) } ≡ afterCall (record { area = now (area .entry); blocks = blocks; records = records }) (SheetCall.List) noName ⌝ }
 {
-    let end = 512 * (blocks as usize);
+    let end = BLOCK_SIZE * (blocks as usize);
     let found = list::list_64(&area[..end], records);
     let answer = found.answer;
     let count = found.count;
@@ -174,11 +196,11 @@ fn run_list(area: &[u8], blocks: u32, records: [Record; 64]) -> Ran
 }
 
 // A check.
-fn run_check(area: &[u8], blocks: u32, records: [Record; 64]) -> Ran
-    requires { ⌜ (length (now area) ≡ 32768) × (blocks ≤ 64) ⌝ }
+fn run_check(area: &[u8], blocks: u32, records: [Record; SHEET_RECORDS]) -> Ran
+    requires { ⌜ (length (now area) ≡ blockSize * sheetBlocks) × (blocks ≤ sheetBlocks) ⌝ }
     ensures { λ r. ⌜ record { ran = r; area = now (area .entry) } ≡ afterCall (record { area = now (area .entry); blocks = blocks; records = records }) (SheetCall.Check) noName ⌝ }
 {
-    let end = 512 * (blocks as usize);
+    let end = BLOCK_SIZE * (blocks as usize);
     let answer = check::check(&area[..end]);
     Ran {
         answer,
@@ -190,10 +212,16 @@ fn run_check(area: &[u8], blocks: u32, records: [Record; 64]) -> Ran
 }
 
 // One line: the call that it asks for, or 15 with the line's number, after which the sheet ends.
-pub fn run_line(area: &mut [u8], blocks: u32, records: [Record; 64], number: u32, line: Line) -> Ran
-    requires { ⌜ (length (now area) ≡ 32768) × (blocks ≤ 64) × (sizeOf (line .call) ≤ 64) ⌝ }
+pub fn run_line(
+    area: &mut [u8],
+    blocks: u32,
+    records: [Record; SHEET_RECORDS],
+    number: u32,
+    line: Line,
+) -> Ran
+    requires { ⌜ (length (now area) ≡ blockSize * sheetBlocks) × (blocks ≤ sheetBlocks) × (sizeOf (line .call) ≤ sheetBlocks) ⌝ }
     ensures { λ r. ⌜ record { ran = r; area = now (area .exit) } ≡ afterLine (record { area = now (area .entry); blocks = blocks; records = records }) number line ⌝ }
-    ensures { λ r. ⌜ (r .blocks ≤ 64) × (countOf (r .addition) ≤ 64) ⌝ }
+    ensures { λ r. ⌜ (r .blocks ≤ sheetBlocks) × (countOf (r .addition) ≤ sheetRecords) ⌝ }
 {
     let call = line.call;
     let name = line.name;

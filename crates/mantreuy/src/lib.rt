@@ -4,8 +4,10 @@ use blocks::descriptor;
 use blocks::descriptor::Format;
 use blocks::name;
 use blocks::numbers::Logical;
+use blocks::sizes::NAME_SIZE;
 use boundary::argument;
 use boundary::record;
+use boundary::record::RECORD_SIZE;
 use calls::area;
 use checking::check;
 use reading::list;
@@ -103,7 +105,8 @@ pub extern "C" fn mantreuy_list(card: &[u8], records: &mut [u8], place: &mut u32
         return admitted.number;
     }
     let found = chain::walk_chain(card);
-    let f = list::plan_filling(found.sound, found.place, found.count, records.len() / 28);
+    let room = records.len() / RECORD_SIZE;
+    let f = list::plan_filling(found.sound, found.place, found.count, room);
     record::fill_bytes(card, &found.starts, records, f.count);
     *place = f.answer.place;
     f.answer.number
@@ -124,7 +127,7 @@ pub extern "C" fn mantreuy_check(card: &[u8], place: &mut u32) -> u32
 pub extern "C" fn mantreuy_pad_name(text: &[u8], name: &mut [u8]) -> u32
     ensures { λ r. ⌜ record { number = r; name = now (name .exit) } ≡ paddingOf (now (text .entry)) (now (name .entry)) ⌝ }
 {
-    if name.len() != 16 {
+    if name.len() != NAME_SIZE {
         return 4;
     }
     let padded = name::pad_name(text);

@@ -46,12 +46,25 @@ digits zero n = []
 digits (suc k) n = pick (ltb n 10) ((48 + n) ∷ []) (digits k (n / 10) ++ ((48 + n % 10) ∷ []))
 
 -- ten digits hold any number of 32 bits
+abbrev pub mostDigits : ℕ
+mostDigits = 10
+
 unfoldable pub decimal : ℕ → List ℕ
-decimal n = digits 10 n
+decimal n = digits mostDigits n
 
 -- a name without the zero bytes that pad it
 unfoldable pub nameText : List ℕ → List ℕ
 nameText name = take (nameLength name) name
+
+-- bytes that are enough for an answer, for the byte of a read and for a record
+abbrev pub answerRoom : ℕ
+answerRoom = 40
+
+abbrev pub byteRoom : ℕ
+byteRoom = 20
+
+abbrev pub recordRoom : ℕ
+recordRoom = 80
 
 -- `answer= place=`
 unfoldable pub answerText : Answer → List ℕ

@@ -1,14 +1,18 @@
 // Text put into a lent area: each function writes from index `at` and returns the index after what it wrote.
 use blocks::bytes;
 use blocks::name;
+use blocks::sizes::NAME_SIZE;
 use calls::answer::Answer;
 use calls::answer::Record;
+use calls::list::SHEET_RECORDS;
 ghost use mathlib.Core.Path.{_≡_};
 ghost use mathlib.Core.List.{_∷_, [], _++_};
 ghost use Prim.Native.Nat.{_+_, _*_, _≤_, _<_};
 ghost use lib.ListN.{length, take};
 ghost use Rattle.blocks.specs.Bytes.{splice};
-ghost use Rattle.printing.specs.Text.{decimal, nameText, answerText, byteText, recordText, recordsText};
+ghost use Rattle.blocks.specs.Name.{nameSize};
+ghost use Rattle.calls.specs.Listing.{sheetRecords};
+ghost use Rattle.printing.specs.Text.{mostDigits, answerRoom, byteRoom, recordRoom, decimal, nameText, answerText, byteText, recordText, recordsText};
 
 // The text as it is.
 pub fn put_text(out: &mut [u8], at: usize, text: &[u8]) -> usize
@@ -30,9 +34,9 @@ fn put_digit(out: &mut [u8], at: usize, d: u32) -> usize
 
 // A number in decimal: the digits of a tenth of it, then its last digit.
 pub fn put_decimal(out: &mut [u8], at: usize, v: u32) -> usize
-    requires { ⌜ at + 10 ≤ length (now out) ⌝ }
+    requires { ⌜ at + mostDigits ≤ length (now out) ⌝ }
     ensures { λ r. ⌜ (r ≡ at + length (decimal v)) × (now (out .exit) ≡ splice (now (out .entry)) at (decimal v)) ⌝ }
-    ensures { λ r. ⌜ r ≤ at + 10 ⌝ }
+    ensures { λ r. ⌜ r ≤ at + mostDigits ⌝ }
 {
     if v < 10 {
         return put_digit(out, at, v);
@@ -43,9 +47,9 @@ pub fn put_decimal(out: &mut [u8], at: usize, v: u32) -> usize
 
 // A key and a number in decimal.
 fn put_field(out: &mut [u8], at: usize, key: &[u8], v: u32) -> usize
-    requires { ⌜ at + length (now key) + 10 ≤ length (now out) ⌝ }
+    requires { ⌜ at + length (now key) + mostDigits ≤ length (now out) ⌝ }
     ensures { λ r. ⌜ (r ≡ at + length (now (key .entry) ++ decimal v)) × (now (out .exit) ≡ splice (now (out .entry)) at (now (key .entry) ++ decimal v)) ⌝ }
-    ensures { λ r. ⌜ r ≤ at + length (now (key .entry)) + 10 ⌝ }
+    ensures { λ r. ⌜ r ≤ at + length (now (key .entry)) + mostDigits ⌝ }
 {
     let next = put_text(out, at, key);
     put_decimal(out, next, v)
@@ -62,19 +66,19 @@ fn put_unpadded(out: &mut [u8], at: usize, name: &[u8]) -> usize
 }
 
 // A name without the zero bytes that pad it.
-pub fn put_name_text(out: &mut [u8], at: usize, name: [u8; 16]) -> usize
-    requires { ⌜ at + 16 ≤ length (now out) ⌝ }
+pub fn put_name_text(out: &mut [u8], at: usize, name: [u8; NAME_SIZE]) -> usize
+    requires { ⌜ at + nameSize ≤ length (now out) ⌝ }
     ensures { λ r. ⌜ (r ≡ at + length (nameText name)) × (now (out .exit) ≡ splice (now (out .entry)) at (nameText name)) ⌝ }
-    ensures { λ r. ⌜ r ≤ at + 16 ⌝ }
+    ensures { λ r. ⌜ r ≤ at + nameSize ⌝ }
 {
     put_unpadded(out, at, &name)
 }
 
 // The number and the place of an answer.
 pub fn put_answer(out: &mut [u8], at: usize, a: Answer) -> usize
-    requires { ⌜ at + 40 ≤ length (now out) ⌝ }
+    requires { ⌜ at + answerRoom ≤ length (now out) ⌝ }
     ensures { λ r. ⌜ (r ≡ at + length (answerText a)) × (now (out .exit) ≡ splice (now (out .entry)) at (answerText a)) ⌝ }
-    ensures { λ r. ⌜ r ≤ at + 40 ⌝ }
+    ensures { λ r. ⌜ r ≤ at + answerRoom ⌝ }
 {
     let number = a.number;
     let place = a.place;
@@ -84,18 +88,18 @@ pub fn put_answer(out: &mut [u8], at: usize, a: Answer) -> usize
 
 // The byte that a read adds to its answer.
 pub fn put_byte(out: &mut [u8], at: usize, b: u8) -> usize
-    requires { ⌜ at + 20 ≤ length (now out) ⌝ }
+    requires { ⌜ at + byteRoom ≤ length (now out) ⌝ }
     ensures { λ r. ⌜ (r ≡ at + length (byteText b)) × (now (out .exit) ≡ splice (now (out .entry)) at (byteText b)) ⌝ }
-    ensures { λ r. ⌜ r ≤ at + 20 ⌝ }
+    ensures { λ r. ⌜ r ≤ at + byteRoom ⌝ }
 {
     put_field(out, at, b" byte=", b as u32)
 }
 
 // A record of a listing, with the line feed that ends it.
 pub fn put_record_text(out: &mut [u8], at: usize, r: Record) -> usize
-    requires { ⌜ at + 80 ≤ length (now out) ⌝ }
+    requires { ⌜ at + recordRoom ≤ length (now out) ⌝ }
     ensures { λ e. ⌜ (e ≡ at + length (recordText r)) × (now (out .exit) ≡ splice (now (out .entry)) at (recordText r)) ⌝ }
-    ensures { λ e. ⌜ e ≤ at + 80 ⌝ }
+    ensures { λ e. ⌜ e ≤ at + recordRoom ⌝ }
 {
     let name = r.name;
     let alpha = r.alpha;
@@ -110,10 +114,15 @@ pub fn put_record_text(out: &mut [u8], at: usize, r: Record) -> usize
 }
 
 // The first `n` records, one after the other.
-pub fn put_records_text(out: &mut [u8], at: usize, records: [Record; 64], n: usize) -> usize
-    requires { ⌜ (n ≤ 64) × (at + 80 * n ≤ length (now out)) ⌝ }
+pub fn put_records_text(
+    out: &mut [u8],
+    at: usize,
+    records: [Record; SHEET_RECORDS],
+    n: usize,
+) -> usize
+    requires { ⌜ (n ≤ sheetRecords) × (at + recordRoom * n ≤ length (now out)) ⌝ }
     ensures { λ r. ⌜ (r ≡ at + length (recordsText (take n records))) × (now (out .exit) ≡ splice (now (out .entry)) at (recordsText (take n records))) ⌝ }
-    ensures { λ r. ⌜ r ≤ at + 80 * n ⌝ }
+    ensures { λ r. ⌜ r ≤ at + recordRoom * n ⌝ }
 {
     let mut next = at;
     let mut i = 0;

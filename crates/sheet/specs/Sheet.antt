@@ -13,6 +13,7 @@ use Rattle.calls.specs.Call.{Call, Ream, Read, Write, Snap, Revert, Listing, Ch
 use Rattle.calls.specs.Parts.{descriptorsOf}
 use Rattle.calls.specs.Effect.{noRecord}
 use Rattle.calls.specs.Step.{step, isAccepted}
+use Rattle.calls.specs.Listing.{sheetRecords}
 use Rattle.cutter.specs.declared.line.SheetCall.{SheetCall}
 use Rattle.cutter.specs.declared.line.SheetCall.the-variants as line
 use Rattle.cutter.specs.declared.line.Line.{Line}
@@ -23,9 +24,9 @@ use Rattle.sheet.specs.declared.run.Addition.the-variants.{Nothing, Byte
 use Rattle.sheet.specs.declared.run.Ran.{Ran}
 use Rattle.sheet.specs.declared.next.Turn.{Turn}
 
--- the records that a sheet owns
-abbrev pub sheetRecords : ℕ
-sheetRecords = 64
+-- bytes that are enough for what a line prints
+abbrev pub lineRoom : ℕ
+lineRoom = 8192
 
 -- the first n blocks, and the area with these put back
 abbrev pub cardOf : List ℕ → ℕ → List ℕ

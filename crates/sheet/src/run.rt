@@ -1,6 +1,7 @@
 // What a line leaves.
 use calls::answer::Answer;
 use calls::answer::Record;
+use calls::list::SHEET_RECORDS;
 
 // What a line adds to its printed answer: nothing, a read's byte, or the first records of a listing.
 pub enum Addition {
@@ -14,6 +15,6 @@ pub struct Ran {
     pub answer: Answer,
     pub blocks: u32,
     pub addition: Addition,
-    pub records: [Record; 64],
+    pub records: [Record; SHEET_RECORDS],
     pub ended: bool,
 }

@@ -1,28 +1,31 @@
 // One turn of the sheet program: the next line, cut, run and printed.
 use crate::print;
+use blocks::sizes::NAME_SIZE;
 use calls::answer::Record;
+use calls::list::SHEET_RECORDS;
 use cutting::line;
 use lines::run;
 use sheet::next::Turn;
 ghost use mathlib.Core.Path.{_≡_};
-ghost use Prim.Native.Nat.{_≤_, _<_};
-ghost use lib.ListN.{length};
-ghost use Rattle.blocks.specs.Bytes.{splice};
+ghost use Prim.Native.Nat.{_*_, _≤_, _<_};
+ghost use lib.ListN.{length, replicate};
+ghost use Rattle.blocks.specs.Bytes.{blockSize, splice};
 ghost use Rattle.calls.specs.Effect.{noRecord};
-ghost use Rattle.sheet.specs.Sheet.{turnOf};
-ghost use lib.ListN.{replicate};
+ghost use Rattle.calls.specs.Listing.{sheetRecords};
+ghost use Rattle.cutter.specs.Grammar.{sheetBlocks};
+ghost use Rattle.sheet.specs.Sheet.{lineRoom, turnOf};
 
 // The records of a sheet at its start.
-pub fn no_records() -> [Record; 64]
-    ensures { λ r. ⌜ r ≡ replicate 64 noRecord ⌝ }
+pub fn no_records() -> [Record; SHEET_RECORDS]
+    ensures { λ r. ⌜ r ≡ replicate sheetRecords noRecord ⌝ }
 {
     let none = Record {
-        name: [0u8; 16],
+        name: [0u8; NAME_SIZE],
         alpha: 0,
         beta: 0,
         next: 0,
     };
-    [none; 64]
+    [none; SHEET_RECORDS]
 }
 
 // Runs the line of the number that starts at `at`; what it prints stands at the start of `out`.
@@ -32,12 +35,12 @@ pub fn run_next(
     number: u32,
     area: &mut [u8],
     blocks: u32,
-    records: [Record; 64],
+    records: [Record; SHEET_RECORDS],
     out: &mut [u8],
 ) -> Turn
-    requires { ⌜ (at < length (now sheet)) × (length (now area) ≡ 32768) × (blocks ≤ 64) × (8192 ≤ length (now out)) ⌝ }
+    requires { ⌜ (at < length (now sheet)) × (length (now area) ≡ blockSize * sheetBlocks) × (blocks ≤ sheetBlocks) × (lineRoom ≤ length (now out)) ⌝ }
     ensures { λ r. ⌜ (r ≡ turnOf (record { area = now (area .entry); blocks = blocks; records = records }) number (now (sheet .entry)) at .turn) × (now (area .exit) ≡ turnOf (record { area = now (area .entry); blocks = blocks; records = records }) number (now (sheet .entry)) at .area) × (now (out .exit) ≡ splice (now (out .entry)) 0 (turnOf (record { area = now (area .entry); blocks = blocks; records = records }) number (now (sheet .entry)) at .text)) ⌝ }
-    ensures { λ r. ⌜ (at < r .next) × (r .next ≤ length (now (sheet .entry))) × (r .length ≤ 8192) × (r .blocks ≤ 64) ⌝ }
+    ensures { λ r. ⌜ (at < r .next) × (r .next ≤ length (now (sheet .entry))) × (r .length ≤ lineRoom) × (r .blocks ≤ sheetBlocks) ⌝ }
 {
     let cut = line::cut_next(sheet, at);
     let l = cut.line;

@@ -5,13 +5,21 @@ use blocks::descriptor;
 use blocks::descriptor::Descriptor;
 use blocks::name;
 use blocks::numbers::Physical;
+use blocks::sizes::BLOCK_SIZE;
+use blocks::sizes::HEAD_SIZE;
+use blocks::sizes::MOST_DESCRIPTORS;
+use blocks::sizes::MOST_VOLUME;
+use blocks::sizes::NAME_SIZE;
+use blocks::sizes::NAME_START;
+use blocks::sizes::PHI_START;
+use blocks::sizes::STARTS_SIZE;
 ghost use mathlib.Core.Path.{_≡_};
 ghost use mathlib.Core.Bool.{true, _&&_};
 ghost use Prim.Native.Nat.{ℕ, _+_, _*_, _≤_, _<_};
 ghost use lib.ListN.{length, take, getD};
 ghost use lib.Dec.{eqb};
 ghost use Rattle.blocks.specs.Pick.{pick, same};
-ghost use Rattle.blocks.specs.Bytes.{part};
+ghost use Rattle.blocks.specs.Bytes.{blockSize, part};
 ghost use Rattle.blocks.specs.Name.{isName};
 ghost use Rattle.blocks.specs.Descriptor.{physical, mark, descriptorAt, reservedOk};
 ghost use Rattle.blocks.specs.Chain.{formOk, regionOk, indexOf, named, descriptorsAt, chain, regionsOf, Unsound};
@@ -19,10 +27,10 @@ ghost use Rattle.blocks.specs.Walk.{Hashed};
 
 // Whether block `p` begins with the mark.
 pub fn has_mark(card: &[u8], p: Physical) -> bool
-    requires { ⌜ 512 * p .0 + 512 ≤ length (now card) ⌝ }
-    ensures { λ r. ⌜ r ≡ same (part (now (card .entry)) (512 * p .0) 4) mark ⌝ }
+    requires { ⌜ blockSize * p .0 + blockSize ≤ length (now card) ⌝ }
+    ensures { λ r. ⌜ r ≡ same (part (now (card .entry)) (blockSize * p .0) 4) mark ⌝ }
 {
-    let at = 512 * (p.0 as usize);
+    let at = BLOCK_SIZE * (p.0 as usize);
     bytes::same_bytes(&card[at..at + 4], b"snap")
 }
 
@@ -35,19 +43,19 @@ pub fn is_reserved(reserved: &[u8]) -> bool
 
 // Whether the name in block `p` is one. It is judged where it stands: a copy would have to be stored first.
 fn is_called(card: &[u8], p: Physical) -> bool
-    requires { ⌜ 512 * p .0 + 512 ≤ length (now card) ⌝ }
+    requires { ⌜ blockSize * p .0 + blockSize ≤ length (now card) ⌝ }
     ensures { λ r. ⌜ r ≡ isName (descriptorAt (now (card .entry)) (p .0) .name) ⌝ }
 {
-    let at = 512 * (p.0 as usize);
-    name::are_name(&card[at + 24..at + 40])
+    let at = BLOCK_SIZE * (p.0 as usize);
+    name::are_name(&card[at + NAME_START..at + HEAD_SIZE])
 }
 
 // Whether mark, layout, L, name and zero bytes of block `p` are those of a descriptor; `d` is what its bytes say.
 pub fn is_formed(card: &[u8], p: Physical, d: Descriptor) -> bool
-    requires { ⌜ (512 * p .0 + 512 ≤ length (now card)) × (d ≡ descriptorAt (now card) (p .0)) ⌝ }
+    requires { ⌜ (blockSize * p .0 + blockSize ≤ length (now card)) × (d ≡ descriptorAt (now card) (p .0)) ⌝ }
     ensures { λ r. ⌜ r ≡ formOk (now (card .entry)) (p .0) d ⌝ }
 {
-    let at = 512 * (p.0 as usize);
+    let at = BLOCK_SIZE * (p.0 as usize);
     let layout = d.layout;
     let volume = d.volume;
     if !has_mark(card, p) {
@@ -62,19 +70,19 @@ pub fn is_formed(card: &[u8], p: Physical, d: Descriptor) -> bool
     if volume == 0 {
         return false;
     }
-    if 14336 < volume {
+    if MOST_VOLUME < volume {
         return false;
     }
     if !is_called(card, p) {
         return false;
     }
-    if !is_reserved(&card[at + 40..at + 64]) {
+    if !is_reserved(&card[at + HEAD_SIZE..at + PHI_START]) {
         return false;
     }
     if layout != 1 {
         return true;
     }
-    bytes::all_zero(&card[at + 64..at + 512])
+    bytes::all_zero(&card[at + PHI_START..at + BLOCK_SIZE])
 }
 
 // Whether layout and L are those of block 0, and alpha, beta and next those of a region that starts at block `p` of `n`.
@@ -112,23 +120,23 @@ pub fn is_placed(first: Descriptor, n: usize, p: Physical, d: Descriptor) -> boo
 }
 
 // Whether the descriptor in block `p` has the name: names that differ do so in one of two 64-bit words.
-fn has_name(card: &[u8], p: Physical, name: [u8; 16]) -> bool
-    requires { ⌜ 512 * p .0 + 512 ≤ length (now card) ⌝ }
+fn has_name(card: &[u8], p: Physical, name: [u8; NAME_SIZE]) -> bool
+    requires { ⌜ blockSize * p .0 + blockSize ≤ length (now card) ⌝ }
     ensures { λ r. ⌜ r ≡ same (descriptorAt (now (card .entry)) (p .0) .name) name ⌝ }
 {
-    let at = 512 * (p.0 as usize) + 24;
+    let at = BLOCK_SIZE * (p.0 as usize) + NAME_START;
     if bytes::get_u64(card, at) != bytes::get_u64(&name, 0) {
         return false;
     }
     if bytes::get_u64(card, at + 8) != bytes::get_u64(&name, 8) {
         return false;
     }
-    bytes::same_bytes(&card[at..at + 16], &name)
+    bytes::same_bytes(&card[at..at + NAME_SIZE], &name)
 }
 
 // The index of the first of `n` descriptors that has the name, or `n` where none has it.
-pub fn index_of(card: &[u8], starts: &[u32], n: usize, name: [u8; 16]) -> usize
-    requires { ⌜ (n ≤ length (now starts)) × ((j : ℕ) → j < n → 512 * getD (now starts) j 0 + 512 ≤ length (now card)) ⌝ }
+pub fn index_of(card: &[u8], starts: &[u32], n: usize, name: [u8; NAME_SIZE]) -> usize
+    requires { ⌜ (n ≤ length (now starts)) × ((j : ℕ) → j < n → blockSize * getD (now starts) j 0 + blockSize ≤ length (now card)) ⌝ }
     ensures { λ r. ⌜ r ≡ indexOf (descriptorsAt (now (card .entry)) (take n (now (starts .entry)))) name ⌝ }
     ensures { λ r. ⌜ r ≤ n ⌝ }
 {
@@ -144,16 +152,22 @@ pub fn index_of(card: &[u8], starts: &[u32], n: usize, name: [u8; 16]) -> usize
 }
 
 // Whether one of the descriptors in the first `k` blocks of `starts` has the name.
-pub fn is_named(card: &[u8], starts: &[u32], k: usize, name: [u8; 16]) -> bool
-    requires { ⌜ (k ≤ length (now starts)) × ((j : ℕ) → j < k → 512 * getD (now starts) j 0 + 512 ≤ length (now card)) ⌝ }
+pub fn is_named(card: &[u8], starts: &[u32], k: usize, name: [u8; NAME_SIZE]) -> bool
+    requires { ⌜ (k ≤ length (now starts)) × ((j : ℕ) → j < k → blockSize * getD (now starts) j 0 + blockSize ≤ length (now card)) ⌝ }
     ensures { λ r. ⌜ r ≡ named (descriptorsAt (now (card .entry)) (take k (now (starts .entry)))) name ⌝ }
 {
     index_of(card, starts, k, name) < k
 }
 
 // The same, where `hashes` has a flag for the hash of each of their names: a hash without one is of no name among them.
-fn is_repeated(card: &[u8], starts: &[u32], k: usize, hashes: &[bool], name: [u8; 16]) -> bool
-    requires { ⌜ Hashed (now card) (now starts) k (now hashes) × (k ≤ length (now starts)) × ((j : ℕ) → j < k → 512 * getD (now starts) j 0 + 512 ≤ length (now card)) ⌝ }
+fn is_repeated(
+    card: &[u8],
+    starts: &[u32],
+    k: usize,
+    hashes: &[bool],
+    name: [u8; NAME_SIZE],
+) -> bool
+    requires { ⌜ Hashed (now card) (now starts) k (now hashes) × (k ≤ length (now starts)) × ((j : ℕ) → j < k → blockSize * getD (now starts) j 0 + blockSize ≤ length (now card)) ⌝ }
     ensures { λ r. ⌜ r ≡ named (descriptorsAt (now (card .entry)) (take k (now (starts .entry)))) name ⌝ }
 {
     let hash = name::hash(name);
@@ -175,16 +189,16 @@ fn unsound(p: u32) -> Regions
             alpha: Physical(0),
             beta: Physical(1),
             next: Physical(0),
-            name: [0u8; 16],
+            name: [0u8; NAME_SIZE],
         },
         count: 0,
-        starts: [0u32; 257],
+        starts: [0u32; STARTS_SIZE],
     }
 }
 
 // Whether the descriptor `d` in block `p` of `n` is formed and placed as it must be.
 fn is_right(card: &[u8], first: Descriptor, n: usize, p: Physical, d: Descriptor) -> bool
-    requires { ⌜ (512 * p .0 + 512 ≤ length (now card)) × (d ≡ descriptorAt (now card) (p .0)) ⌝ }
+    requires { ⌜ (blockSize * p .0 + blockSize ≤ length (now card)) × (d ≡ descriptorAt (now card) (p .0)) ⌝ }
     ensures { λ r. ⌜ r ≡ (formOk (now (card .entry)) (p .0) d && regionOk first n (p .0) d) ⌝ }
 {
     if !is_formed(card, p, d) {
@@ -197,17 +211,17 @@ fn is_right(card: &[u8], first: Descriptor, n: usize, p: Physical, d: Descriptor
 pub fn walk_chain(card: &[u8]) -> Regions
     ensures { λ r. ⌜ r ≡ regionsOf (chain (now (card .entry))) ⌝ }
 {
-    let n = card.len() / 512;
+    let n = card.len() / BLOCK_SIZE;
     if n == 0 {
         return unsound(0);
     }
     let first = descriptor::read_descriptor(card, Physical(0));
     let mut d = first;
-    let mut starts = [0u32; 257];
-    let mut hashes = [false; 1024];
+    let mut starts = [0u32; STARTS_SIZE];
+    let mut hashes = [false; name::HASH_COUNT];
     let mut p: u32 = 0;
     let mut k: usize = 0;
-    while k < 256 {
+    while k < MOST_DESCRIPTORS {
         if !is_right(card, first, n, Physical(p), d) {
             return unsound(p);
         }

@@ -5,6 +5,9 @@ use borrow.Author.Needs.{needs}
 use Rattle.blocks.proofs.descriptor.table_count.Statement.{statement}
 use Rattle.blocks.proofs.descriptor.table_count.Tie as tie
 
+sub-result : tie.Need-sub-result
+sub-result c = search needs
+
 add-result : tie.Need-add-result
 add-result c = search needs
 
@@ -16,4 +19,4 @@ unfolding tableCount
 returns c = (omega arith, omega arith)
 
 pub table-count-spec : {M : Type 1} → statement M
-table-count-spec = tie.close (tie.spec add-result add-result-2 returns)
+table-count-spec = tie.close (tie.spec sub-result add-result add-result-2 returns)

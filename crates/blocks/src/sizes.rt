@@ -1,0 +1,25 @@
+// The sizes that the papers give: of a block, of a table and of what stands in a descriptor.
+
+// Bytes in a block.
+pub const BLOCK_SIZE: usize = 512;
+
+// Entries in a table block.
+pub const TABLE_SIZE: u32 = 128;
+
+// The most logical blocks of a volume.
+pub const MOST_VOLUME: u32 = 14336;
+
+// Bytes in a name.
+pub const NAME_SIZE: usize = 16;
+
+// Bytes of the record at the start of a descriptor block, the first byte of the name in it, and the first byte of Phi.
+pub const HEAD_SIZE: usize = 40;
+
+pub const NAME_START: usize = 24;
+
+pub const PHI_START: usize = 64;
+
+// The most descriptors of a chain, and the places of the starts of its regions: one more, for the end of the last.
+pub const MOST_DESCRIPTORS: usize = 256;
+
+pub const STARTS_SIZE: usize = 257;
