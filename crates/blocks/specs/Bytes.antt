@@ -7,6 +7,10 @@ use lib.ListN.{length, take, drop, getD, replicate}
 abbrev pub blockSize : ℕ
 blockSize = 512
 
+-- bytes of the largest card, 65,536 blocks
+abbrev pub mostBytes : ℕ
+mostBytes = 33554432
+
 -- n elements from index at
 abbrev pub part : List ℕ → ℕ → ℕ → List ℕ
 part c at n = take n (drop at c)

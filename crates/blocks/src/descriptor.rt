@@ -17,7 +17,7 @@ ghost use Rattle.blocks.specs.Descriptor.{headSize, tableCount, cost, co
 pub struct Format {
     pub layout: u32,
     pub volume: u32,
-    pub name: [u8; 16],
+    pub name: [u8; NAME_SIZE],
 }
 
 // The fields of a descriptor block, the paper's SDB.

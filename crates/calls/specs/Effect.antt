@@ -13,7 +13,7 @@ use Rattle.entries.specs.declared.find.Found.{Found}
 use Rattle.calls.specs.declared.answer.Answer.{Answer}
 use Rattle.calls.specs.declared.answer.Record.{Record}
 use Rattle.calls.specs.Call.{answer, accepted}
-use Rattle.calls.specs.Parts.{mostBytes, descriptorsOf, snapshotsOf, withName, foundThrough, isMisplaced, holderOf, blockFound}
+use Rattle.calls.specs.Parts.{descriptorsOf, snapshotsOf, withName, foundThrough, isMisplaced, holderOf, blockFound}
 
 -- a snapshot of the active descriptor d: the copy at beta, tables first and rising, then the old descriptor under the visit's name, linked to the copy
 unfoldable pub snapping : List ℕ → Descriptor → List ℕ → List Store

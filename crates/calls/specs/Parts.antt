@@ -21,10 +21,6 @@ fewestBlocks = 2
 abbrev pub mostBlocks : ℕ
 mostBlocks = 65536
 
--- bytes of the largest card
-abbrev pub mostBytes : ℕ
-mostBytes = 33554432
-
 abbrev pub mostSnapshots : ℕ
 mostSnapshots = 255
 

@@ -6,10 +6,12 @@ ghost use mathlib.Core.Path.{_≡_};
 ghost use Rattle.calls.specs.Parts.{areaBad};
 ghost use Rattle.calls.specs.Ladder.{firstRow, admission};
 
-// The fewest and the most blocks of a card.
+// The fewest and the most blocks of a card, and the most snapshots.
 const FEWEST_BLOCKS: usize = 2;
 
 const MOST_BLOCKS: usize = 65536;
+
+pub const MOST_SNAPSHOTS: usize = 255;
 
 // Whether the area is no card, by its length alone.
 fn is_bad(card: &[u8]) -> bool

@@ -18,6 +18,7 @@ ghost use Rattle.calls.specs.Call.{Check, None};
 ghost use Rattle.calls.specs.Parts.{areaBad};
 ghost use Rattle.calls.specs.Check.{checkCard, takingChain};
 ghost use Rattle.calls.specs.Step.{step, done};
+ghost use Rattle.blocks.specs.Bytes.{blockSize};
 
 // The verdict on the descriptors of a sound chain, in chain order. `seen` is zero, with a byte for each block of the card or more.
 fn check_chain(
@@ -27,7 +28,7 @@ fn check_chain(
     count: usize,
     seen: &mut [u8],
 ) -> Verdict
-    requires { ⌜ (areaBad (now card) ≡ false) × (regionsOf (chainOf (now card)) ≡ record { sound = true; place = physical 0; active = active; count = count; starts = now starts }) × ((v : ℕ) → getD (now seen) v 0 ≡ 0) × (length (now card) ≤ 512 * length (now seen)) ⌝ }
+    requires { ⌜ (areaBad (now card) ≡ false) × (regionsOf (chainOf (now card)) ≡ record { sound = true; place = physical 0; active = active; count = count; starts = now starts }) × ((v : ℕ) → getD (now seen) v 0 ≡ 0) × (length (now card) ≤ blockSize * length (now seen)) ⌝ }
     ensures { λ r. ⌜ r ≡ checkCard (now (card .entry)) ⌝ }
     ensures { λ r. ⌜ record { verdict = r; flags = now (seen .exit) } ≡ takingChain (now (card .entry)) (now (starts .entry)) (costOf active) count 0 (openingsFlagged (now (seen .entry)) (now (starts .entry)) (costOf active) count) (descriptors (chainOf (now (card .entry)))) ⌝ }
 {

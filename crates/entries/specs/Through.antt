@@ -4,7 +4,7 @@ use mathlib.Core.Bool.{true}
 use mathlib.Core.List.{List}
 use Prim.Native.Nat.{ℕ, _*_, _≤_, _<_}
 use lib.ListN.{length, getD}
-use Rattle.blocks.specs.Bytes.{blockSize}
+use Rattle.blocks.specs.Bytes.{mostBytes, blockSize}
 use Rattle.blocks.specs.Descriptor.{physical, mostVolume, descriptorAt}
 use Rattle.blocks.specs.Chain.{chain, regionsOf}
 use Rattle.blocks.specs.declared.descriptor.Descriptor.{Descriptor}
@@ -19,7 +19,7 @@ pub record RisingRegions (starts : List ℕ) (count beta : ℕ) : Type 0 where
 
 -- c has at most 65,536 blocks, its chain is sound, its regions are those of starts, and d is the descriptor of one of them
 pub record Through (c starts : List ℕ) (count : ℕ) (d : Descriptor) : Type 0 where
-  pub small : length c ≤ 33554432
+  pub small : length c ≤ mostBytes
   pub active : Descriptor
   pub regions : regionsOf (chain c) ≡ record { sound = true; place = physical 0; active = active; count = count; starts = starts }
   pub index : ℕ
@@ -28,7 +28,7 @@ pub record Through (c starts : List ℕ) (count : ℕ) (d : Descriptor) : Type 0
 
 -- what the code that writes through a found entry must know: the blocks are on a card of at most 65,536, the entry and its table are below beta
 pub record WriteReady (c : List ℕ) (d : Descriptor) (m p l : ℕ) (block : List ℕ) : Type 0 where
-  pub small : length c ≤ 33554432
+  pub small : length c ≤ mostBytes
   pub region : d .alpha .0 < d .beta .0
   pub upto : blockSize * d .beta .0 ≤ length c
   pub table : m < d .beta .0

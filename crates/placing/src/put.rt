@@ -7,7 +7,7 @@ use blocks::numbers::Physical;
 ghost use mathlib.Core.Path.{_≡_};
 ghost use Prim.Native.Nat.{_+_, _/_, _≤_};
 ghost use lib.ListN.{length};
-ghost use Rattle.blocks.specs.Bytes.{storeAll};
+ghost use Rattle.blocks.specs.Bytes.{storeAll, blockSize};
 ghost use Rattle.entries.specs.Through.{WriteReady};
 ghost use Rattle.entries.specs.Entry.{need, writing};
 ghost use Rattle.entries.specs.declared.find.Found.the-variants.{Entry};
@@ -22,7 +22,7 @@ pub fn put_block(
     taken: u32,
     block: &[u8],
 )
-    requires { ⌜ WriteReady (now card) d (m .0) (p .0) (l .0) (now block) × (taken ≡ need (d .alpha .0) (Entry m p)) × (d .beta .0 + taken ≤ length (now card) / 512) ⌝ }
+    requires { ⌜ WriteReady (now card) d (m .0) (p .0) (l .0) (now block) × (taken ≡ need (d .alpha .0) (Entry m p)) × (d .beta .0 + taken ≤ length (now card) / blockSize) ⌝ }
     ensures { λ _. ⌜ now (card .exit) ≡ storeAll (now (card .entry)) (writing (now (card .entry)) d (Entry m p) (l .0) (now (block .entry))) ⌝ }
 {
     if taken == 0 {

@@ -1,6 +1,7 @@
 // A listing of the chain.
 use blocks::descriptor;
 use blocks::numbers::Physical;
+use blocks::sizes::STARTS_SIZE;
 use calls::answer::Answer;
 use calls::answer::Record;
 use calls::area;
@@ -14,6 +15,7 @@ ghost use lib.ListN.{length, getD};
 ghost use Rattle.calls.specs.Call.{Listing, Records};
 ghost use Rattle.calls.specs.Step.{step, done};
 ghost use Rattle.calls.specs.Listing.{fillingWith, fillingBy, planOf, recordBy, filled};
+ghost use Rattle.blocks.specs.Bytes.{blockSize};
 
 // What has this answer and fills so many records.
 fn fills(number: u32, place: u32, count: usize) -> Filling
@@ -47,7 +49,7 @@ fn make_plan(card: &[u8], room: usize) -> Plan
         return Plan {
             answer: admitted,
             count: 0,
-            starts: [0u32; 257],
+            starts: [0u32; STARTS_SIZE],
         };
     }
     let found = chain::walk_chain(card);
@@ -63,7 +65,7 @@ fn make_plan(card: &[u8], room: usize) -> Plan
 
 // The record of region `k` of `n`, by the starts that the walk found: of its bytes the name alone is read.
 pub fn record_of(card: &[u8], starts: &[u32], n: usize, k: usize) -> Record
-    requires { ⌜ (k < n) × (n < length (now starts)) × (512 * getD (now starts) k 0 + 512 ≤ length (now card)) ⌝ }
+    requires { ⌜ (k < n) × (n < length (now starts)) × (blockSize * getD (now starts) k 0 + blockSize ≤ length (now card)) ⌝ }
     ensures { λ r. ⌜ r ≡ recordBy (now (card .entry)) (now (starts .entry)) n k ⌝ }
 {
     let start = starts[k];
@@ -80,7 +82,7 @@ pub fn record_of(card: &[u8], starts: &[u32], n: usize, k: usize) -> Record
 
 // The first `n` records are now those of the `n` regions.
 fn fill(card: &[u8], starts: &[u32], records: &mut [Record], n: usize)
-    requires { ⌜ (n ≤ length (now records)) × (n < length (now starts)) × ((j : ℕ) → j < n → 512 * getD (now starts) j 0 + 512 ≤ length (now card)) ⌝ }
+    requires { ⌜ (n ≤ length (now records)) × (n < length (now starts)) × ((j : ℕ) → j < n → blockSize * getD (now starts) j 0 + blockSize ≤ length (now card)) ⌝ }
     ensures { λ _. ⌜ now (records .exit) ≡ filled (now (card .entry)) (now (starts .entry)) (now (records .entry)) n ⌝ }
 {
     let mut i = 0;
@@ -103,7 +105,7 @@ pub fn list(card: &[u8], records: &mut [Record]) -> Answer
 
 // The same filling, in an array of 64 records by value: the one function that lends an array of records.
 fn fill_64(card: &[u8], starts: &[u32], records: [Record; 64], n: usize) -> [Record; 64]
-    requires { ⌜ (n ≤ 64) × (n < length (now starts)) × ((j : ℕ) → j < n → 512 * getD (now starts) j 0 + 512 ≤ length (now card)) ⌝ }
+    requires { ⌜ (n ≤ 64) × (n < length (now starts)) × ((j : ℕ) → j < n → blockSize * getD (now starts) j 0 + blockSize ≤ length (now card)) ⌝ }
     ensures { λ r. ⌜ r ≡ filled (now (card .entry)) (now (starts .entry)) records n ⌝ }
 {
     let mut r = records;

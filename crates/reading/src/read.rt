@@ -4,6 +4,8 @@ use blocks::descriptor::Descriptor;
 use blocks::name;
 use blocks::numbers::Logical;
 use blocks::numbers::Physical;
+use blocks::sizes::BLOCK_SIZE;
+use blocks::sizes::NAME_SIZE;
 use calls::answer;
 use calls::answer::Answer;
 use calls::answer::Target;
@@ -17,7 +19,7 @@ ghost use Prim.Native.Nat.{ℕ, _+_, _*_, _-_, _≤_, _<_};
 ghost use lib.ListN.{length, take, getD};
 ghost use lib.Dec.{eqb};
 ghost use Rattle.blocks.specs.Pick.{pick};
-ghost use Rattle.blocks.specs.Bytes.{zeroBlock, blockAt};
+ghost use Rattle.blocks.specs.Bytes.{zeroBlock, blockAt, blockSize};
 ghost use Rattle.blocks.specs.Name.{isName};
 ghost use Rattle.blocks.specs.Chain.{chain as chainOf, descriptors, descriptorsAt};
 ghost use Rattle.entries.specs.Through.{Through};
@@ -28,7 +30,7 @@ ghost use Rattle.calls.specs.Effect.{delivered};
 ghost use Rattle.calls.specs.Step.{step, done};
 
 // Whether a name is given that is none: the bytes beside the active store are not looked at.
-fn is_unnamed(target: Target, name: [u8; 16]) -> bool
+fn is_unnamed(target: Target, name: [u8; NAME_SIZE]) -> bool
     ensures { λ r. ⌜ r ≡ (isSnapshot target && not (isName name)) ⌝ }
 {
     match target {
@@ -38,8 +40,14 @@ fn is_unnamed(target: Target, name: [u8; 16]) -> bool
 }
 
 // The index in the chain of what is read, `count` where no snapshot has the name.
-fn target_index(card: &[u8], starts: &[u32], count: usize, target: Target, name: [u8; 16]) -> usize
-    requires { ⌜ (0 < count) × (count ≤ length (now starts)) × ((j : ℕ) → j < count → 512 * getD (now starts) j 0 + 512 ≤ length (now card)) ⌝ }
+fn target_index(
+    card: &[u8],
+    starts: &[u32],
+    count: usize,
+    target: Target,
+    name: [u8; NAME_SIZE],
+) -> usize
+    requires { ⌜ (0 < count) × (count ≤ length (now starts)) × ((j : ℕ) → j < count → blockSize * getD (now starts) j 0 + blockSize ≤ length (now card)) ⌝ }
     ensures { λ r. ⌜ r ≡ targetIndex (descriptorsAt (now (card .entry)) (take (count - 1) (now (starts .entry)))) target name ⌝ }
 {
     let last = count - 1;
@@ -50,8 +58,8 @@ fn target_index(card: &[u8], starts: &[u32], count: usize, target: Target, name:
 }
 
 // The index of the snapshot that has the name, `last + 1` where none has it.
-fn snapshot_index(card: &[u8], starts: &[u32], last: usize, name: [u8; 16]) -> usize
-    requires { ⌜ (last < length (now starts)) × ((j : ℕ) → j < last → 512 * getD (now starts) j 0 + 512 ≤ length (now card)) ⌝ }
+fn snapshot_index(card: &[u8], starts: &[u32], last: usize, name: [u8; NAME_SIZE]) -> usize
+    requires { ⌜ (last < length (now starts)) × ((j : ℕ) → j < last → blockSize * getD (now starts) j 0 + blockSize ≤ length (now card)) ⌝ }
     ensures { λ r. ⌜ r ≡ targetIndex (descriptorsAt (now (card .entry)) (take last (now (starts .entry)))) Target.Snapshot name ⌝ }
 {
     let k = chain::index_of(card, starts, last, name);
@@ -63,15 +71,15 @@ fn snapshot_index(card: &[u8], starts: &[u32], last: usize, name: [u8; 16]) -> u
 
 // The caller's block is now block `p`, or zeros where that is nil.
 fn fill_block(card: &[u8], p: Physical, out: &mut [u8])
-    requires { ⌜ (length (now out) ≡ 512) × ((p .0 ≡ 0 → ⊥) → 512 * p .0 + 512 ≤ length (now card)) ⌝ }
+    requires { ⌜ (length (now out) ≡ blockSize) × ((p .0 ≡ 0 → ⊥) → blockSize * p .0 + blockSize ≤ length (now card)) ⌝ }
     ensures { λ _. ⌜ now (out .exit) ≡ pick (eqb (p .0) 0) zeroBlock (blockAt (now (card .entry)) (p .0)) ⌝ }
 {
     if p.0 == 0 {
-        let zeros = [0u8; 512];
+        let zeros = [0u8; BLOCK_SIZE];
         bytes::put_bytes(out, 0, &zeros);
         return;
     }
-    bytes::get_bytes(card, 512 * (p.0 as usize), out);
+    bytes::get_bytes(card, BLOCK_SIZE * (p.0 as usize), out);
 }
 
 // The block of logical number `l` through the descriptor `d`, or the refusal of an entry that is not in place.
@@ -83,7 +91,7 @@ fn deliver(
     l: Logical,
     out: &mut [u8],
 ) -> Answer
-    requires { ⌜ Through (now card) (now starts) count d × (l .0 < d .volume) × (length (now out) ≡ 512) ⌝ }
+    requires { ⌜ Through (now card) (now starts) count d × (l .0 < d .volume) × (length (now out) ≡ blockSize) ⌝ }
     ensures { λ r. ⌜ record { answer = r; block = now (out .exit) } ≡ delivered (now (card .entry)) (finding (now (card .entry)) (descriptors (chainOf (now (card .entry)))) d (l .0)) (now (out .entry)) ⌝ }
 {
     match find::find(card, starts, count, d, l) {
@@ -99,7 +107,13 @@ fn deliver(
 }
 
 // Reads a block of the active store, or of the snapshot that has the name.
-pub fn read(card: &[u8], target: Target, name: [u8; 16], l: Logical, out: &mut [u8]) -> Answer
+pub fn read(
+    card: &[u8],
+    target: Target,
+    name: [u8; NAME_SIZE],
+    l: Logical,
+    out: &mut [u8],
+) -> Answer
     ensures { λ r. ⌜ done r (Block (now (out .exit))) (now (card .entry)) ≡ step (Read target name (l .0) (now (out .entry))) (now (card .entry)) ⌝ }
 {
     let admitted = area::admit(card);
@@ -109,7 +123,7 @@ pub fn read(card: &[u8], target: Target, name: [u8; 16], l: Logical, out: &mut [
     if is_unnamed(target, name) {
         return answer::BAD_NAME;
     }
-    if out.len() != 512 {
+    if out.len() != BLOCK_SIZE {
         return answer::BAD_BLOCK;
     }
     let found = chain::walk_chain(card);

@@ -5,23 +5,25 @@ use blocks::descriptor::Descriptor;
 use blocks::descriptor::Format;
 use blocks::name;
 use blocks::numbers::Physical;
+use blocks::sizes::BLOCK_SIZE;
+use blocks::sizes::MOST_VOLUME;
 use calls::answer;
 use calls::answer::Answer;
 use calls::area;
 ghost use mathlib.Core.Path.{_≡_};
 ghost use Prim.Native.Nat.{_+_, _*_, _≤_, _<_};
 ghost use lib.ListN.{length, replicate};
-ghost use Rattle.blocks.specs.Bytes.{storeAll};
-ghost use Rattle.blocks.specs.Descriptor.{costIn, clearing, descriptorBlock, opening};
+ghost use Rattle.blocks.specs.Bytes.{storeAll, blockSize};
+ghost use Rattle.blocks.specs.Descriptor.{costIn, clearing, descriptorBlock, opening, tailSize};
 ghost use Rattle.calls.specs.Call.{Ream, None};
 ghost use Rattle.calls.specs.Step.{step, done};
 
 // The `n` blocks from block `first` are zeros.
 fn clear_blocks(card: &mut [u8], first: u32, n: u32)
-    requires { ⌜ (512 * (first + n) ≤ length (now card)) × (first + n < 4294967296) ⌝ }
+    requires { ⌜ (blockSize * (first + n) ≤ length (now card)) × (first + n < 4294967296) ⌝ }
     ensures { λ _. ⌜ now (card .exit) ≡ storeAll (now (card .entry)) (clearing first n) ⌝ }
 {
-    let zeros = [0u8; 512];
+    let zeros = [0u8; BLOCK_SIZE];
     let mut i: u32 = 0;
     while i < n {
         let p = Physical(first + i);
@@ -31,10 +33,10 @@ fn clear_blocks(card: &mut [u8], first: u32, n: u32)
 }
 
 // The block of a descriptor with zeros after its first 40 bytes.
-fn fresh_block(d: Descriptor) -> [u8; 512]
-    ensures { λ r. ⌜ r ≡ descriptorBlock d (replicate 472 0) ⌝ }
+fn fresh_block(d: Descriptor) -> [u8; BLOCK_SIZE]
+    ensures { λ r. ⌜ r ≡ descriptorBlock d (replicate tailSize 0) ⌝ }
 {
-    let mut b = [0u8; 512];
+    let mut b = [0u8; BLOCK_SIZE];
     descriptor::put_head(&mut b, d);
     b
 }
@@ -58,7 +60,7 @@ pub fn ream(card: &mut [u8], format: Format) -> Answer
     if volume == 0 {
         return answer::BAD_VOLUME;
     }
-    if 14336 < volume {
+    if MOST_VOLUME < volume {
         return answer::BAD_VOLUME;
     }
     let name = format.name;
@@ -66,7 +68,7 @@ pub fn ream(card: &mut [u8], format: Format) -> Answer
         return answer::BAD_NAME;
     }
     let cost = descriptor::opening_cost(layout, volume);
-    if card.len() / 512 < cost as usize {
+    if card.len() / BLOCK_SIZE < cost as usize {
         return answer::CARD_TOO_SMALL;
     }
     open_card(card, format, cost);
@@ -75,7 +77,7 @@ pub fn ream(card: &mut [u8], format: Format) -> Answer
 
 // Clears the tables, then stores the first descriptor.
 fn open_card(card: &mut [u8], format: Format, cost: u32)
-    requires { ⌜ (cost ≡ costIn format) × (512 * cost ≤ length (now card)) ⌝ }
+    requires { ⌜ (cost ≡ costIn format) × (blockSize * cost ≤ length (now card)) ⌝ }
     ensures { λ _. ⌜ now (card .exit) ≡ storeAll (now (card .entry)) (opening format) ⌝ }
 {
     let name = format.name;

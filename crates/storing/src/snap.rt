@@ -4,14 +4,17 @@ use blocks::descriptor;
 use blocks::descriptor::Descriptor;
 use blocks::name;
 use blocks::numbers::Physical;
+use blocks::sizes::BLOCK_SIZE;
+use blocks::sizes::NAME_SIZE;
 use calls::answer;
 use calls::answer::Answer;
 use calls::area;
+use calls::area::MOST_SNAPSHOTS;
 use walking::chain;
 ghost use mathlib.Core.Path.{_≡_};
 ghost use Prim.Native.Nat.{_+_, _*_, _≤_, _<_};
 ghost use lib.ListN.{length};
-ghost use Rattle.blocks.specs.Bytes.{storeAll};
+ghost use Rattle.blocks.specs.Bytes.{storeAll, blockSize};
 ghost use Rattle.blocks.specs.Descriptor.{costOf, copying};
 ghost use Rattle.calls.specs.Call.{Snap, None};
 ghost use Rattle.calls.specs.Effect.{snapping};
@@ -19,7 +22,7 @@ ghost use Rattle.calls.specs.Step.{step, done};
 
 // The `n` blocks from block `to` are copies of those from block `from`, which stand before them.
 fn copy_blocks(card: &mut [u8], from: u32, to: u32, n: u32)
-    requires { ⌜ (from + n ≤ «to») × (512 * («to» + n) ≤ length (now card)) × («to» + n < 4294967296) ⌝ }
+    requires { ⌜ (from + n ≤ «to») × (blockSize * («to» + n) ≤ length (now card)) × («to» + n < 4294967296) ⌝ }
     ensures { λ _. ⌜ now (card .exit) ≡ storeAll (now (card .entry)) (copying (now (card .entry)) from «to» n) ⌝ }
 {
     let mut i: u32 = 0;
@@ -32,8 +35,8 @@ fn copy_blocks(card: &mut [u8], from: u32, to: u32, n: u32)
 }
 
 // Opens a region at the active descriptor's beta, and leaves that descriptor behind under the name.
-fn take_snapshot(card: &mut [u8], d: Descriptor, cost: u32, name: [u8; 16])
-    requires { ⌜ (cost ≡ costOf d) × (d .alpha .0 + cost ≤ d .beta .0) × (512 * (d .beta .0 + cost) ≤ length (now card)) × (d .beta .0 + cost < 4294967296) × (1 ≤ cost) ⌝ }
+fn take_snapshot(card: &mut [u8], d: Descriptor, cost: u32, name: [u8; NAME_SIZE])
+    requires { ⌜ (cost ≡ costOf d) × (d .alpha .0 + cost ≤ d .beta .0) × (blockSize * (d .beta .0 + cost) ≤ length (now card)) × (d .beta .0 + cost < 4294967296) × (1 ≤ cost) ⌝ }
     ensures { λ _. ⌜ now (card .exit) ≡ storeAll (now (card .entry)) (snapping (now (card .entry)) d name) ⌝ }
 {
     let alpha = d.alpha;
@@ -46,7 +49,7 @@ fn take_snapshot(card: &mut [u8], d: Descriptor, cost: u32, name: [u8; 16])
 }
 
 // Freezes the active volume under the name.
-pub fn snap(card: &mut [u8], name: [u8; 16]) -> Answer
+pub fn snap(card: &mut [u8], name: [u8; NAME_SIZE]) -> Answer
     ensures { λ r. ⌜ done r None (now (card .exit)) ≡ step (Snap name) (now (card .entry)) ⌝ }
 {
     let admitted = area::admit(card);
@@ -65,13 +68,13 @@ pub fn snap(card: &mut [u8], name: [u8; 16]) -> Answer
     if chain::is_named(card, &found.starts, count, name) {
         return answer::NAME_IN_USE;
     }
-    if 255 < count {
+    if MOST_SNAPSHOTS < count {
         return answer::TOO_MANY_SNAPSHOTS;
     }
     let d = found.active;
     let cost = descriptor::opening_cost(d.layout, d.volume);
     let end = (d.beta.0 as usize) + (cost as usize);
-    if card.len() / 512 < end {
+    if card.len() / BLOCK_SIZE < end {
         return answer::NO_ROOM;
     }
     take_snapshot(card, d, cost, name);

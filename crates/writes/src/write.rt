@@ -2,6 +2,7 @@
 use blocks::descriptor::Descriptor;
 use blocks::numbers::Logical;
 use blocks::numbers::Physical;
+use blocks::sizes::BLOCK_SIZE;
 use calls::answer;
 use calls::answer::Answer;
 use calls::area;
@@ -22,7 +23,7 @@ fn put(card: &mut [u8], d: Descriptor, m: Physical, p: Physical, l: Logical, blo
 {
     let need = find::need(d.alpha, Found::Entry(m, p));
     let beta = d.beta.0;
-    if card.len() / 512 < (beta as usize) + (need as usize) {
+    if card.len() / BLOCK_SIZE < (beta as usize) + (need as usize) {
         return answer::NO_ROOM;
     }
     put::put_block(card, d, m, p, l, need, block);
@@ -37,7 +38,7 @@ pub fn write(card: &mut [u8], l: Logical, block: &[u8]) -> Answer
     if admitted.number != 0 {
         return admitted;
     }
-    if block.len() != 512 {
+    if block.len() != BLOCK_SIZE {
         return answer::BAD_BLOCK;
     }
     let found = chain::walk_chain(card);
