@@ -10,7 +10,7 @@ ghost use Rattle.blocks.specs.Name.{nameByte, nameLength, isName, padded
 pub const HASH_COUNT: usize = 1024;
 
 // Whether a name may have the byte.
-pub fn is_name_byte(b: u8) -> bool
+fn is_name_byte(b: u8) -> bool
     ensures { λ r. ⌜ r ≡ nameByte b ⌝ }
 {
     if b == 45 {

@@ -37,7 +37,7 @@ fn read_digits(digits: &[u8]) -> Number
 }
 
 // What a text says as a number.
-pub fn read_number(digits: &[u8]) -> Number
+fn read_number(digits: &[u8]) -> Number
     ensures { λ r. ⌜ r ≡ numberIn (now (digits .entry)) ⌝ }
 {
     if digits.len() == 0 {

@@ -167,7 +167,7 @@ fn cut_five(op: &[u8], a: &[u8], b: &[u8], c: &[u8], d: &[u8]) -> Line
 }
 
 // Cuts one line: its bytes without the line feed.
-pub fn cut_line(line: &[u8]) -> Line
+fn cut_line(line: &[u8]) -> Line
     ensures { λ r. ⌜ r ≡ lineOf (now (line .entry)) ⌝ }
 {
     let n = line.len();

@@ -41,14 +41,7 @@ pub fn entry_at(card: &[u8], m: Physical, j: u32) -> Physical
 }
 
 // Entry `j` of table block `m`, if it is in place.
-pub fn found_in(
-    card: &[u8],
-    starts: &[u32],
-    count: usize,
-    d: Descriptor,
-    m: Physical,
-    j: u32,
-) -> Found
+fn found_in(card: &[u8], starts: &[u32], count: usize, d: Descriptor, m: Physical, j: u32) -> Found
     requires { ⌜ Through (now card) (now starts) count d × (blockSize * m .0 + blockSize ≤ length (now card)) × (j < tableSize) ⌝ }
     ensures { λ r. ⌜ r ≡ entryFound (descriptors (chain (now (card .entry)))) d (m .0) (entryAt (now (card .entry)) (m .0) j) ⌝ }
 {

@@ -10,7 +10,7 @@ ghost use Rattle.entries.specs.InPlace.{regionOf, inPlaceAt};
 ghost use Rattle.entries.specs.Through.{RisingRegions};
 
 // The index of the region that contains block `p`. The regions rise, so that each step halves those that are left.
-pub fn region_of(starts: &[u32], count: usize, p: u32) -> usize
+fn region_of(starts: &[u32], count: usize, p: u32) -> usize
     requires { ⌜ RisingRegions (now starts) count 0 × (p < getD (now starts) count 0) ⌝ }
     ensures { λ r. ⌜ r ≡ regionOf (now (starts .entry)) p ⌝ }
     ensures { λ r. ⌜ r < count ⌝ }

@@ -33,7 +33,7 @@ fn put_digit(out: &mut [u8], at: usize, d: u32) -> usize
 }
 
 // A number in decimal: the digits of a tenth of it, then its last digit.
-pub fn put_decimal(out: &mut [u8], at: usize, v: u32) -> usize
+fn put_decimal(out: &mut [u8], at: usize, v: u32) -> usize
     requires { ⌜ at + mostDigits ≤ length (now out) ⌝ }
     ensures { λ r. ⌜ (r ≡ at + length (decimal v)) × (now (out .exit) ≡ splice (now (out .entry)) at (decimal v)) ⌝ }
     ensures { λ r. ⌜ r ≤ at + mostDigits ⌝ }
@@ -66,7 +66,7 @@ fn put_unpadded(out: &mut [u8], at: usize, name: &[u8]) -> usize
 }
 
 // A name without the zero bytes that pad it.
-pub fn put_name_text(out: &mut [u8], at: usize, name: [u8; NAME_SIZE]) -> usize
+fn put_name_text(out: &mut [u8], at: usize, name: [u8; NAME_SIZE]) -> usize
     requires { ⌜ at + nameSize ≤ length (now out) ⌝ }
     ensures { λ r. ⌜ (r ≡ at + length (nameText name)) × (now (out .exit) ≡ splice (now (out .entry)) at (nameText name)) ⌝ }
     ensures { λ r. ⌜ r ≤ at + nameSize ⌝ }
@@ -96,7 +96,7 @@ pub fn put_byte(out: &mut [u8], at: usize, b: u8) -> usize
 }
 
 // A record of a listing, with the line feed that ends it.
-pub fn put_record_text(out: &mut [u8], at: usize, r: Record) -> usize
+fn put_record_text(out: &mut [u8], at: usize, r: Record) -> usize
     requires { ⌜ at + recordRoom ≤ length (now out) ⌝ }
     ensures { λ e. ⌜ (e ≡ at + length (recordText r)) × (now (out .exit) ≡ splice (now (out .entry)) at (recordText r)) ⌝ }
     ensures { λ e. ⌜ e ≤ at + recordRoom ⌝ }

@@ -26,7 +26,7 @@ ghost use Rattle.blocks.specs.Chain.{formOk, regionOk, indexOf, named, descript
 ghost use Rattle.blocks.specs.Walk.{Hashed};
 
 // Whether block `p` begins with the mark.
-pub fn has_mark(card: &[u8], p: Physical) -> bool
+fn has_mark(card: &[u8], p: Physical) -> bool
     requires { ⌜ blockSize * p .0 + blockSize ≤ length (now card) ⌝ }
     ensures { λ r. ⌜ r ≡ same (part (now (card .entry)) (blockSize * p .0) 4) mark ⌝ }
 {
@@ -35,7 +35,7 @@ pub fn has_mark(card: &[u8], p: Physical) -> bool
 }
 
 // Whether bytes 40 to 63 of a descriptor block are as they must be.
-pub fn is_reserved(reserved: &[u8]) -> bool
+fn is_reserved(reserved: &[u8]) -> bool
     ensures { λ r. ⌜ r ≡ reservedOk (now (reserved .entry)) ⌝ }
 {
     bytes::all_zero(reserved)
@@ -51,7 +51,7 @@ fn is_called(card: &[u8], p: Physical) -> bool
 }
 
 // Whether mark, layout, L, name and zero bytes of block `p` are those of a descriptor; `d` is what its bytes say.
-pub fn is_formed(card: &[u8], p: Physical, d: Descriptor) -> bool
+fn is_formed(card: &[u8], p: Physical, d: Descriptor) -> bool
     requires { ⌜ (blockSize * p .0 + blockSize ≤ length (now card)) × (d ≡ descriptorAt (now card) (p .0)) ⌝ }
     ensures { λ r. ⌜ r ≡ formOk (now (card .entry)) (p .0) d ⌝ }
 {
@@ -86,7 +86,7 @@ pub fn is_formed(card: &[u8], p: Physical, d: Descriptor) -> bool
 }
 
 // Whether layout and L are those of block 0, and alpha, beta and next those of a region that starts at block `p` of `n`.
-pub fn is_placed(first: Descriptor, n: usize, p: Physical, d: Descriptor) -> bool
+fn is_placed(first: Descriptor, n: usize, p: Physical, d: Descriptor) -> bool
     ensures { λ r. ⌜ r ≡ regionOk first n (p .0) d ⌝ }
 {
     let layout = d.layout;
