@@ -1,5 +1,5 @@
 -- What the tests of each call have shown where it is accepted: one record for each call, taken from its rows by their numbers. The laws about
--- what a call leaves stand on these facts and not on the call's acceptance.
+-- the chain, agreement, passing and the ledger after a call stand on these facts and not on the call's acceptance.
 use mathlib.Core.Path.{_≡_}
 use mathlib.Core.Bool.{true, false, not, _&&_}
 use mathlib.Core.List.{List}

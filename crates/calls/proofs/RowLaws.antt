@@ -82,12 +82,12 @@ module _ (r : Row) (rs : List Row) (is : numbered (r ∷ rs) ≡ true) where
 abbrev pub at : List Row → ℕ → Row
 at rs i = getD rs i (row false 0 0)
 
-abbrev pub Given : List Row → ℕ → Type 0
-Given rs i = (at rs i .holds ≡ true) × ((j : ℕ) → j < i → at rs j .holds ≡ false)
+abbrev pub FirstThatHolds : List Row → ℕ → Type 0
+FirstThatHolds rs i = (at rs i .holds ≡ true) × ((j : ℕ) → j < i → at rs j .holds ≡ false)
 
 -- the row that is given is the first that holds
-given-by : (r : Row) (rs : List Row) → numbered (r ∷ rs) ≡ true → (i : ℕ) → i < length (r ∷ rs) → ((n : ℕ) → n < length rs → firstRow rs ≡ answer (at rs n .number) (at rs n .place) → Given rs n)
-    → (h : Bool) → r .holds ≡ h → pick h (answer (r .number) (r .place)) (firstRow rs) ≡ answer (at (r ∷ rs) i .number) (at (r ∷ rs) i .place) → Given (r ∷ rs) i
+given-by : (r : Row) (rs : List Row) → numbered (r ∷ rs) ≡ true → (i : ℕ) → i < length (r ∷ rs) → ((n : ℕ) → n < length rs → firstRow rs ≡ answer (at rs n .number) (at rs n .place) → FirstThatHolds rs n)
+    → (h : Bool) → r .holds ≡ h → pick h (answer (r .number) (r .place)) (firstRow rs) ≡ answer (at (r ∷ rs) i .number) (at (r ∷ rs) i .place) → FirstThatHolds (r ∷ rs) i
 given-by r rs is zero l later true q e = (q, λ j m. absurd (omega arith))
 given-by r rs is zero l later false q e = absurd (fresh-never rs (r .number) (head-own r rs is) (head-set r rs is) (ap (λ (a : Answer). a .number) e))
 given-by r rs is (suc i) l later true q e = absurd (fresh-other rs (r .number) (head-own r rs is) i (omega arith) (sym (ap (λ (a : Answer). a .number) e)))
@@ -99,7 +99,7 @@ given-by r rs is (suc i) l later false q e =
     before zero m f = q
     before (suc j) m f = f j (omega arith)
 
-pub given : (rs : List Row) → numbered rs ≡ true → (i : ℕ) → i < length rs → firstRow rs ≡ answer (at rs i .number) (at rs i .place) → Given rs i
+pub given : (rs : List Row) → numbered rs ≡ true → (i : ℕ) → i < length rs → firstRow rs ≡ answer (at rs i .number) (at rs i .place) → FirstThatHolds rs i
 unfolding firstRow
 given [] is i l e = absurd (omega arith)
 given (r ∷ rs) is i l e = given-by r rs is i l (given rs (tail-numbered r rs is)) (r .holds) refl e
@@ -120,7 +120,7 @@ unfolding firstRow
 last-passed r e = rw e
 
 -- the first row that holds is given
-pub gives : (rs : List Row) (i : ℕ) → i < length rs → Given rs i → firstRow rs ≡ answer (at rs i .number) (at rs i .place)
+pub gives : (rs : List Row) (i : ℕ) → i < length rs → FirstThatHolds rs i → firstRow rs ≡ answer (at rs i .number) (at rs i .place)
 gives [] i l g = absurd (omega arith)
 gives (r ∷ rs) zero l g = row-given r rs (g .0)
 gives (r ∷ rs) (suc i) l g = row-passed r rs (g .1 0 (omega arith)) ∙ gives rs i (omega arith) (g .0, λ j m. g .1 (suc j) (omega arith))

@@ -1,4 +1,4 @@
--- Laws of step: what a refusal leaves, what an accepted call does; and laws of lists of stores.
+-- Laws of step: what a refusal leaves, what an accepted call does; the area, by its tests; stores of zeros.
 use mathlib.Core.Path.{_≡_, refl, ap}
 use mathlib.Core.Bool.{Bool, true, false}
 use mathlib.Core.List.{List, [], _∷_, _++_}

@@ -1,4 +1,4 @@
--- The effect of each accepted call: the whole-block stores that it makes, in order, computed from the card at entry; and what it leaves in lent memory.
+-- The stores of a write, a snap and a revert, in order and computed from the card at entry; the records of a listing; what a read and a write do once the entry is found.
 use mathlib.Core.List.{List, [], _∷_, _++_}
 use Prim.Native.Nat.{ℕ, _+_, _-_}
 use Rattle.blocks.specs.Pick.{pick}

@@ -11,7 +11,7 @@ use Rattle.calls.specs.declared.answer.Record.{Record}
 use Rattle.calls.specs.declared.list.Filling.{Filling}
 use Rattle.calls.specs.declared.list.Plan.{Plan}
 use Rattle.calls.specs.Call.{Listing, answer}
-use Rattle.calls.specs.Parts.{areaBad, descriptorsOf}
+use Rattle.calls.specs.Parts.{descriptorsOf}
 use Rattle.calls.specs.Ladder.{firstRow, admission}
 use Rattle.calls.specs.Meaning.{answerOf}
 use Rattle.calls.specs.Step.{isAccepted}

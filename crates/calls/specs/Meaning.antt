@@ -10,8 +10,8 @@ use Rattle.calls.specs.Parts.{descriptorsOf, targetOf, foundThrough, blo
 use Rattle.calls.specs.Ladder.{Row, firstRow, admission, reamRows, readRows, writeRows, snapRows, revertRows, listRows, checkRows}
 use Rattle.calls.specs.Effect.{writeStores, snapStores, revertStores, listed}
 
--- what is said of a call, each but what is lent by the card at entry: the rows of its own, after those of admission; of an accepted call the
--- stores, what was lent as it leaves it, and what it gives
+-- what is said of a call. All but `lent` are by the card at entry: the rows of its own, which follow those of admission; and of an accepted call
+-- the stores, what was lent as it leaves it, and what it gives
 pub record Meaning : Type 0 where
   pub rows : List ℕ → List Row
   pub stores : List ℕ → List Store

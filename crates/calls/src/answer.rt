@@ -68,11 +68,6 @@ pub const TOO_MANY_SNAPSHOTS: Answer = Answer {
     place: 0,
 };
 
-pub const LIST_TOO_SHORT: Answer = Answer {
-    number: 14,
-    place: 0,
-};
-
 // What a read reads: the active store, or the snapshot whose name stands beside.
 pub enum Target {
     Active,

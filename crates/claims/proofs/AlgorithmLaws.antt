@@ -34,9 +34,8 @@ use Rattle.entries.proofs.SetLaws.{table-length, tail-with-length}
 use Rattle.calls.specs.declared.answer.Target.{Target}
 use Rattle.calls.specs.Call.{Call, Read, Write, Snap, Revert, Block}
 use Rattle.calls.specs.Parts.{areaBad, descriptorsOf, snapshotsOf, withName, targetOf, foundThrough, isMisplaced, blockFound}
-use Rattle.calls.specs.Ladder.{readRows}
 use Rattle.calls.specs.Effect.{snapping, reverting, writeStores, snapStores, revertStores}
-use Rattle.calls.specs.Meaning.{rowsOf, answerOf, storesOf, filledOf}
+use Rattle.calls.specs.Meaning.{answerOf, storesOf, filledOf}
 use Rattle.claims.specs.Algorithms.{Sigma, put, putNumber, copyRange, closeRegion, openRegion, algorithm1, algorithm2, algorithm3, algorithm4, algorithm5, algorithm6}
 use Rattle.calls.specs.Step.{step, isAccepted}
 use Rattle.claims.specs.History.{AreBytes}
@@ -94,7 +93,7 @@ active-volume c area sound = through-volume c (regionsOf (chain c) .starts) (reg
 pub algorithm-read : (c : List ℕ) → AreBytes c → (target : Target) (name : List ℕ) (l : ℕ) (block : List ℕ) → isAccepted (answerOf (Read target name l block) c) ≡ true
     → let d = targetOf (descriptorsOf c) target name in
     step (Read target name l block) c .outcome .lent ≡ Block (pick (eqb (d .layout) 1) (algorithm1 (blockAt c) (d .alpha .0) l) (algorithm4 (blockAt c) (d .alpha .0) l))
-unfolding filledOf rowsOf readRows
+unfolding filledOf
 algorithm-read c bytes target name l block e =
     let shown = read-passed c target name l block e in
     let d : Descriptor = targetOf (descriptorsOf c) target name in

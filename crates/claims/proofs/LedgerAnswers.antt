@@ -45,4 +45,4 @@ pub ledger-no-room : (k : Call) (c : List ℕ) → Passes c → isReam k ≡ fal
 unfolding ledgerNumber
 ledger-no-room k c p q =
     room-by (blockCount c) (betaOf c + blocksNeeded k c) (eqb (firstRow (ledgerRows k (ledgerOf c)) .number) 0) (ltb (blockCount c) (betaOf c + blocksNeeded k c)) (answerOf k c) (firstRow (ledgerRows k (ledgerOf c)))
-    refl refl (owed k .ledger c p q) (placeless-first (ledgerRows k (ledgerOf c)) (owed k .placeless (ledgerOf c)) .1)
+    refl refl (owed k .ledger c p q) (placeless-first (ledgerRows k (ledgerOf c)) (owed k .plain (ledgerOf c)) .1)

@@ -224,21 +224,21 @@ unfoldable pub placeless : List Row → Bool
 placeless [] = true
 placeless (r ∷ rs) = eqb (r .place) 0 && not (eqb (r .number) 11) && placeless rs
 
-abbrev pub Sober : Answer → Type 0
-Sober a = (a .place ≡ 0) × (a .number ≡ 11 → ⊥)
+abbrev pub Plain : Answer → Type 0
+Plain a = (a .place ≡ 0) × (a .number ≡ 11 → ⊥)
 
-placeless-by : (a b : Answer) (h : Bool) → Sober a → Sober b → Sober (pick h a b)
+placeless-by : (a b : Answer) (h : Bool) → Plain a → Plain b → Plain (pick h a b)
 placeless-by a b true x y = x
 placeless-by a b false x y = y
 
-placeless-row : (r : Row) (t : Bool) → (eqb (r .place) 0 && not (eqb (r .number) 11) && t) ≡ true → Sober (answer (r .number) (r .place)) × (t ≡ true)
+placeless-row : (r : Row) (t : Bool) → (eqb (r .place) 0 && not (eqb (r .number) 11) && t) ≡ true → Plain (answer (r .number) (r .place)) × (t ≡ true)
 placeless-row r t e =
     let z = eqb (r .place) 0 in
     let n = not (eqb (r .number) 11) in
     let both = and-left (z && n) t e in
     ((eqb-true (r .place) 0 (and-left z n both), eqb-false (r .number) 11 (not-true (eqb (r .number) 11) (and-right z n both))), and-right (z && n) t e)
 
-pub placeless-first : (rs : List Row) → placeless rs ≡ true → Sober (firstRow rs)
+pub placeless-first : (rs : List Row) → placeless rs ≡ true → Plain (firstRow rs)
 unfolding placeless firstRow
 placeless-first [] e = (refl, λ h. absurd (omega (arith, h)))
 placeless-first (r ∷ rs) e =
@@ -368,7 +368,7 @@ module _ (c : List ℕ) (p : Passes c) where
   unfolding CheckClaim ledgerRows firstRow blocksNeeded
   check-answer = check-claim c .1 p ∙ no-more accepted
 
--- an ledgerAnswer answer has the place 0
+-- an answer that is `ledgerAnswer` has the place 0
 place-by : (t : Bool) (a l : Answer) → l .place ≡ 0 → a ≡ pick t (answer 11 0) l → a .place ≡ 0
 place-by true a l z h = ap (λ (x : Answer). x .place) h
 place-by false a l z h = ap (λ (x : Answer). x .place) h ∙ z

@@ -73,13 +73,13 @@ module _ (c : List ℕ) (passing : Passes c) where
           → (filled : List Record) × (step k c .outcome .lent ≡ Records filled) × (recordNames (length (ledgerNames (ledgerOf c))) filled ≡ ledgerNames (ledgerOf c)) × (drop (length (ledgerNames (ledgerOf c))) filled ≡ drop (length (ledgerNames (ledgerOf c))) records)
       lists-by k records q e = rw q (ledger-lists c passing records (rw q at e))
 
-abbrev Whole : List ℕ → List Call → Ledger → Type 0
-Whole c ks g =
+abbrev FollowsLedger : List ℕ → List Call → Ledger → Type 0
+FollowsLedger c ks g =
     ((i : ℕ) → i < length ks → LedgerStep (getD ks i Check) (after (take i ks) c) (ledgerAfter (take i ks) c g))
     × Passes (after ks c)
     × (ledgerOf (after ks c) ≡ ledgerAfter ks c g)
 
-whole-run : (ks : List Call) (c : List ℕ) (g : Ledger) → ledgerOf c ≡ g → Passes c → Standing c ks → Whole c ks g
+whole-run : (ks : List Call) (c : List ℕ) (g : Ledger) → ledgerOf c ≡ g → Passes c → Standing c ks → FollowsLedger c ks g
 unfolding after ledgerAfter
 whole-run [] c g q p s = (λ i l. absurd (omega arith), p, q)
 whole-run (k ∷ ks) c g q p (more f b rest) =

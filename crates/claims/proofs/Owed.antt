@@ -47,7 +47,7 @@ pub record Owed (k : Call) : Type 0 where
   pub given : (s t : List ℕ) → Agree s t → isAccepted (answerOf k s) ≡ true → givenOf k s ≡ givenOf k t
   -- on a card that passes: the answer is the ledger's or 11, with place 0
   pub ledger : (c : List ℕ) → Passes c → isReam k ≡ false → answerOf k c ≡ ledgerAnswer k c
-  pub placeless : (g : Ledger) → placeless (ledgerRows k g) ≡ true
+  pub plain : (g : Ledger) → placeless (ledgerRows k g) ≡ true
   pub place : (c : List ℕ) → Passes c → answerOf k c .place ≡ 0
 
 ream-owed : (format : Format) → Owed (Ream format)
@@ -65,7 +65,7 @@ ream-owed format =
       filled = λ s t g e. refl;
       given = λ s t g e. refl;
       ledger = λ c p q. no (sym q);
-      placeless = λ g. refl;
+      plain = λ g. refl;
       place = λ c p. ream-place c format;
     }
 
@@ -84,7 +84,7 @@ read-owed target name l block =
       filled = λ s t g e. read-filled s t g target name l block (read-passed s target name l block e);
       given = λ s t g e. refl;
       ledger = λ c p q. read-answer c p target name l block;
-      placeless = λ g. refl;
+      plain = λ g. refl;
       place = λ c p. answer-place (Read target name l block) c refl (read-answer c p target name l block);
     }
 
@@ -103,7 +103,7 @@ write-owed l block =
       filled = λ s t g e. refl;
       given = λ s t g e. refl;
       ledger = λ c p q. write-answer c p l block;
-      placeless = λ g. refl;
+      plain = λ g. refl;
       place = λ c p. answer-place (Write l block) c refl (write-answer c p l block);
     }
 
@@ -122,7 +122,7 @@ snap-owed name =
       filled = λ s t g e. refl;
       given = λ s t g e. refl;
       ledger = λ c p q. snap-answer c p name;
-      placeless = λ g. refl;
+      plain = λ g. refl;
       place = λ c p. answer-place (Snap name) c refl (snap-answer c p name);
     }
 
@@ -141,7 +141,7 @@ revert-owed name =
       filled = λ s t g e. refl;
       given = λ s t g e. refl;
       ledger = λ c p q. revert-answer c p name;
-      placeless = λ g. refl;
+      plain = λ g. refl;
       place = λ c p. answer-place (Revert name) c refl (revert-answer c p name);
     }
 
@@ -160,7 +160,7 @@ list-owed records =
       filled = λ s t g e. list-filled s t g records;
       given = λ s t g e. refl;
       ledger = λ c p q. list-answer c p records;
-      placeless = λ g. refl;
+      plain = λ g. refl;
       place = λ c p. answer-place (Listing records) c refl (list-answer c p records);
     }
 
@@ -179,7 +179,7 @@ check-owed =
       filled = λ s t g e. refl;
       given = λ s t g e. refl;
       ledger = λ c p q. check-answer c p;
-      placeless = λ g. refl;
+      plain = λ g. refl;
       place = λ c p. answer-place Check c refl (check-answer c p);
     }
 

@@ -50,19 +50,19 @@ last-by : (n p q : ℕ) (ys : List Row) (b : Bool) → fresh n ys ≡ true → (
 last-by n p q ys true f z e = (refl, ap (λ (a : Answer). a .place) e)
 last-by n p q ys false f z e = absurd (fresh-never ys n f z (ap (λ (a : Answer). a .number) e))
 
-row-given : (xs ys : List Row) (b : Bool) (n p q : ℕ) → fresh n xs ≡ true → fresh n ys ≡ true → (n ≡ 0 → ⊥) → firstRow (xs ++ (row b n p ∷ ys)) ≡ answer n q
+row-is : (xs ys : List Row) (b : Bool) (n p q : ℕ) → fresh n xs ≡ true → fresh n ys ≡ true → (n ≡ 0 → ⊥) → firstRow (xs ++ (row b n p ∷ ys)) ≡ answer n q
     → (clear xs ≡ true) × (b ≡ true) × (p ≡ q)
 unfolding firstRow fresh clear
-row-given [] ys b n p q f g z e = let r = last-by n p q ys b g z e in (refl, r .0, r .1)
-row-given (r ∷ xs) ys b n p q f g z e =
+row-is [] ys b n p q f g z e = let r = last-by n p q ys b g z e in (refl, r .0, r .1)
+row-is (r ∷ xs) ys b n p q f g z e =
     let first = first-by n q r (xs ++ (row b n p ∷ ys)) (r .holds) (eqb-false (r .number) n (not-true _ (and-left (not (eqb (r .number) n)) (fresh n xs) f))) e in
-    let rest = row-given xs ys b n p q (and-right (not (eqb (r .number) n)) (fresh n xs) f) g z (first .1) in
+    let rest = row-is xs ys b n p q (and-right (not (eqb (r .number) n)) (fresh n xs) f) g z (first .1) in
     (rw (first .0) (rest .0), rest .1, rest .2)
 
-row-gives : (xs ys : List Row) (b : Bool) (n p q : ℕ) → clear xs ≡ true → b ≡ true → p ≡ q → firstRow (xs ++ (row b n p ∷ ys)) ≡ answer n q
+is-row : (xs ys : List Row) (b : Bool) (n p q : ℕ) → clear xs ≡ true → b ≡ true → p ≡ q → firstRow (xs ++ (row b n p ∷ ys)) ≡ answer n q
 unfolding firstRow clear
-row-gives [] ys b n p q f h e = rw (h, e)
-row-gives (r ∷ xs) ys b n p q f h e = rw (not-true (r .holds) (and-left (not (r .holds)) (clear xs) f)) (row-gives xs ys b n p q (and-right (not (r .holds)) (clear xs) f) h e)
+is-row [] ys b n p q f h e = rw (h, e)
+is-row (r ∷ xs) ys b n p q f h e = rw (not-true (r .holds) (and-left (not (r .holds)) (clear xs) f)) (is-row xs ys b n p q (and-right (not (r .holds)) (clear xs) f) h e)
 
 -- the walk along the chain, with as much fuel as there may be more descriptors
 module _ (c : List ℕ) where
@@ -178,14 +178,14 @@ module _ (c : List ℕ) (q : ℕ) where
   six : (k : Call) (xs ys : List Row) → rowsOf k c ≡ xs ++ (chainRow c ∷ ys) → fresh 6 xs ≡ true → fresh 6 ys ≡ true → clear xs ≡ comesToChain k c → answerOf k c ≡ answer 6 q → Six k
   unfolding answerOf
   six k xs ys is f g h e =
-      let r = row-given xs ys (not (chainSound (chain c))) 6 (chainPlace (chain c)) q f g (λ z. omega arith) (rw is at e) in
+      let r = row-is xs ys (not (chainSound (chain c))) 6 (chainPlace (chain c)) q f g (λ z. omega arith) (rw is at e) in
       (sym h ∙ r .0, chain-place c q (unsound-is (chain c) q (r .1) (r .2)))
 
   six-given : (k : Call) (xs ys : List Row) → rowsOf k c ≡ xs ++ (chainRow c ∷ ys) → clear xs ≡ comesToChain k c → Six k → answerOf k c ≡ answer 6 q
   unfolding answerOf
   six-given k xs ys is h s =
       let r = unsound-row (chain c) q (place-chain c q (s .1)) in
-      rw is (row-gives xs ys (not (chainSound (chain c))) 6 (chainPlace (chain c)) q (h ∙ s .0) (r .0) (r .1))
+      rw is (is-row xs ys (not (chainSound (chain c))) 6 (chainPlace (chain c)) q (h ∙ s .0) (r .0) (r .1))
 
   abbrev SixExactly : Call → Type 0
   SixExactly k = (answerOf k c ≡ answer 6 q) ↔ Six k
@@ -351,7 +351,7 @@ module _ (c : List ℕ) (l : ℕ) (block : List ℕ) (h : ℕ) where
     unfolding answerOf rowsOf admission readRows fresh
     read-out-of-place e =
         let found = foundThrough c (targetOf all target name) l in
-        let r = row-given above [] (isMisplaced found) 10 (holderOf found) h refl refl (λ z. omega arith) e in
+        let r = row-is above [] (isMisplaced found) 10 (holderOf found) h refl refl (λ z. omega arith) e in
         let w = sym above-clear ∙ r .0 in
         let three = and-left ((comes && sounds) && there) (not beyond) w in
         let two = and-left (comes && sounds) there three in
@@ -372,7 +372,7 @@ module _ (c : List ℕ) (l : ℕ) (block : List ℕ) (h : ℕ) where
         let r = found-out-of-place c (targetOf all target name) l h (s .4) in
         let v = not-false-of beyond (lt-leb (activeOf all .volume) l (s .3)) in
         let w = and-both ((comes && sounds) && there) (not beyond) (and-both (comes && sounds) there (and-both comes sounds (s .0) (s .1)) (s .2)) v in
-        row-gives above [] (isMisplaced found) 10 (holderOf found) h (above-clear ∙ w) (r .0) (r .1)
+        is-row above [] (isMisplaced found) 10 (holderOf found) h (above-clear ∙ w) (r .0) (r .1)
 
   -- a write
   abbrev reaches : Bool
@@ -392,7 +392,7 @@ module _ (c : List ℕ) (l : ℕ) (block : List ℕ) (h : ℕ) where
   unfolding answerOf rowsOf admission writeRows fresh targetOf
   write-out-of-place e =
       let found = foundThrough c (activeOf all) l in
-      let r = row-given before _ (isMisplaced found) 10 (holderOf found) h refl refl (λ z. omega arith) e in
+      let r = row-is before _ (isMisplaced found) 10 (holderOf found) h refl refl (λ z. omega arith) e in
       let w = sym before-clear ∙ r .0 in
       let two = and-left (reaches && sounds) (not beyond) w in
       let ok = and-right reaches sounds two in
@@ -410,7 +410,7 @@ module _ (c : List ℕ) (l : ℕ) (block : List ℕ) (h : ℕ) where
       let r = found-out-of-place c (activeOf all) l h (s .3) in
       let v = not-false-of beyond (lt-leb (activeOf all .volume) l (s .2)) in
       let w = and-both (reaches && sounds) (not beyond) (and-both reaches sounds (s .0) (s .1)) v in
-      row-gives before _ (isMisplaced found) 10 (holderOf found) h (before-clear ∙ w) (r .0) (r .1)
+      is-row before _ (isMisplaced found) 10 (holderOf found) h (before-clear ∙ w) (r .0) (r .1)
 
 pub place-claim : PlaceClaim
 unfolding PlaceClaim

@@ -44,7 +44,7 @@ NameClaim = (a b : List ℕ) → (same a b ≡ true) ↔ (a ≡ b)
 
 -- Refusals, formats and room.
 
--- the blocks that a call takes on a card: a write's need, a snap's c
+-- the blocks that a change takes on a card: a write's need, a snap's c; and those that a call takes
 unfoldable pub blocksTaken : Kind → List ℕ → ℕ
 blocksTaken (Formats format) c = 0
 blocksTaken Leaves c = 0
@@ -105,7 +105,7 @@ SoundClaim =
     let e = activeOf (descriptorsOf (step k c .card)) in
     (chainSound (chain (step k c .card)) ≡ true) × (e .layout ≡ d .layout) × (e .volume ≡ d .volume) × (e .name ≡ d .name)
 
--- a call that stores nothing; a call that fills what is lent
+-- a kind that stores nothing; a call of that kind; a call that fills what is lent
 unfoldable pub leaves : Kind → Bool
 leaves (Formats format) = false
 leaves Leaves = true
@@ -340,7 +340,7 @@ FormatLedgerClaim =
 -- The rollback claim.
 
 -- Two runs from one card, of ks from position a on and of js from position b on: "right after, and after each later call, beta and every byte
--- below it are equal in the two runs, and each later call gives the same answer". An outcome is number, place and lent memory at exit.
+-- below it are equal in the two runs, and each later call gives the same answer". An outcome is number, place, lent memory at exit and what else is given.
 pub record Matched (s : List ℕ) (ks : List Call) (a : ℕ) (js : List Call) (b : ℕ) : Type 0 where
   pub agree : (m : ℕ) → a + m ≤ length ks → Agree (after (take (a + m) ks) s) (after (take (b + m) js) s)
   pub answers : drop a (outcomes ks s) ≡ drop b (outcomes js s)

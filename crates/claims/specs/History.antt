@@ -29,7 +29,7 @@ pub record Agree (s t : List ℕ) : Type 0 where
   pub beta : betaOf s ≡ betaOf t
   pub below : take (blockSize * betaOf s) s ≡ take (blockSize * betaOf s) t
 
--- whether a call is a ream
+-- whether a kind is a format; whether a call is a ream
 unfoldable pub formats : Kind → Bool
 formats (Formats format) = true
 formats Leaves = false
@@ -49,7 +49,7 @@ isFormat k c = isReam k && isAccepted (answerOf k c)
 abbrev pub AreBytes : List ℕ → Type 0
 AreBytes bytes = (i : ℕ) → getD bytes i 0 < 256
 
--- what a write puts on the card
+-- the bytes that a change of a kind is lent to put on the card; those of a call
 unfoldable pub bytesOf : Kind → List ℕ
 bytesOf (Formats format) = []
 bytesOf Leaves = []
@@ -66,7 +66,7 @@ pub data Standing (c : List ℕ) : List Call → Type 0 where
   none : Standing c []
   more : {k : Call} {ks : List Call} → isFormat k c ≡ false → AreBytes (writtenBy k) → Standing c ks → Standing c (k ∷ ks)
 
--- whether a call is a snap under the name
+-- whether a kind, and whether a call, is a snap under the name
 unfoldable pub snapsAs : List ℕ → Kind → Bool
 snapsAs name (Formats format) = false
 snapsAs name Leaves = false

@@ -1,4 +1,4 @@
--- Which blocks are descriptors and table blocks of a chain, and of one that ends sooner; and a descriptor's own table blocks.
+-- Which blocks are descriptors and table blocks of a chain, and of one that ends sooner; a descriptor's own table blocks; entries as they are read from a block and from one that was stored.
 use mathlib.Core.Path.{_≡_, refl, sym, ap, _∙_, subst}
 use mathlib.Core.Bool.{Bool, true, false, not, _&&_, _||_}
 use mathlib.Core.List.{List, [], _∷_, _++_}
