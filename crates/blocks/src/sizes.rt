@@ -19,7 +19,9 @@ pub const NAME_START: usize = 24;
 
 pub const PHI_START: usize = 64;
 
-// The most descriptors of a chain, and the places of the starts of its regions: one more, for the end of the last.
+// The most snapshots and the most descriptors of a chain, and the places of the starts of its regions: one more, for the end of the last.
+pub const MOST_SNAPSHOTS: usize = 255;
+
 pub const MOST_DESCRIPTORS: usize = 256;
 
 pub const STARTS_SIZE: usize = 257;

@@ -1,4 +1,3 @@
-// What the calls of the card store share: their definitions and laws, what a call takes and answers, and what is asked before the tests of any call.
+// What the calls of the card store share: their definitions and laws, and what a call takes and answers.
 pub mod answer; // what a call takes and answers besides bytes
-pub mod area; // what is asked before the tests of any call
 pub mod list; // what a listing plans

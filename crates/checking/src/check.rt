@@ -1,9 +1,9 @@
 // The check of a card.
+use admitting::area;
 use blocks::descriptor;
 use blocks::descriptor::Descriptor;
 use calls::answer;
 use calls::answer::Answer;
-use calls::area;
 use entries::check::Verdict;
 use judging::check as rules;
 use walking::chain;

@@ -1,5 +1,6 @@
 // The static library that C and Rust programs link: the seven calls and the padding of a name, on numbers and lent bytes.
 // Each call returns the number of its answer and stores the place; its contract is one equation, by the calls' `step`, the listing's by `listingOf`.
+use admitting::area;
 use blocks::descriptor;
 use blocks::descriptor::Format;
 use blocks::name;
@@ -8,7 +9,6 @@ use blocks::sizes::NAME_SIZE;
 use boundary::argument;
 use boundary::record;
 use boundary::record::RECORD_SIZE;
-use calls::area;
 use checking::check;
 use reading::list;
 use reading::read;

@@ -1,10 +1,10 @@
 // A listing of the chain.
+use admitting::area;
 use blocks::descriptor;
 use blocks::numbers::Physical;
 use blocks::sizes::STARTS_SIZE;
 use calls::answer::Answer;
 use calls::answer::Record;
-use calls::area;
 use calls::list::Filling;
 use calls::list::Plan;
 use walking::chain;

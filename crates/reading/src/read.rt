@@ -1,4 +1,5 @@
 // A read of one block.
+use admitting::area;
 use blocks::bytes;
 use blocks::descriptor::Descriptor;
 use blocks::name;
@@ -9,7 +10,6 @@ use blocks::sizes::NAME_SIZE;
 use calls::answer;
 use calls::answer::Answer;
 use calls::answer::Target;
-use calls::area;
 use entries::find::Found;
 use finding::find;
 use walking::chain;

@@ -1,4 +1,5 @@
 // The format of a card.
+use admitting::area;
 use blocks::bytes;
 use blocks::descriptor;
 use blocks::descriptor::Descriptor;
@@ -9,7 +10,6 @@ use blocks::sizes::BLOCK_SIZE;
 use blocks::sizes::MOST_VOLUME;
 use calls::answer;
 use calls::answer::Answer;
-use calls::area;
 ghost use mathlib.Core.Path.{_≡_};
 ghost use Prim.Native.Nat.{_+_, _*_, _≤_, _<_};
 ghost use lib.ListN.{length, replicate};

@@ -1,4 +1,5 @@
 // Back to a snapshot.
+use admitting::area;
 use blocks::descriptor;
 use blocks::descriptor::Descriptor;
 use blocks::name;
@@ -6,7 +7,6 @@ use blocks::numbers::Physical;
 use blocks::sizes::NAME_SIZE;
 use calls::answer;
 use calls::answer::Answer;
-use calls::area;
 use walking::chain;
 ghost use mathlib.Core.Path.{_≡_};
 ghost use Prim.Native.Nat.{_+_, _*_, _≤_};

@@ -1,15 +1,15 @@
 // A snapshot of the active volume.
+use admitting::area;
 use blocks::bytes;
 use blocks::descriptor;
 use blocks::descriptor::Descriptor;
 use blocks::name;
 use blocks::numbers::Physical;
 use blocks::sizes::BLOCK_SIZE;
+use blocks::sizes::MOST_SNAPSHOTS;
 use blocks::sizes::NAME_SIZE;
 use calls::answer;
 use calls::answer::Answer;
-use calls::area;
-use calls::area::MOST_SNAPSHOTS;
 use walking::chain;
 ghost use mathlib.Core.Path.{_≡_};
 ghost use Prim.Native.Nat.{_+_, _*_, _≤_, _<_};

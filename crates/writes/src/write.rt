@@ -1,11 +1,11 @@
 // A write of one block to the active store.
+use admitting::area;
 use blocks::descriptor::Descriptor;
 use blocks::numbers::Logical;
 use blocks::numbers::Physical;
 use blocks::sizes::BLOCK_SIZE;
 use calls::answer;
 use calls::answer::Answer;
-use calls::area;
 use entries::find::Found;
 use finding::find;
 use placing::put;

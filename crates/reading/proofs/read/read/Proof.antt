@@ -60,17 +60,19 @@ returns-6 c =
 
 descriptor-of-requires : tie.Need-descriptor-of-requires
 descriptor-of-requires c κs =
-    let past = past-chain (c .before .before .before .before .before .before .before .before .before .before .before) in
-    (card-whole _ _ (past .walked) (past .area) (past .sound), index-inside _ _ _ _ _ _ (past-chain (c .before .before .before .before .before .before .before .before .before .before .before)) _ (c .before .before .before .before .before .before .before .target-index .ensures) (c .before .before .before .before .before .before .if5 .left))
+    let t = c .before .before .before .before .before .before in
+    let past = past-chain (t .before .before .before .before .before) in
+    (card-whole _ _ (past .walked) (past .area) (past .sound), index-inside _ _ _ _ _ _ past _ (t .before .target-index .ensures) (t .if5 .left))
 
 deliver-requires : tie.Need-deliver-requires
 deliver-requires c κs =
-    let past = past-chain (c .before .before .before .before .before .before .before .before .before .before .before .before .before .before .before .before) in
+    let t = c .before .before .before .before .before .before .before .before .before .before .before in
+    let past = past-chain (t .before .before .before .before .before) in
     let d = c .before .before .before .before .descriptor-of .ensures in
-    let k = index-inside _ _ _ _ _ _ (past-chain (c .before .before .before .before .before .before .before .before .before .before .before .before .before .before .before .before)) _ (c .before .before .before .before .before .before .before .before .before .before .before .before .target-index .ensures) (c .before .before .before .before .before .before .before .before .before .before .before .if5 .left) in (
+    let k = index-inside _ _ _ _ _ _ past _ (t .before .target-index .ensures) (t .if5 .left) in (
       card-through _ _ (past .walked) (past .area) (past .sound) _ k _ d,
-      read-below _ _ _ _ _ _ (past-chain (c .before .before .before .before .before .before .before .before .before .before .before .before .before .before .before .before)) _ (c .before .before .before .before .before .before .before .before .before .before .before .before .target-index .ensures) (c .before .before .before .before .before .before .before .before .before .before .before .if5 .left) (c .before .before .before .before .before .before .before .before .if6 .left) _ d,
-      c .before .before .before .before .before .before .before .before .before .before .before .before .before .before .before .before .before .before .before .if3 .left,
+      read-below _ _ _ _ _ _ past _ (t .before .target-index .ensures) (t .if5 .left) (c .before .before .before .before .before .before .before .before .if6 .left) _ d,
+      t .before .before .before .before .before .before .before .before .if3 .left,
     )
 
 same-length : tie.Need-same-length
@@ -78,7 +80,9 @@ same-length c = search needs
 
 returns-7 : tie.Need-returns-7
 returns-7 c =
-    read-done _ _ _ _ _ _ (past-chain (c .before .before .before .before .before .before .before .before .before .before .before .before .before .before .before .before .before .before .before)) _ (c .before .before .before .before .before .before .before .before .before .before .before .before .before .before .before .target-index .ensures) (c .before .before .before .before .before .before .before .before .before .before .before .before .before .before .if5 .left) (c .before .before .before .before .before .before .before .before .before .before .before .if6 .left) _ (c .before .before .before .before .before .before .before .descriptor-of .ensures) _ _ (c .before .before .deliver .ensures)
+    let t = c .before .before .before .before .before .before .before .before .before .before .before .before .before .before in
+    read-done _ _ _ _ _ _ (past-chain (t .before .before .before .before .before)) _ (t .before .target-index .ensures) (t .if5 .left) (c .before .before .before .before .before .before .before .before .before .before .before .if6 .left) _ (c .before .before .before .before .before .before .before .descriptor-of .ensures) _ _
+    (c .before .before .deliver .ensures)
 
 pub read-spec : {M : Type 1} → statement M
 read-spec =

@@ -1,7 +1,7 @@
 -- `is_bad` meets its contract, by its tests.
 use Rattle.calls.proofs.StepLaws.{area-uneven, area-small, area-large}
-use Rattle.calls.proofs.area.is_bad.Statement.{statement}
-use Rattle.calls.proofs.area.is_bad.Tie as tie
+use Rattle.admitting.proofs.area.is_bad.Statement.{statement}
+use Rattle.admitting.proofs.area.is_bad.Tie as tie
 
 returns : tie.Need-returns
 returns c = search area-uneven

@@ -1,8 +1,8 @@
 -- `admit` meets its contract, by the test of the area.
 use borrow.Author.Needs.{needs}
 use Rattle.calls.proofs.RowLaws.{admission-1, admission-0}
-use Rattle.calls.proofs.area.admit.Statement.{statement}
-use Rattle.calls.proofs.area.admit.Tie as tie
+use Rattle.admitting.proofs.area.admit.Statement.{statement}
+use Rattle.admitting.proofs.area.admit.Tie as tie
 
 is-bad-requires : tie.Need-is-bad-requires
 is-bad-requires c κs = search needs

@@ -1,17 +1,15 @@
 // What is asked before the tests of any call.
-use crate::answer;
-use crate::answer::Answer;
 use blocks::sizes::BLOCK_SIZE;
+use calls::answer;
+use calls::answer::Answer;
 ghost use mathlib.Core.Path.{_≡_};
 ghost use Rattle.calls.specs.Parts.{areaBad};
 ghost use Rattle.calls.specs.Ladder.{firstRow, admission};
 
-// The fewest and the most blocks of a card, and the most snapshots.
+// The fewest and the most blocks of a card.
 const FEWEST_BLOCKS: usize = 2;
 
 const MOST_BLOCKS: usize = 65536;
-
-pub const MOST_SNAPSHOTS: usize = 255;
 
 // Whether the area is no card, by its length alone.
 fn is_bad(card: &[u8]) -> bool
