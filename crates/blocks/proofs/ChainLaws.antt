@@ -13,7 +13,7 @@ use Rattle.blocks.specs.Pick.{pick, same}
 use Rattle.blocks.specs.Bytes.{blockCount}
 use Rattle.blocks.specs.Descriptor.{physical, tableCount, cost, costOf, descriptorAt}
 use Rattle.blocks.specs.Name.{hashOf}
-use Rattle.blocks.specs.Chain.{activeOf, formOk, regionOk, named, sound, Unsound, Sound, descriptorsAt, chainFrom, chain, ends, startsOf, regionsOf, chainSound, descriptors}
+use Rattle.blocks.specs.Chain.{activeOf, formOk, regionOk, indexOf, named, sound, Unsound, Sound, descriptorsAt, chainFrom, chain, ends, startsOf, regionsOf, chainSound, descriptors}
 use Rattle.blocks.specs.Walk.{Hashed}
 use Rattle.blocks.specs.declared.descriptor.Descriptor.{Descriptor}
 use Rattle.blocks.specs.declared.chain.Regions.{Regions}
@@ -293,3 +293,27 @@ module _ (c starts : List ℕ) (p k : ℕ) (w : Walked c starts p k) where
               inside-by : (j : ℕ) → j ≤ k + 1 → getD starts′ (k + 1) 0 ≡ d .next .0 → 512 * d .next .0 + 512 ≤ length c → (t : Bool) → ltb j (k + 1) ≡ t → 512 * getD starts′ j 0 + 512 ≤ length c
               inside-by j l e fits true t = rw (getD-set-other starts (k + 1) j (d .beta .0) 0 (omega (arith, ltb-true j (k + 1) t))) (w .inside j (omega (arith, ltb-true j (k + 1) t)))
               inside-by j l e fits false t = let q : j ≡ k + 1 = omega (arith, ltb-false j (k + 1) t) in rw (q, e) fits
+
+-- the first descriptor: none has passed, so none has its name
+module _ (c : List ℕ) (some : length c / 512 ≡ 0 → ⊥) (d : Descriptor) (is : d ≡ descriptorAt c 0) (n : ℕ) (count : n ≡ length c / 512) where
+  pub first-wrong : (b : Bool) → b ≡ (formOk c 0 d && regionOk d n 0 d) → not b ≡ true → (r : Regions) → r ≡ regionsOf (Unsound 0) → r ≡ regionsOf (chain c)
+  first-wrong b right = walk-wrong c (replicate 257 0) 0 0 (walked-none c some) (omega arith) d is d is n count b right
+
+  module _ (right : (formOk c 0 d && regionOk d n 0 d) ≡ true) where
+    not-named : false ≡ named (descriptorsAt c (take 0 (replicate 257 0))) (d .name)
+    unfolding named indexOf descriptorsAt
+    not-named = refl
+
+    pub first-end : d .next .0 ≡ 0 → _≡_ {A = Regions} (record { sound = true; place = physical 0; active = d; count = 1; starts = set (replicate 257 0) 1 (d .beta .0) }) (regionsOf (chain c))
+    first-end = walk-end c (replicate 257 0) 0 0 (walked-none c some) (omega arith) d is d is n count true (sym right) refl false not-named refl
+
+    pub first-next : (d .next .0 ≡ 0 → ⊥) → 512 * d .next .0 + 512 ≤ length c
+    first-next = walked-next c (replicate 257 0) 0 0 (walked-none c some) (omega arith) d is d is n count true (sym right) refl false not-named refl
+
+    pub first-more : (d .next .0 ≡ 0 → ⊥) → Walked c (set (replicate 257 0) 1 (d .beta .0)) (d .next .0) 1
+    first-more = walked-more c (replicate 257 0) 0 0 (walked-none c some) (omega arith) d is d is n count true (sym right) refl false not-named refl
+
+  -- its name has its flag
+  pub first-hashed : (hashes : List Bool) → length hashes ≡ 1024 → (hash : ℕ) → hash ≡ hashOf (d .name) → hash < 1024 → Hashed c (set (replicate 257 0) 1 (d .beta .0)) 1 (set hashes hash true)
+  first-hashed hashes long hash hash-is low =
+      hashed-starts c (replicate 257 0) 1 (set hashes hash true) (hashed-more c (replicate 257 0) 0 hashes (hashed-none c (replicate 257 0) hashes long) (d .name) (walked-name c (replicate 257 0) 0 0 (walked-none c some) d is) hash hash-is low) 1 (d .beta .0) (omega arith)

@@ -1,48 +1,19 @@
 -- Laws of names and of texts.
 use mathlib.Core.Path.{_≡_, refl, sym, ap, _∙_}
-use mathlib.Core.Bool.{Bool, true, false, _&&_, _||_}
+use mathlib.Core.Bool.{Bool, true, false, not, _&&_, _||_}
 use mathlib.Core.List.{List, [], _∷_, _++_}
 use Prim.Native.Nat.{ℕ, zero, suc, _-_, _≤_, _<_}
 use native.Mathlib.Omega.{arith}
-use lib.ListN.{length, take, drop, replicate, length-drop, length-append, length-replicate}
+use lib.ListN.{length, take, drop, getD, replicate, length-drop, length-append, length-replicate}
 use lib.Seq.{take-all, take-at, drop-at}
 use lib.Dec.{eqb, ltb, leb}
 use borrow.Author.Tests.{eq-eqb, ne-eqb, le-leb, lt-leb, lt-ltb, le-ltb, eqb-true, ltb-true, leb-true}
 use Rattle.blocks.specs.Pick.{pick, allZero}
 use Rattle.blocks.specs.Bytes.{splice}
 use Rattle.blocks.proofs.Tests.{and-left, and-right}
+use Rattle.blocks.proofs.BoolLaws.{no, or-true, and-true, and-false}
 use Rattle.blocks.proofs.ByteLaws.{splice-start}
-use Rattle.blocks.specs.Name.{nameByte, nameLength, isName, isText, padded, noName}
-
--- nameByte, by the tests of the code
-module _ (b : ℕ) where
-  pub byte-is : b ≡ 45 → true ≡ nameByte b
-  unfolding nameByte
-  byte-is e = rw e
-
-  pub byte-is-dot : b ≡ 46 → true ≡ nameByte b
-  unfolding nameByte
-  byte-is-dot e = rw e
-
-  pub byte-low : (b ≡ 45 → ⊥) → (b ≡ 46 → ⊥) → b < 48 → false ≡ nameByte b
-  unfolding nameByte
-  byte-low m n h = rw (lt-leb 97 b (omega arith), lt-leb 48 b h, ne-eqb b 46 n, ne-eqb b 45 m)
-
-  pub byte-digit : 48 ≤ b → b ≤ 57 → true ≡ nameByte b
-  unfolding nameByte
-  byte-digit h k = rw (lt-leb 97 b (omega arith), le-leb 48 b h, le-leb b 57 k)
-
-  pub byte-between : 57 < b → b < 97 → false ≡ nameByte b
-  unfolding nameByte
-  byte-between h k = rw (lt-leb 97 b k, lt-leb b 57 h, le-leb 48 b (omega arith), ne-eqb b 46 (omega arith), ne-eqb b 45 (omega arith))
-
-  pub byte-letter : 97 ≤ b → leb b 122 ≡ nameByte b
-  unfolding nameByte
-  byte-letter h = by (leb b 122)
-    where
-      by : (t : Bool) → t ≡ ((leb 97 b && t) || (leb 48 b && leb b 57) || eqb b 46 || eqb b 45)
-      by true = rw (le-leb 97 b h)
-      by false = rw (le-leb 97 b h, lt-leb b 57 (omega arith), le-leb 48 b (omega arith), ne-eqb b 46 (omega arith), ne-eqb b 45 (omega arith))
+use Rattle.blocks.specs.Name.{nameByte, nameLength, nameOrZero, zerosLast, isName, isText, padded, noName}
 
 -- a name has sixteen bytes
 pub name-size : (n : List ℕ) → isName n ≡ true → length n ≡ 16
@@ -55,15 +26,61 @@ module _ (n : List ℕ) where
   unfolding isName
   name-wrong-length h = rw (ne-eqb (length n) 16 h)
 
-  pub name-none : length n ≡ 16 → (k : ℕ) → k ≡ nameLength n → k ≡ 0 → false ≡ isName n
-  unfolding isName
-  name-none h k e z = rw (eq-eqb (length n) 16 h, ← e, z)
+-- after a zero byte: bytes of a name or zero, and after a zero a zero, is all zero
+after-zero : (l : List ℕ) → allZero l ≡ (nameOrZero l && zerosLast (0 ∷ l))
+unfolding allZero nameOrZero zerosLast
+after-zero [] = refl
+after-zero (b ∷ l) = by (eqb b 0) refl (after-zero l)
+  where
+    by : (z : Bool) → eqb b 0 ≡ z → allZero l ≡ (nameOrZero l && zerosLast (0 ∷ l)) → (z && allZero l) ≡ (((nameByte b || z) && nameOrZero l) && (z && zerosLast (b ∷ l)))
+    by true e more = rw (eqb-true b 0 e, or-true (nameByte 0)) more
+    by false e more = sym (and-false ((nameByte b || false) && nameOrZero l))
 
-  pub name-rest : length n ≡ 16 → (k : ℕ) → k ≡ nameLength n → (k ≡ 0 → ⊥) → (z : Bool) → z ≡ allZero (take (length n - k) (drop k n)) → z ≡ isName n
-  unfolding isName
-  name-rest h k e z r f =
-      let all : take (length n - k) (drop k n) ≡ drop k n = take-all (length n - k) (drop k n) (omega (arith, length-drop k n)) in
-      rw (eq-eqb (length n) 16 h, ← e, lt-ltb 0 k (omega (arith, z)), f, all)
+-- a byte that a name may have is not zero
+name-not-zero : (b : ℕ) → nameByte b ≡ true → eqb b 0 ≡ false
+unfolding nameByte
+name-not-zero b h = by (eqb b 0) refl
+  where
+    by : (z : Bool) → eqb b 0 ≡ z → z ≡ false
+    by true e = sym h ∙ ap nameByte (eqb-true b 0 e)
+    by false e = refl
+
+-- so it leaves the order to those after it
+ended-after : (b : ℕ) (l : List ℕ) → eqb b 0 ≡ false → zerosLast (b ∷ l) ≡ zerosLast l
+unfolding zerosLast
+ended-after b [] e = refl
+ended-after b (c ∷ l) e = rw e
+
+-- what comes after the bytes of a name is zero, as the code tests it
+name-after : (l : List ℕ) → allZero (drop (nameLength l) l) ≡ (nameOrZero l && zerosLast l)
+unfolding nameLength nameOrZero zerosLast allZero
+name-after [] = refl
+name-after (b ∷ l) = by (nameByte b) refl (name-after l)
+  where
+    zero-or : (z : Bool) → eqb b 0 ≡ z → (z && allZero l) ≡ ((z && nameOrZero l) && zerosLast (b ∷ l))
+    zero-or true e = rw (eqb-true b 0 e) (after-zero l)
+    zero-or false e = refl
+
+    by : (t : Bool) → nameByte b ≡ t → allZero (drop (nameLength l) l) ≡ (nameOrZero l && zerosLast l)
+        → allZero (drop (pick t (suc (nameLength l)) 0) (b ∷ l)) ≡ (((t || eqb b 0) && nameOrZero l) && zerosLast (b ∷ l))
+    by true e more = rw (ended-after b l (name-not-zero b e)) more
+    by false e more = zero-or (eqb b 0) refl
+
+-- the first byte is one of a name, as the code tests it
+name-first : (n : List ℕ) → 0 < length n → (ltb 0 (nameLength n) && (nameOrZero n && zerosLast n)) ≡ (nameOrZero n && zerosLast n && not (eqb (getD n 0 0) 0))
+unfolding nameLength nameOrZero
+name-first [] h = absurd (omega arith)
+name-first (b ∷ l) h = by (nameByte b) (eqb b 0) (nameOrZero l) (zerosLast (b ∷ l)) (name-not-zero b)
+  where
+    by : (t z s r : Bool) → (t ≡ true → z ≡ false) → (ltb 0 (pick t (suc (nameLength l)) 0) && (((t || z) && s) && r)) ≡ ((((t || z) && s) && r) && not z)
+    by true true s r q = no (sym (q refl))
+    by true false s r q = rw (lt-ltb 0 (suc (nameLength l)) (omega arith)) (sym (and-true (s && r)))
+    by false true s r q = sym (and-false (s && r))
+    by false false s r q = refl
+
+pub name-tests : (n : List ℕ) → length n ≡ 16 → (p z : Bool) → p ≡ nameOrZero n → z ≡ zerosLast n → (p && z && not (eqb (getD n 0 0) 0)) ≡ isName n
+unfolding isName
+name-tests n h p z e f = rw (eq-eqb (length n) 16 h, name-after n, e, f) (sym (name-first n (omega arith)))
 
 -- zeros less some zeros
 pub drop-replicate : (n k : ℕ) → drop {A = ℕ} k (replicate n 0) ≡ replicate (n - k) 0

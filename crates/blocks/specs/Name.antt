@@ -1,11 +1,11 @@
 -- Names: sixteen bytes, 1 to 16 of `a-z`, `0-9`, `.`, `-`, then zero bytes; and how a text becomes such sixteen bytes.
-use mathlib.Core.Bool.{Bool, _&&_, _||_}
+use mathlib.Core.Bool.{Bool, true, not, _&&_, _||_}
 use mathlib.Core.List.{List, [], _∷_, _++_}
-use Prim.Native.Nat.{ℕ, suc, _+_, _-_, _%_}
+use Prim.Native.Nat.{ℕ, suc, _+_, _-_, _*_, _/_, _%_}
 use lib.ListN.{length, drop, replicate}
 use lib.Dec.{eqb, ltb, leb}
 use Rattle.blocks.specs.Pick.{pick, allZero}
-use Rattle.blocks.specs.Bytes.{u64At}
+use Rattle.blocks.specs.Bytes.{u32At}
 
 -- bytes in a name
 abbrev pub nameSize : ℕ
@@ -24,6 +24,16 @@ nameLength (b ∷ bs) = pick (nameByte b) (suc (nameLength bs)) 0
 unfoldable pub isName : List ℕ → Bool
 isName n = eqb (length n) nameSize && ltb 0 (nameLength n) && allZero (drop (nameLength n) n)
 
+-- the same, as the code tests it: each byte is one that a name may have or zero, and after a zero byte stands a zero byte
+unfoldable pub nameOrZero : List ℕ → Bool
+nameOrZero [] = true
+nameOrZero (b ∷ bs) = (nameByte b || eqb b 0) && nameOrZero bs
+
+unfoldable pub zerosLast : List ℕ → Bool
+zerosLast [] = true
+zerosLast (b ∷ []) = true
+zerosLast (b ∷ c ∷ bs) = (not (eqb b 0) || eqb c 0) && zerosLast (c ∷ bs)
+
 -- no name at all: what stands for a text that is none
 abbrev pub noName : List ℕ
 noName = replicate nameSize 0
@@ -41,4 +51,4 @@ abbrev pub hashCount : ℕ
 hashCount = 1024
 
 unfoldable pub hashOf : List ℕ → ℕ
-hashOf n = (u64At n 0 % 997 + u64At n 8 % 991) % hashCount
+hashOf n = (u32At n 0 + 5 * (u32At n 4 + u32At n 8) + u32At n 12) * 44407899 / 4194304 % hashCount

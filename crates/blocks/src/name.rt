@@ -2,33 +2,20 @@
 use crate::bytes;
 use crate::sizes::NAME_SIZE;
 ghost use mathlib.Core.Path.{_≡_};
+ghost use mathlib.Core.Bool.{_&&_, _||_, not};
 ghost use Prim.Native.Nat.{_≤_, _<_};
 ghost use lib.ListN.{length};
-ghost use Rattle.blocks.specs.Name.{nameByte, nameLength, isName, padded, hashCount, hashOf};
+ghost use lib.Dec.{eqb};
+ghost use Rattle.blocks.specs.Name.{nameSize, nameByte, nameLength, nameOrZero, zerosLast, isName, padded, hashCount, hashOf};
 
 // How many hashes of names there are: the walk keeps a flag for each.
 pub const HASH_COUNT: usize = 1024;
 
-// Whether a name may have the byte.
+// Whether a name may have the byte. No test rests on another, so that the compiler can take many bytes at a time.
 fn is_name_byte(b: u8) -> bool
     ensures { λ r. ⌜ r ≡ nameByte b ⌝ }
 {
-    if b == 45 {
-        return true;
-    }
-    if b == 46 {
-        return true;
-    }
-    if b < 48 {
-        return false;
-    }
-    if b <= 57 {
-        return true;
-    }
-    if b < 97 {
-        return false;
-    }
-    b <= 122
+    (97 <= b) & (b <= 122) | (48 <= b) & (b <= 57) | (b == 46) | (b == 45)
 }
 
 // How many bytes that a name may have the list starts with.
@@ -46,6 +33,48 @@ pub fn name_length(text: &[u8]) -> usize
     i
 }
 
+// Whether all bytes so far were of a name or zero, and this one is.
+fn still_padded(good: bool, b: u8) -> bool
+    ensures { λ r. ⌜ r ≡ (good && (nameByte b || eqb b 0)) ⌝ }
+{
+    good & (is_name_byte(b) | (b == 0))
+}
+
+// Whether each byte is of a name or zero. It looks at every byte, so that the compiler can take all at a time.
+fn are_padded(bytes: &[u8]) -> bool
+    requires { ⌜ length (now bytes) ≡ nameSize ⌝ }
+    ensures { λ r. ⌜ r ≡ nameOrZero (now (bytes .entry)) ⌝ }
+{
+    let mut good = true;
+    let mut i = 0;
+    while i < NAME_SIZE {
+        good = still_padded(good, bytes[i]);
+        i += 1;
+    }
+    good
+}
+
+// Whether so far no other byte came after a zero byte, and `next` after `b` is none.
+fn still_ended(good: bool, b: u8, next: u8) -> bool
+    ensures { λ r. ⌜ r ≡ (good && (not (eqb b 0) || eqb next 0)) ⌝ }
+{
+    good & ((b != 0) | (next == 0))
+}
+
+// Whether after a zero byte there are only zero bytes, by each byte and the next.
+fn are_ended(bytes: &[u8]) -> bool
+    requires { ⌜ length (now bytes) ≡ nameSize ⌝ }
+    ensures { λ r. ⌜ r ≡ zerosLast (now (bytes .entry)) ⌝ }
+{
+    let mut good = true;
+    let mut i = 0;
+    while i < 15 {
+        good = still_ended(good, bytes[i], bytes[i + 1]);
+        i += 1;
+    }
+    good
+}
+
 // Whether bytes of a card are a name.
 pub fn are_name(bytes: &[u8]) -> bool
     ensures { λ r. ⌜ r ≡ isName (now (bytes .entry)) ⌝ }
@@ -53,11 +82,7 @@ pub fn are_name(bytes: &[u8]) -> bool
     if bytes.len() != NAME_SIZE {
         return false;
     }
-    let n = name_length(bytes);
-    if n == 0 {
-        return false;
-    }
-    bytes::all_zero(&bytes[n..])
+    are_padded(bytes) & are_ended(bytes) & (bytes[0] != 0)
 }
 
 // Whether sixteen bytes by value are a name.
@@ -90,7 +115,10 @@ pub fn hash(name: [u8; NAME_SIZE]) -> usize
     ensures { λ r. ⌜ r ≡ hashOf name ⌝ }
     ensures { λ r. ⌜ r < hashCount ⌝ }
 {
-    let first = bytes::get_u64(&name, 0) % 997;
-    let second = bytes::get_u64(&name, 8) % 991;
-    (first + second) as usize % HASH_COUNT
+    let a = bytes::get_u32(&name, 0) as u64;
+    let b = bytes::get_u32(&name, 4) as u64;
+    let c = bytes::get_u32(&name, 8) as u64;
+    let d = bytes::get_u32(&name, 12) as u64;
+    let sum = a + 5 * (b + c) + d;
+    (sum * 44407899 / 4194304 % HASH_COUNT as u64) as usize
 }

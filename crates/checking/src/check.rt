@@ -57,6 +57,15 @@ fn check_small(card: &[u8], active: Descriptor, starts: &[u32], count: usize) ->
     check_chain(card, active, starts, count, &mut seen)
 }
 
+// The same, of a card of at most 16,384 blocks.
+fn check_medium(card: &[u8], active: Descriptor, starts: &[u32], count: usize) -> Verdict
+    requires { ⌜ (areaBad (now card) ≡ false) × (regionsOf (chainOf (now card)) ≡ record { sound = true; place = physical 0; active = active; count = count; starts = now starts }) × (length (now card) ≤ 8388608) ⌝ }
+    ensures { λ r. ⌜ r ≡ checkCard (now (card .entry)) ⌝ }
+{
+    let mut seen = [0u8; 16384];
+    check_chain(card, active, starts, count, &mut seen)
+}
+
 // The same, of any card.
 fn check_large(card: &[u8], active: Descriptor, starts: &[u32], count: usize) -> Verdict
     requires { ⌜ (areaBad (now card) ≡ false) × (regionsOf (chainOf (now card)) ≡ record { sound = true; place = physical 0; active = active; count = count; starts = now starts }) ⌝ }
@@ -73,6 +82,9 @@ fn check_regions(card: &[u8], active: Descriptor, starts: &[u32], count: usize) 
 {
     if card.len() <= 1048576 {
         return check_small(card, active, starts, count);
+    }
+    if card.len() <= 8388608 {
+        return check_medium(card, active, starts, count);
     }
     check_large(card, active, starts, count)
 }

@@ -16,7 +16,7 @@ use Rattle.blocks.specs.Bytes.{u32At, part}
 use Rattle.blocks.specs.Descriptor.{physical, tableCount}
 use Rattle.blocks.specs.declared.numbers.Physical.{Physical}
 use Rattle.blocks.specs.declared.descriptor.Descriptor.{Descriptor}
-use Rattle.blocks.proofs.BoolLaws.{no, or-false-left, or-false-right, or-true, and-false}
+use Rattle.blocks.proofs.BoolLaws.{no, or-false-left, or-false-right, or-true, and-true, and-false}
 use Rattle.blocks.proofs.Tests.{and-left, and-right}
 use Rattle.entries.specs.InPlace.{isDescriptor, isTable, inPlace}
 use Rattle.entries.specs.Entry.{entryAt, phiAt, tableOf}
@@ -179,10 +179,6 @@ module _ (d : Descriptor) (m v : ℕ) (own : (d .layout ≡ 2) ⊎ (d .alpha .0 
 
   rule-old : m < d .alpha .0 → (d .layout ≡ 2) ⊎ (d .alpha .0 ≤ m) → old false ≡ not (ltb v (limit-for false))
   rule-old h (inl e) = rw (lt-ltb m (d .alpha .0) h, eq-eqb (d .layout) 2 e, above (ltb v (d .alpha .0)) refl) (and-true (not (ltb v (d .alpha .0))))
-    where
-      and-true : (x : Bool) → (x && true) ≡ x
-      and-true true = refl
-      and-true false = refl
   rule-old h (inr l) = absurd (omega arith)
 
   rule-own : d .alpha .0 ≤ m → v < d .beta .0 → old false ≡ not (ltb v (limit-for false))

@@ -15,13 +15,13 @@ use blocks::sizes::PHI_START;
 use blocks::sizes::STARTS_SIZE;
 ghost use mathlib.Core.Path.{_≡_};
 ghost use mathlib.Core.Bool.{true, _&&_};
-ghost use Prim.Native.Nat.{ℕ, _+_, _*_, _≤_, _<_};
-ghost use lib.ListN.{length, take, getD};
+ghost use Prim.Native.Nat.{ℕ, _+_, _*_, _/_, _≤_, _<_};
+ghost use lib.ListN.{length, take, getD, set, replicate};
 ghost use lib.Dec.{eqb};
 ghost use Rattle.blocks.specs.Pick.{pick, same};
 ghost use Rattle.blocks.specs.Bytes.{blockSize, part};
 ghost use Rattle.blocks.specs.Name.{isName};
-ghost use Rattle.blocks.specs.Descriptor.{physical, mark, descriptorAt, reservedOk};
+ghost use Rattle.blocks.specs.Descriptor.{physical, mark, mostVolume, descriptorAt, reservedOk};
 ghost use Rattle.blocks.specs.Chain.{formOk, regionOk, indexOf, named, descriptorsAt, chain, regionsOf, Unsound};
 ghost use Rattle.blocks.specs.Walk.{Hashed};
 
@@ -31,7 +31,11 @@ fn has_mark(card: &[u8], p: Physical) -> bool
     ensures { λ r. ⌜ r ≡ same (part (now (card .entry)) (blockSize * p .0) 4) mark ⌝ }
 {
     let at = BLOCK_SIZE * (p.0 as usize);
-    bytes::same_bytes(&card[at..at + 4], b"snap")
+    let mark = b"snap";
+    (card[at] == mark[0])
+        & (card[at + 1] == mark[1])
+        & (card[at + 2] == mark[2])
+        & (card[at + 3] == mark[3])
 }
 
 // Whether bytes 40 to 63 of a descriptor block are as they must be.
@@ -207,7 +211,58 @@ fn is_right(card: &[u8], first: Descriptor, n: usize, p: Physical, d: Descriptor
     is_placed(first, n, p, d)
 }
 
-// Walks the chain of the card. A flag for each name's hash says of most names that no earlier descriptor has them.
+// The regions of a chain of one descriptor.
+fn single(d: Descriptor) -> Regions
+    ensures { λ r. ⌜ r ≡ record { sound = true; place = physical 0; active = d; count = 1; starts = set (replicate 257 0) 1 (d .beta .0) } ⌝ }
+{
+    let mut starts = [0u32; STARTS_SIZE];
+    let beta = d.beta.0;
+    starts[1] = beta;
+    Regions {
+        sound: true,
+        place: Physical(0),
+        active: d,
+        count: 1,
+        starts,
+    }
+}
+
+// Whether mark, name and zero bytes of block `p` are those of a descriptor, where layout and L are in range. These tests stand in `is_formed` too:
+// the compiler calls a function that both share, and puts two that have one caller each in their places, which spares a third of the walk.
+fn is_filled(card: &[u8], p: Physical, d: Descriptor) -> bool
+    requires { ⌜ (blockSize * p .0 + blockSize ≤ length (now card)) × (d ≡ descriptorAt (now card) (p .0)) × (d .layout ≡ 0 → ⊥) × (d .layout ≤ 2) × (d .volume ≡ 0 → ⊥) × (d .volume ≤ mostVolume) ⌝ }
+    ensures { λ r. ⌜ r ≡ formOk (now (card .entry)) (p .0) d ⌝ }
+{
+    let at = BLOCK_SIZE * (p.0 as usize);
+    let layout = d.layout;
+    if !has_mark(card, p) {
+        return false;
+    }
+    if !is_called(card, p) {
+        return false;
+    }
+    if !is_reserved(&card[at + HEAD_SIZE..at + PHI_START]) {
+        return false;
+    }
+    if layout != 1 {
+        return true;
+    }
+    bytes::all_zero(&card[at + PHI_START..at + BLOCK_SIZE])
+}
+
+// The same as `is_right` of a later descriptor: the layout and L of the first are in range, and it has the same.
+fn is_next(card: &[u8], first: Descriptor, n: usize, p: Physical, d: Descriptor) -> bool
+    requires { ⌜ (blockSize * p .0 + blockSize ≤ length (now card)) × (d ≡ descriptorAt (now card) (p .0)) × (formOk (now card) 0 first ≡ true) ⌝ }
+    ensures { λ r. ⌜ r ≡ (formOk (now (card .entry)) (p .0) d && regionOk first n (p .0) d) ⌝ }
+{
+    if !is_placed(first, n, p, d) {
+        return false;
+    }
+    is_filled(card, p, d)
+}
+
+// Walks the chain of the card. A chain of one descriptor ends before any flag is cleared. Else a flag for each name's hash says of most names that no earlier
+// descriptor has them.
 pub fn walk_chain(card: &[u8]) -> Regions
     ensures { λ r. ⌜ r ≡ regionsOf (chain (now (card .entry))) ⌝ }
 {
@@ -216,13 +271,23 @@ pub fn walk_chain(card: &[u8]) -> Regions
         return unsound(0);
     }
     let first = descriptor::read_descriptor(card, Physical(0));
-    let mut d = first;
+    if !is_right(card, first, n, Physical(0), first) {
+        return unsound(0);
+    }
+    let mut p = first.next.0;
+    if p == 0 {
+        return single(first);
+    }
     let mut starts = [0u32; STARTS_SIZE];
     let mut hashes = [false; name::HASH_COUNT];
-    let mut p: u32 = 0;
-    let mut k: usize = 0;
+    let end = first.beta.0;
+    starts[1] = end;
+    let called = first.name;
+    hashes[name::hash(called)] = true;
+    let mut d = descriptor::read_descriptor(card, Physical(p));
+    let mut k: usize = 1;
     while k < MOST_DESCRIPTORS {
-        if !is_right(card, first, n, Physical(p), d) {
+        if !is_next(card, first, n, Physical(p), d) {
             return unsound(p);
         }
         let name = d.name;

@@ -5,20 +5,59 @@ use Rattle.blocks.specs.Name.{hashOf}
 use Rattle.blocks.proofs.name.hash.Statement.{statement}
 use Rattle.blocks.proofs.name.hash.Tie as tie
 
-slice-aggregate-get-u64 : tie.Need-slice-aggregate-get-u64
-slice-aggregate-get-u64 c = search needs
+slice-aggregate-get-u32 : tie.Need-slice-aggregate-get-u32
+slice-aggregate-get-u32 c = search needs
 
-get-u64-requires : tie.Need-get-u64-requires
-get-u64-requires c κs = search needs
+get-u32-requires : tie.Need-get-u32-requires
+get-u32-requires c κs = search needs
 
-slice-aggregate-get-u64-2 : tie.Need-slice-aggregate-get-u64-2
-slice-aggregate-get-u64-2 c = search needs
+cast-a : tie.Need-cast-a
+cast-a c = search needs
 
-get-u64-requires-2 : tie.Need-get-u64-requires-2
-get-u64-requires-2 c κs = search needs
+slice-aggregate-get-u32-2 : tie.Need-slice-aggregate-get-u32-2
+slice-aggregate-get-u32-2 c = search needs
 
-add-result : tie.Need-add-result
-add-result c = search needs
+get-u32-requires-2 : tie.Need-get-u32-requires-2
+get-u32-requires-2 c κs = search needs
+
+cast-b : tie.Need-cast-b
+cast-b c = search needs
+
+slice-aggregate-get-u32-3 : tie.Need-slice-aggregate-get-u32-3
+slice-aggregate-get-u32-3 c = search needs
+
+get-u32-requires-3 : tie.Need-get-u32-requires-3
+get-u32-requires-3 c κs = search needs
+
+cast-c : tie.Need-cast-c
+cast-c c = search needs
+
+slice-aggregate-get-u32-4 : tie.Need-slice-aggregate-get-u32-4
+slice-aggregate-get-u32-4 c = search needs
+
+get-u32-requires-4 : tie.Need-get-u32-requires-4
+get-u32-requires-4 c κs = search needs
+
+cast-d : tie.Need-cast-d
+cast-d c = search needs
+
+add-sum : tie.Need-add-sum
+add-sum c = search needs
+
+mul-sum : tie.Need-mul-sum
+mul-sum c = search needs
+
+add-sum-2 : tie.Need-add-sum-2
+add-sum-2 c = search needs
+
+add-sum-3 : tie.Need-add-sum-3
+add-sum-3 c = search needs
+
+mul-result : tie.Need-mul-result
+mul-result c = search needs
+
+rem-result : tie.Need-rem-result
+rem-result c = search needs
 
 returns : tie.Need-returns
 unfolding hashOf
@@ -28,9 +67,22 @@ pub hash-spec : {M : Type 1} → statement M
 hash-spec =
     tie.close
     (tie.spec
-    slice-aggregate-get-u64
-    get-u64-requires
-    slice-aggregate-get-u64-2
-    get-u64-requires-2
-    add-result
+    slice-aggregate-get-u32
+    get-u32-requires
+    cast-a
+    slice-aggregate-get-u32-2
+    get-u32-requires-2
+    cast-b
+    slice-aggregate-get-u32-3
+    get-u32-requires-3
+    cast-c
+    slice-aggregate-get-u32-4
+    get-u32-requires-4
+    cast-d
+    add-sum
+    mul-sum
+    add-sum-2
+    add-sum-3
+    mul-result
+    rem-result
     returns)

@@ -1,5 +1,7 @@
--- `has_mark` meets its contract, by what `same_bytes` ensures.
-use native.Mathlib.Nat.{add-sub-cancel-left}
+-- `has_mark` meets its contract, byte by byte.
+use Prim.Native.Nat.{_*_}
+use native.Mathlib.Omega.{arith}
+use Rattle.blocks.proofs.ListLaws.{same-four}
 use borrow.Author.Needs.{needs}
 use Rattle.walking.proofs.chain.has_mark.Statement.{statement}
 use Rattle.walking.proofs.chain.has_mark.Tie as tie
@@ -10,26 +12,43 @@ cast-at c = search needs
 mul-at : tie.Need-mul-at
 mul-at c = search needs
 
-add-same-bytes : tie.Need-add-same-bytes
-add-same-bytes c = search needs
+shared-slice-read-result : tie.Need-shared-slice-read-result
+shared-slice-read-result c = search needs
 
-sub-same-bytes : tie.Need-sub-same-bytes
-sub-same-bytes c = search needs
+element-copy-out-result : tie.Need-element-copy-out-result
+element-copy-out-result c = search needs
 
-part-same-bytes-start : tie.Need-part-same-bytes-start
-part-same-bytes-start c = search needs
+add-result : tie.Need-add-result
+add-result c = search needs
 
-part-same-bytes-end : tie.Need-part-same-bytes-end
-part-same-bytes-end c = search needs
+shared-slice-read-result-2 : tie.Need-shared-slice-read-result-2
+shared-slice-read-result-2 c = search needs
 
-slice-aggregate-same-bytes : tie.Need-slice-aggregate-same-bytes
-slice-aggregate-same-bytes c = search needs
+element-copy-out-result-2 : tie.Need-element-copy-out-result-2
+element-copy-out-result-2 c = search needs
 
-same-bytes-requires : tie.Need-same-bytes-requires
-same-bytes-requires c κs = search needs
+add-result-2 : tie.Need-add-result-2
+add-result-2 c = search needs
+
+shared-slice-read-result-3 : tie.Need-shared-slice-read-result-3
+shared-slice-read-result-3 c = search needs
+
+element-copy-out-result-3 : tie.Need-element-copy-out-result-3
+element-copy-out-result-3 c = search needs
+
+add-result-3 : tie.Need-add-result-3
+add-result-3 c = search needs
+
+shared-slice-read-result-4 : tie.Need-shared-slice-read-result-4
+shared-slice-read-result-4 c = search needs
+
+element-copy-out-result-4 : tie.Need-element-copy-out-result-4
+element-copy-out-result-4 c = search needs
 
 returns : tie.Need-returns
-returns c = simp (c .same-bytes .ensures, add-sub-cancel-left)
+returns c =
+    let s = c .before .before .before .before .before .before .before .before .before .before in
+    same-four (s .args .card .now) (512 * s .args .p .0) 115 110 97 112 (omega arith)
 
 pub has-mark-spec : {M : Type 1} → statement M
 has-mark-spec =
@@ -37,10 +56,15 @@ has-mark-spec =
     (tie.spec
     cast-at
     mul-at
-    add-same-bytes
-    sub-same-bytes
-    part-same-bytes-start
-    part-same-bytes-end
-    slice-aggregate-same-bytes
-    same-bytes-requires
+    shared-slice-read-result
+    element-copy-out-result
+    add-result
+    shared-slice-read-result-2
+    element-copy-out-result-2
+    add-result-2
+    shared-slice-read-result-3
+    element-copy-out-result-3
+    add-result-3
+    shared-slice-read-result-4
+    element-copy-out-result-4
     returns)
