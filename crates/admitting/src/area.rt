@@ -1,15 +1,12 @@
 // What is asked before the tests of any call.
 use blocks::sizes::BLOCK_SIZE;
+use blocks::sizes::FEWEST_BLOCKS;
+use blocks::sizes::MOST_BLOCKS;
 use calls::answer;
 use calls::answer::Answer;
 ghost use mathlib.Core.Path.{_≡_};
 ghost use Rattle.calls.specs.Parts.{areaBad};
 ghost use Rattle.calls.specs.Ladder.{firstRow, admission};
-
-// The fewest and the most blocks of a card.
-const FEWEST_BLOCKS: usize = 2;
-
-const MOST_BLOCKS: usize = 65536;
 
 // Whether the area is no card, by its length alone.
 fn is_bad(card: &[u8]) -> bool

@@ -7,7 +7,13 @@ use lib.ListN.{length, take, drop, getD, replicate}
 abbrev pub blockSize : ℕ
 blockSize = 512
 
--- bytes of the largest card, 65,536 blocks
+-- the fewest and the most blocks of a card, and the bytes of the largest
+abbrev pub fewestBlocks : ℕ
+fewestBlocks = 2
+
+abbrev pub mostBlocks : ℕ
+mostBlocks = 65536
+
 abbrev pub mostBytes : ℕ
 mostBytes = 33554432
 

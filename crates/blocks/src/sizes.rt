@@ -3,6 +3,11 @@
 // Bytes in a block.
 pub const BLOCK_SIZE: usize = 512;
 
+// The fewest and the most blocks of a card.
+pub const FEWEST_BLOCKS: usize = 2;
+
+pub const MOST_BLOCKS: usize = 65536;
+
 // Entries in a table block.
 pub const TABLE_SIZE: u32 = 128;
 

@@ -5,7 +5,7 @@ use Prim.Native.Nat.{ℕ, _+_, _%_}
 use lib.ListN.{length, getD}
 use lib.Dec.{eqb, ltb}
 use Rattle.blocks.specs.Pick.{pick}
-use Rattle.blocks.specs.Bytes.{blockSize, blockCount, blockAt, zeroBlock}
+use Rattle.blocks.specs.Bytes.{blockSize, fewestBlocks, mostBlocks, blockCount, blockAt, zeroBlock}
 use Rattle.blocks.specs.Descriptor.{noDescriptor}
 use Rattle.blocks.specs.Chain.{indexOf, chain, descriptors, activeOf}
 use Rattle.blocks.specs.declared.descriptor.Descriptor.{Descriptor}
@@ -14,12 +14,6 @@ use Rattle.entries.specs.declared.find.Found.{Found}
 use Rattle.entries.specs.declared.find.Found.the-variants.{Misplaced, Entry}
 use Rattle.calls.specs.declared.answer.Target.{Target}
 use Rattle.calls.specs.declared.answer.Target.the-variants.{Active, Snapshot}
-
-abbrev pub fewestBlocks : ℕ
-fewestBlocks = 2
-
-abbrev pub mostBlocks : ℕ
-mostBlocks = 65536
 
 abbrev pub mostSnapshots : ℕ
 mostSnapshots = 255

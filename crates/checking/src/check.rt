@@ -2,6 +2,8 @@
 use admitting::area;
 use blocks::descriptor;
 use blocks::descriptor::Descriptor;
+use blocks::sizes::BLOCK_SIZE;
+use blocks::sizes::MOST_BLOCKS;
 use calls::answer;
 use calls::answer::Answer;
 use entries::check::Verdict;
@@ -19,6 +21,11 @@ ghost use Rattle.calls.specs.Parts.{areaBad};
 ghost use Rattle.calls.specs.Check.{checkCard, takingChain};
 ghost use Rattle.calls.specs.Step.{step, done};
 ghost use Rattle.blocks.specs.Bytes.{blockSize};
+
+// The most blocks of a card that is checked with few flags, and of one that is checked with more.
+const SMALL_BLOCKS: usize = 2048;
+
+const MEDIUM_BLOCKS: usize = 16384;
 
 // The verdict on the descriptors of a sound chain, in chain order. `seen` is zero, with a byte for each block of the card or more.
 fn check_chain(
@@ -50,19 +57,19 @@ fn check_chain(
 
 // The same, of a card of at most 2,048 blocks.
 fn check_small(card: &[u8], active: Descriptor, starts: &[u32], count: usize) -> Verdict
-    requires { ⌜ (areaBad (now card) ≡ false) × (regionsOf (chainOf (now card)) ≡ record { sound = true; place = physical 0; active = active; count = count; starts = now starts }) × (length (now card) ≤ 1048576) ⌝ }
+    requires { ⌜ (areaBad (now card) ≡ false) × (regionsOf (chainOf (now card)) ≡ record { sound = true; place = physical 0; active = active; count = count; starts = now starts }) × (length (now card) ≤ blockSize * 2048) ⌝ }
     ensures { λ r. ⌜ r ≡ checkCard (now (card .entry)) ⌝ }
 {
-    let mut seen = [0u8; 2048];
+    let mut seen = [0u8; SMALL_BLOCKS];
     check_chain(card, active, starts, count, &mut seen)
 }
 
 // The same, of a card of at most 16,384 blocks.
 fn check_medium(card: &[u8], active: Descriptor, starts: &[u32], count: usize) -> Verdict
-    requires { ⌜ (areaBad (now card) ≡ false) × (regionsOf (chainOf (now card)) ≡ record { sound = true; place = physical 0; active = active; count = count; starts = now starts }) × (length (now card) ≤ 8388608) ⌝ }
+    requires { ⌜ (areaBad (now card) ≡ false) × (regionsOf (chainOf (now card)) ≡ record { sound = true; place = physical 0; active = active; count = count; starts = now starts }) × (length (now card) ≤ blockSize * 16384) ⌝ }
     ensures { λ r. ⌜ r ≡ checkCard (now (card .entry)) ⌝ }
 {
-    let mut seen = [0u8; 16384];
+    let mut seen = [0u8; MEDIUM_BLOCKS];
     check_chain(card, active, starts, count, &mut seen)
 }
 
@@ -71,7 +78,7 @@ fn check_large(card: &[u8], active: Descriptor, starts: &[u32], count: usize) ->
     requires { ⌜ (areaBad (now card) ≡ false) × (regionsOf (chainOf (now card)) ≡ record { sound = true; place = physical 0; active = active; count = count; starts = now starts }) ⌝ }
     ensures { λ r. ⌜ r ≡ checkCard (now (card .entry)) ⌝ }
 {
-    let mut seen = [0u8; 65536];
+    let mut seen = [0u8; MOST_BLOCKS];
     check_chain(card, active, starts, count, &mut seen)
 }
 
@@ -80,10 +87,10 @@ fn check_regions(card: &[u8], active: Descriptor, starts: &[u32], count: usize) 
     requires { ⌜ (areaBad (now card) ≡ false) × (regionsOf (chainOf (now card)) ≡ record { sound = true; place = physical 0; active = active; count = count; starts = now starts }) ⌝ }
     ensures { λ r. ⌜ r ≡ checkCard (now (card .entry)) ⌝ }
 {
-    if card.len() <= 1048576 {
+    if card.len() <= BLOCK_SIZE * SMALL_BLOCKS {
         return check_small(card, active, starts, count);
     }
-    if card.len() <= 8388608 {
+    if card.len() <= BLOCK_SIZE * MEDIUM_BLOCKS {
         return check_medium(card, active, starts, count);
     }
     check_large(card, active, starts, count)

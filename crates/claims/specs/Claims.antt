@@ -11,7 +11,7 @@ use Rattle.blocks.specs.Pick.{pick, same}
 use lib.Dec.{eqb}
 use Rattle.blocks.specs.Bytes.{blockSize, blockCount, blockAt, zeroBlock}
 use Rattle.blocks.specs.Name.{isName}
-use Rattle.blocks.specs.Descriptor.{physical, noDescriptor, tableSize, tableCount, costOf, firstOf, descriptorAt, descriptorBlock, renamedOf, linkedOf, extendedOf, reopenedOf, costIn}
+use Rattle.blocks.specs.Descriptor.{physical, noDescriptor, tableSize, tailSize, tableCount, costOf, firstOf, descriptorAt, descriptorBlock, renamedOf, linkedOf, extendedOf, reopenedOf, costIn}
 use Rattle.blocks.specs.Chain.{Sound, Unsound, sound, chain, chainSound, indexOf, named, activeOf}
 use Rattle.blocks.specs.declared.descriptor.Descriptor.{Descriptor}
 use Rattle.entries.specs.InPlace.{inPlace}
@@ -322,7 +322,7 @@ FormatClaim =
     → Passes (formatted area format)
     × (ledgerOf (formatted area format) ≡ firstLedger format)
     × (descriptorsOf (formatted area format) ≡ firstOf format ∷ [])
-    × (blockAt (formatted area format) 0 ≡ descriptorBlock (firstOf format) (replicate 472 0))
+    × (blockAt (formatted area format) 0 ≡ descriptorBlock (firstOf format) (replicate tailSize 0))
     × ((p : ℕ) → 0 < p → p < costIn format → blockAt (formatted area format) p ≡ zeroBlock)
     × (drop (blockSize * costIn format) (formatted area format) ≡ drop (blockSize * costIn format) area)
 

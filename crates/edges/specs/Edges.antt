@@ -9,7 +9,7 @@ use lib.ListN.{length, replicate, set}
 use Rattle.blocks.specs.Pick.{pick}
 use Rattle.blocks.specs.Bytes.{le32, zeroBlock}
 use Rattle.blocks.specs.Name.{nameByte, isName, padded, noName}
-use Rattle.blocks.specs.Descriptor.{physical, descriptorBlock, asFormat}
+use Rattle.blocks.specs.Descriptor.{physical, tailSize, descriptorBlock, asFormat}
 use Rattle.blocks.specs.declared.descriptor.Descriptor.{Descriptor}
 use Rattle.calls.specs.declared.answer.Target.the-variants.{Active, Snapshot}
 use Rattle.calls.specs.Call.{Call, Ream, Read, Write, Snap, Revert, Listing, Check, answer}
@@ -24,10 +24,10 @@ descriptor layout volume alpha beta next name = record { layout = layout; volume
 
 -- its block, with bytes 40 to 511 zero; with byte 40 + i set to 1; with the first two entries of Phi
 abbrev pub bare : Descriptor → List ℕ
-bare d = descriptorBlock d (replicate 472 0)
+bare d = descriptorBlock d (replicate tailSize 0)
 
 abbrev pub withTailByte : ℕ → Descriptor → List ℕ
-withTailByte i d = descriptorBlock d (set (replicate 472 0) i 1)
+withTailByte i d = descriptorBlock d (set (replicate tailSize 0) i 1)
 
 abbrev pub withPhi : Descriptor → ℕ → ℕ → List ℕ
 withPhi d a b = descriptorBlock d (replicate 24 0 ++ le32 a ++ le32 b ++ replicate 440 0)

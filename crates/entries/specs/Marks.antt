@@ -7,6 +7,7 @@ use Prim.Native.Nat.{ℕ, zero, suc, _+_, _*_, _≤_, _<_}
 use lib.ListN.{length, getD, set, replicate}
 use lib.Dec.{eqb, ltb, leb}
 use Rattle.blocks.specs.Pick.{pick}
+use Rattle.blocks.specs.Bytes.{blockSize, mostBlocks}
 use Rattle.blocks.specs.Descriptor.{physical, tableSize, phiSize, tableCount}
 use Rattle.blocks.specs.declared.descriptor.Descriptor.{Descriptor}
 use Rattle.entries.specs.InPlace.{isDescriptor, isTable}
@@ -66,7 +67,7 @@ takingAll d turn seen (e ∷ es) =
 
 -- what the walk over a table needs: the block is on the card, there is a flag for each block below beta, alpha is not above beta, and the group is one of 112
 pub record TableReady (c : List ℕ) (d : Descriptor) (i m : ℕ) (seen : List ℕ) : Type 0 where
-  pub on-card : 512 * m + 512 ≤ length c
+  pub on-card : blockSize * m + blockSize ≤ length c
   pub flags : d .beta .0 ≤ length seen
   pub rising : d .alpha .0 ≤ d .beta .0
   pub group : i < phiSize
@@ -77,19 +78,19 @@ namedTable c d i m = pick (eqb m 0) [] (tableNamings c d i m tableSize 0)
 
 -- what the walk over the tables of a layout 1 descriptor needs: the region is one on the card, with its n tables
 pub record TablesReady (c : List ℕ) (d : Descriptor) (n : ℕ) (seen : List ℕ) : Type 0 where
-  pub on-card : 512 * d .beta .0 ≤ length c
+  pub on-card : blockSize * d .beta .0 ≤ length c
   pub flags : d .beta .0 ≤ length seen
   pub region : d .alpha .0 + 1 + n ≤ d .beta .0
-  pub small : d .beta .0 ≤ 65536
+  pub small : d .beta .0 ≤ mostBlocks
   pub groups : n ≤ phiSize
   pub layout : d .layout ≡ 1
 
 -- what the walk over Phi needs: the region is one on the card, and n is the number of its tables
 pub record PhiReady (c : List ℕ) (d : Descriptor) (n : ℕ) (seen : List ℕ) : Type 0 where
-  pub on-card : 512 * d .beta .0 ≤ length c
+  pub on-card : blockSize * d .beta .0 ≤ length c
   pub flags : d .beta .0 ≤ length seen
   pub region : d .alpha .0 < d .beta .0
-  pub small : d .beta .0 ≤ 65536
+  pub small : d .beta .0 ≤ mostBlocks
   pub tables : n ≡ tableCount (d .volume)
   pub groups : n ≤ phiSize
   pub layout : d .layout ≡ 2
@@ -99,7 +100,7 @@ pub record CheckReady (c : List ℕ) (d : Descriptor) (seen : List ℕ) : Type 0
   pub starts : List ℕ
   pub count : ℕ
   pub through : Through c starts count d
-  pub flags : length c ≤ 512 * length seen
+  pub flags : length c ≤ blockSize * length seen
 
 -- flags that are ready for a turn: they say which set blocks are in an opening or among the values named before in this turn, an opening has its own flag, and no other flag is above the turn
 pub record Marks (ds : List Descriptor) (turn : ℕ) (seen before : List ℕ) : Type 0 where

@@ -114,14 +114,14 @@ fn fill_64(card: &[u8], starts: &[u32], records: [Record; 64], n: usize) -> [Rec
 }
 
 // What a listing into 64 records of one's own gives: `count` of them are filled.
-pub struct Listed {
+pub struct List64 {
     pub answer: Answer,
     pub count: usize,
     pub records: [Record; 64],
 }
 
 // The same listing, into an array of 64 records by value.
-pub fn list_64(card: &[u8], records: [Record; 64]) -> Listed
+pub fn list_64(card: &[u8], records: [Record; 64]) -> List64
     ensures { λ r. ⌜ done (r .answer) (Records (r .records)) (now (card .entry)) ≡ step (Listing records) (now (card .entry)) ⌝ }
     ensures { λ r. ⌜ (r .count ≡ planOf (now (card .entry)) records .count) × (r .count ≤ 64) ⌝ }
 {
@@ -129,7 +129,7 @@ pub fn list_64(card: &[u8], records: [Record; 64]) -> Listed
     let answer = p.answer;
     let count = p.count;
     let filled = fill_64(card, &p.starts, records, count);
-    Listed {
+    List64 {
         answer,
         count,
         records: filled,

@@ -17,13 +17,21 @@ plan-filling-requires : tie.Need-plan-filling-requires
 plan-filling-requires c κs = search needs
 
 fill-bytes-requires : tie.Need-fill-bytes-requires
-fill-bytes-requires c κs = filling-fits _ (c .before .before .before .before .before .before .before .before .before .before .before .before .args .records .now) _ (c .before .before .before .before .before .before .before .before .before .admit .ensures) (c .before .before .before .before .before .before .before .if1 .left) _ (c .before .before .before .before .before .before .walk-chain .ensures) _ (c .before .before .before .before .plan-filling .ensures)
+fill-bytes-requires c κs =
+    let p = c .before .before .before .before in
+    let w = p .before .before in
+    let a = w .before .before .before in
+    filling-fits _ (a .before .before .before .args .records .now) _ (a .admit .ensures) (w .before .if1 .left) _ (w .walk-chain .ensures) _ (p .plan-filling .ensures)
 
 same-length : tie.Need-same-length
 same-length c = search needs
 
 returns-2 : tie.Need-returns-2
-returns-2 c = listing-done _ _ _ (c .before .before .before .before .before .before .before .before .before .before .before .before .admit .ensures) (c .before .before .before .before .before .before .before .before .before .before .if1 .left) _ (c .before .before .before .before .before .before .before .before .before .walk-chain .ensures) _ (c .before .before .before .before .before .before .before .plan-filling .ensures) _ (c .before .before .fill-bytes .ensures)
+returns-2 c =
+    let p = c .before .before .before .before .before .before .before in
+    let w = p .before .before in
+    let a = w .before .before .before in
+    listing-done _ _ _ (a .admit .ensures) (w .before .if1 .left) _ (w .walk-chain .ensures) _ (p .plan-filling .ensures) _ (c .before .before .fill-bytes .ensures)
 
 pub mantreuy-list-spec : {M : Type 1} → statement M
 mantreuy-list-spec = tie.close (tie.spec admit-requires returns walk-chain-requires plan-filling-requires fill-bytes-requires same-length returns-2)

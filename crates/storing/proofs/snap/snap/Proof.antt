@@ -86,7 +86,9 @@ same-length-6 c = search needs
 returns-6 : tie.Need-returns-6
 unfolding lentOf
 returns-6 c =
-    step-refused _ _ _ _ (snap-11 _ _ _ (past-chain (c .before .before .before .before .before .before .before .before .before .before .before)) _ (c .before .before .before .before .before .before .is-named .ensures) (c .before .before .before .before .before .if4 .left) (c .before .before .before .before .if5 .left) _ (c .before .before .opening-cost .ensures) (c .if6 .taken)) refl
+    let j = c .before .before in
+    let i = j .before .before .before .before in
+    step-refused _ _ _ _ (snap-11 _ _ _ (past-chain (i .before .before .before .before .before)) _ (i .is-named .ensures) (j .before .before .before .if4 .left) (j .before .before .if5 .left) _ (j .opening-cost .ensures) (c .if6 .taken)) refl
 
 take-snapshot-requires : tie.Need-take-snapshot-requires
 take-snapshot-requires c κs =
@@ -102,10 +104,14 @@ same-length-7 c = search needs
 returns-7 : tie.Need-returns-7
 unfolding filledOf givenOf
 returns-7 c =
+    let k = c .before .before .before .before in
+    let j = k .before .before in
+    let i = j .before .before .before .before in
+    let past = past-chain (i .before .before .before .before .before) in
     step-accepted _ _
-    (snap-0 _ _ _ (past-chain (c .before .before .before .before .before .before .before .before .before .before .before .before .before .before .before)) _ (c .before .before .before .before .before .before .before .before .before .before .is-named .ensures) (c .before .before .before .before .before .before .before .before .before .if4 .left) (c .before .before .before .before .before .before .before .before .if5 .left) _ (c .before .before .before .before .before .before .opening-cost .ensures) (c .before .before .before .before .if6 .left))
+    (snap-0 _ _ _ past _ (i .is-named .ensures) (j .before .before .before .if4 .left) (j .before .before .if5 .left) _ (j .opening-cost .ensures) (k .if6 .left))
     _ refl _
-    (snap-stores _ _ _ (past-chain (c .before .before .before .before .before .before .before .before .before .before .before .before .before .before .before)) _ (c .before .before .before .before .before .before .before .before .before .before .is-named .ensures) (c .before .before .before .before .before .before .before .before .before .if4 .left) (c .before .before .before .before .before .before .before .before .if5 .left) _ (c .before .before .before .before .before .before .opening-cost .ensures) _ (c .before .before .take-snapshot .ensures))
+    (snap-stores _ _ _ past _ (i .is-named .ensures) (j .before .before .before .if4 .left) (j .before .before .if5 .left) _ (j .opening-cost .ensures) _ (c .before .before .take-snapshot .ensures))
     refl
 
 pub snap-spec : {M : Type 1} → statement M
