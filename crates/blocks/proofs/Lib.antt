@@ -11,3 +11,4 @@ pub mod ChainLaws
 pub mod LinkedLaws
 pub mod StoreLists
 pub mod StoredLaws
+pub mod SharedLaws

@@ -6,10 +6,10 @@ use Prim.Native.Nat.{ℕ, suc, _+_, _*_, _-_, _/_, _≤_, _<_}
 use native.Mathlib.Omega.{arith}
 use lib.ListN.{length, take, getD}
 use lib.Seq.{length-take-le, getD-take}
-use lib.Dec.{ltb}
-use borrow.Author.Tests.{leb-false, not-false}
+use lib.Dec.{ltb, eqb}
+use borrow.Author.Tests.{leb-false, not-false, eqb-false}
 use Rattle.blocks.specs.Pick.{pick}
-use Rattle.blocks.specs.Bytes.{part, blockCount, blockAt}
+use Rattle.blocks.specs.Bytes.{part, blockCount, blockAt, zeroBlock}
 use Rattle.blocks.specs.Descriptor.{noDescriptor, descriptorAt}
 use Rattle.blocks.specs.Chain.{Sound, chain, named, activeOf, indexOf}
 use Rattle.blocks.specs.declared.descriptor.Descriptor.{Descriptor}
@@ -20,6 +20,9 @@ use Rattle.blocks.proofs.SoundLaws.{form-most}
 use Rattle.blocks.proofs.LinkedLaws.{Linked, chain-linked, chain-few, regionStart, region-start-zero, region-start-suc, linked-some, linked-end, linked-rise, linked-at, RegionAt, at-alpha, at-long, active-at}
 use Rattle.entries.specs.Entry.{find, need}
 use Rattle.entries.specs.declared.find.Found.{Found}
+use Rattle.entries.specs.declared.find.Found.the-variants.{Misplaced, Entry}
+use Rattle.entries.proofs.EntryLaws.{find-placed, placed-below}
+use Rattle.blocks.specs.declared.numbers.Physical.{Physical}
 use Rattle.calls.specs.declared.answer.Answer.{Answer}
 use Rattle.calls.specs.declared.answer.Target.{Target}
 use Rattle.calls.specs.declared.answer.Target.the-variants.{Active, Snapshot}
@@ -31,8 +34,8 @@ use Rattle.calls.specs.Meaning.{filledOf}
 use Rattle.claims.specs.History.{betaOf, Agree}
 use Rattle.calls.proofs.CardLaws.{snapshots-at, chain-is}
 use Rattle.calls.proofs.Passed.{ReadPassed}
-use Rattle.claims.proofs.Local.{Below, below-linked, linked-chain}
-use Rattle.claims.proofs.LocalEntries.{Region, local-find, local-block, local-check}
+use Rattle.blocks.proofs.SharedLaws.{Below, below-linked, linked-chain}
+use Rattle.entries.proofs.LocalLaws.{Region, local-find, local-check}
 use Rattle.entries.proofs.TableLaws.{own-inside, few-tables}
 use Rattle.calls.specs.declared.answer.Record.{Record}
 use Rattle.blocks.specs.declared.descriptor.Format.{Format}
@@ -51,6 +54,20 @@ end-active (d ∷ ds) h = end-from 0 d ds
 taken-block : (s : List ℕ) (b p : ℕ) → p < b → 512 * b ≤ length s → blockAt s p ≡ part (take (512 * b) s) (512 * p) 512
 unfolding blockAt
 taken-block s b p h l = let e : 0 + 512 * p ≡ 512 * p = omega arith in sym (part-part s 0 (512 * b) (512 * p) 512 (omega arith) (omega arith) ∙ ap (λ (n : ℕ). part s n 512) e)
+
+-- the block found through a descriptor whose region lies below b is the same on two cards with the same blocks below b
+module _ (s t : List ℕ) (b : ℕ) (below : Below s t b) (d : Descriptor) (region : Region d b) (ds : List Descriptor) where
+  block-by : (f : Found) → ((m p : Physical) → f ≡ Entry m p → (p .0 ≡ 0 → ⊥) → p .0 < b) → blockFound s f ≡ blockFound t f
+  unfolding blockFound
+  block-by (Misplaced h) inside = refl
+  block-by (Entry m p) inside = by (eqb (p .0) 0) refl
+    where
+      by : (z : Bool) → eqb (p .0) 0 ≡ z → pick z zeroBlock (blockAt s (p .0)) ≡ pick z zeroBlock (blockAt t (p .0))
+      by true e = refl
+      by false e = below .blocks (p .0) (inside m p refl (eqb-false (p .0) 0 e))
+
+  local-block : (l : ℕ) → blockFound s (find s ds d l) ≡ blockFound t (find s ds d l)
+  local-block l = block-by (find s ds d l) (λ m p e n. omega (arith, placed-below ds d (p .0) (find-placed s ds d l m p e) n, region .upto))
 
 -- rows that are the same as far as they decide
 pub data SameRows : List Row → List Row → Type 0 where

@@ -20,7 +20,7 @@ use Rattle.blocks.proofs.DescriptorLaws.{Fits}
 use Rattle.blocks.proofs.NamedLaws.{named-none, named-cons}
 use Rattle.blocks.proofs.ChainLaws.{region-layout, region-volume, region-end, region-long, cost-least}
 use Rattle.blocks.proofs.LinkedLaws.{Linked, last, chain-linked, sound-form, sound-region}
-use Rattle.claims.proofs.Local.{linked-chain, shared-descriptor}
+use Rattle.blocks.proofs.SharedLaws.{linked-chain, shared-descriptor}
 use Rattle.claims.proofs.Relinked.{linked-from, linked-head, relinked}
 use Rattle.blocks.proofs.StoredLaws.{stored-descriptor, stored-form, region-ok}
 

@@ -35,7 +35,7 @@ use Rattle.claims.specs.History.{formattable, formatted}
 use Rattle.claims.specs.Ledger.{cellsFrom, volumeOf, volumesOf, ledgerOf}
 use Rattle.claims.specs.Claims.{FormatClaim}
 use Rattle.calls.proofs.CardLaws.{card-most}
-use Rattle.claims.proofs.Local.{linked-chain}
+use Rattle.blocks.proofs.SharedLaws.{linked-chain}
 use Rattle.blocks.proofs.StoredLaws.{block-tail, stored-descriptor, stored-bytes, stored-mark, region-ok}
 use Rattle.claims.proofs.Changed.{layout-small}
 use Rattle.blocks.proofs.StoreLists.{isStored, stored-length, stored-other, stored-append, stored-one}

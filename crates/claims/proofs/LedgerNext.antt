@@ -26,15 +26,15 @@ use Rattle.calls.specs.Effect.{reverting, revertStores}
 use Rattle.claims.specs.History.{betaOf}
 use Rattle.blocks.proofs.BoolLaws.{no}
 use Rattle.blocks.proofs.LinkedLaws.{linked-at, linked-rise, at-alpha}
-use Rattle.claims.proofs.LocalEntries.{Region}
+use Rattle.entries.proofs.LocalLaws.{Region, phi-shared}
 use Rattle.claims.proofs.Agreement.{agree-region}
 use Rattle.blocks.proofs.StoreLists.{stored-other}
 use Rattle.claims.proofs.ChainAfter.{before, behind, snapshots-snoc, link-inside, one-stored, revert-split, reverted-chain, fits, block, same-long, whole}
 use Rattle.claims.proofs.SoundStep.{agree-self}
 use Rattle.claims.proofs.LedgerFacts.{linked-of, beta-upto, passing-found, volume-named}
-use Rattle.claims.proofs.Local.{shared-number}
+use Rattle.blocks.proofs.SharedLaws.{shared-number}
 use Rattle.blocks.proofs.ChainLaws.{active-snoc, descriptors-are}
-use Rattle.entries.proofs.TableLaws.{fewer-placed, placed-apart, table-own, group-below, group-below, phi-stored}
+use Rattle.entries.proofs.TableLaws.{fewer-placed, placed-apart, table-own, table-as, group-below, phi-stored}
 use Rattle.calls.proofs.Passed.{RevertPassed}
 use Rattle.claims.specs.Kinds.{Reverts}
 
@@ -144,18 +144,6 @@ blocks-long c b h = omega arith
 
 groups-few : (l v : ℕ) → l < v → tableCount v ≤ 112 → l / 128 < 112
 groups-few l v h f = omega (arith, group-below l v h)
-
-table-as : (s t : List ℕ) (d e : Descriptor) (i : ℕ) → e .layout ≡ d .layout → e .alpha ≡ d .alpha → phiAt t e i ≡ phiAt s d i → tableOf t e i ≡ tableOf s d i
-unfolding tableOf
-table-as s t d e i a b h =
-    ap (λ (x : ℕ). pick (eqb x 1) (e .alpha .0 + 1 + i) (phiAt t e i)) a ∙ ap (λ (x : Physical). pick (eqb (d .layout) 1) (x .0 + 1 + i) (phiAt t e i)) b
-    ∙ ap (λ (x : ℕ). pick (eqb (d .layout) 1) (d .alpha .0 + 1 + i) x) h
-
-phi-shared : (c t : List ℕ) (d : Descriptor) (i : ℕ) → 512 * d .alpha .0 + 512 ≤ length c → length c ≡ length t → blockAt t (d .alpha .0) ≡ blockAt c (d .alpha .0) → i < 112 → phiAt t d i ≡ phiAt c d i
-unfolding phiAt
-phi-shared c t d i inside long h l =
-    let e : 512 * d .alpha .0 + 64 + 4 * i ≡ 512 * d .alpha .0 + (64 + 4 * i) = omega arith in
-    rw e (shared-number t c (d .alpha .0) (omega arith) inside h (64 + 4 * i) (omega arith))
 
 module _ (c name : List ℕ) (p : Passes c) (acc : RevertPassed c name) where
   abbrev ds : List Descriptor

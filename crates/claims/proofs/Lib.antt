@@ -4,8 +4,6 @@ pub mod Bench
 pub mod Example
 pub mod Areas
 pub mod Rows
-pub mod Local
-pub mod LocalEntries
 pub mod Relinked
 pub mod Agreement
 pub mod Changed
@@ -37,7 +35,6 @@ pub mod Rollback
 pub mod Demand
 pub mod NotEmpty
 pub mod LedgerAnswers
-pub mod FoundEntry
 pub mod PassesAfter
 pub mod PassesSnapped
 pub mod PassesWrite

@@ -25,7 +25,7 @@ use Rattle.entries.proofs.EntryLaws.{placed-below}
 use Rattle.calls.specs.Parts.{descriptorsOf, snapshotsOf, withName}
 use Rattle.calls.specs.Check.{Passes}
 use Rattle.calls.specs.Effect.{revertStores}
-use Rattle.claims.proofs.Local.{shared-number}
+use Rattle.blocks.proofs.SharedLaws.{shared-number}
 use Rattle.blocks.proofs.StoredLaws.{block-tail, stored-bytes, tail-part}
 use Rattle.blocks.proofs.StoreLists.{stored-other}
 use Rattle.claims.proofs.ChainAfter.{before, behind, sound-is, link-inside, one-stored, revert-split, stores-are, whole, fits, tail, block, same-long, reverted-chain}

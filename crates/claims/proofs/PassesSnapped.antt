@@ -27,7 +27,7 @@ use Rattle.entries.proofs.EntryLaws.{placed-below}
 use Rattle.calls.specs.Parts.{descriptorsOf, snapshotsOf}
 use Rattle.calls.specs.Check.{Passes}
 use Rattle.calls.specs.Effect.{snapStores}
-use Rattle.claims.proofs.Local.{shared-number}
+use Rattle.blocks.proofs.SharedLaws.{shared-number}
 use Rattle.blocks.proofs.StoredLaws.{block-tail, stored-bytes, tail-part}
 use Rattle.blocks.proofs.StoreLists.{Whole, none, also, isStored, stored-join, stored-length, stored-other, stored-append}
 use Rattle.claims.proofs.ChainAfter.{sound-is, copies-stored}

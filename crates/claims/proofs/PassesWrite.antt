@@ -33,8 +33,8 @@ use Rattle.claims.proofs.Inside.{write-whole}
 use Rattle.claims.proofs.ChainAfter.{active-split}
 use Rattle.claims.proofs.WrittenChain.{active-rise, active-inside, written-chain}
 use Rattle.claims.proofs.Kept.{writing-above}
-use Rattle.claims.proofs.Local.{shared-number, Below}
-use Rattle.claims.proofs.LocalEntries.{Region, local-entry, local-phi, local-table}
+use Rattle.blocks.proofs.SharedLaws.{shared-number, Below}
+use Rattle.entries.proofs.LocalLaws.{Region, local-entry, local-phi, local-table}
 use Rattle.entries.proofs.TableLaws.{table-two, under}
 use Rattle.calls.proofs.Passed.{WritePassed}
 

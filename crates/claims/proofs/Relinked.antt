@@ -12,7 +12,7 @@ use Rattle.blocks.specs.Chain.{sound}
 use Rattle.blocks.specs.declared.descriptor.Descriptor.{Descriptor}
 use Rattle.blocks.proofs.ChainLaws.{cost-least}
 use Rattle.blocks.proofs.LinkedLaws.{Linked, last, more, sound-alpha, sound-long, sound-next, linked-some}
-use Rattle.claims.proofs.Local.{shared-descriptor, shared-sound}
+use Rattle.blocks.proofs.SharedLaws.{shared-descriptor, shared-sound}
 
 -- where the descriptors of a chain stand
 module _ (s : List ℕ) where

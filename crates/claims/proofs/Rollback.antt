@@ -23,7 +23,7 @@ use Rattle.calls.specs.Meaning.{answerOf, storesOf}
 use Rattle.calls.specs.Step.{step, after, isAccepted}
 use Rattle.claims.specs.History.{betaOf, Agree, AreBytes, Standing, without, isSnapOf}
 use Rattle.claims.specs.Claims.{Unsnapped, LastSnap, Matched, RevertedAt}
-use Rattle.claims.proofs.Local.{shared-bytes}
+use Rattle.blocks.proofs.SharedLaws.{shared-bytes}
 use Rattle.calls.proofs.CardLaws.{chain-is}
 use Rattle.calls.proofs.StepLaws.{accepted-card}
 use Rattle.claims.proofs.Changed.{member-fresh, member-inside}

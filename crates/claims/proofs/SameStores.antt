@@ -23,7 +23,7 @@ use Rattle.calls.specs.declared.answer.Target.the-variants.{Active}
 use Rattle.calls.specs.Parts.{descriptorsOf, snapshotsOf, withName, foundThrough}
 use Rattle.calls.specs.Effect.{snapping, reverting, writeStores, snapStores, revertStores}
 use Rattle.claims.specs.History.{betaOf, Agree}
-use Rattle.claims.proofs.Local.{shared-bytes}
+use Rattle.blocks.proofs.SharedLaws.{shared-bytes}
 use Rattle.claims.proofs.Agreement.{agree-below, agree-chain, found-same, active-target}
 use Rattle.blocks.proofs.StoreLists.{isStored, stored-join}
 use Rattle.claims.proofs.Inside.{active-through}

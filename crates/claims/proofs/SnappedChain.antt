@@ -23,7 +23,7 @@ use Rattle.blocks.proofs.LinkedLaws.{last, more, chain-linked}
 use Rattle.calls.specs.Parts.{areaBad, descriptorsOf, snapshotsOf}
 use Rattle.calls.specs.Effect.{snapping, snapStores}
 use Rattle.calls.proofs.Passed.{SnapPassed}
-use Rattle.claims.proofs.Local.{linked-chain}
+use Rattle.blocks.proofs.SharedLaws.{linked-chain}
 use Rattle.claims.proofs.Relinked.{linked-next, relinked}
 use Rattle.blocks.proofs.StoredLaws.{block-long, stored-descriptor, stored-form, region-ok}
 use Rattle.claims.proofs.Changed.{named-append, named-left, member-from, changed-first, changed-ok}

@@ -35,10 +35,10 @@ use Rattle.blocks.proofs.StoredLaws.{stored-bytes, block-tail}
 use Rattle.blocks.proofs.StoreLists.{Whole, isStored, stored-length, stored-other}
 use Rattle.claims.proofs.Inside.{write-whole}
 use Rattle.claims.proofs.ChainAfter.{active-split, none-stored}
-use Rattle.claims.proofs.WrittenChain.{stored-last, not-stored, ds-some, active-next, active-form, active-rise, active-volume, active-name, placed-not-active, table-own, new-table}
+use Rattle.claims.proofs.WrittenChain.{stored-last, not-stored, ds-some, active-next, active-form, active-rise, active-volume, active-name, placed-not-active, new-table}
 use Rattle.claims.proofs.Format.{zero-number}
-use Rattle.claims.proofs.FoundEntry.{found-table}
-use Rattle.claims.proofs.LocalEntries.{Region}
+use Rattle.entries.proofs.FoundLaws.{found-holder, found-own}
+use Rattle.entries.proofs.LocalLaws.{Region}
 use Rattle.claims.proofs.PassesAfter.{number-of}
 use Rattle.claims.proofs.PassesSnapped.{block-entry}
 use Rattle.claims.proofs.PassesWrite.{extended-stays, extended-new, write-region, set-table-rules, set-phi-rules}
@@ -276,7 +276,7 @@ need-new alpha m p e = two-new (tableIsNew alpha (m .0)) (need alpha (Entry m p)
 -- which arises only in layout 2
 new-layout : (c : List ℕ) (ds : List Descriptor) (d : Descriptor) (l : ℕ) (m p : Physical) → find c ds d l ≡ Entry m p → tableIsNew (d .alpha .0) (m .0) ≡ true
     → (o : Bool) → eqb (d .layout) 1 ≡ o → o ≡ false
-new-layout c ds d l m p is e true h = no (sym (new-table (d .alpha .0) (m .0) (omega (arith, table-own c ds d l m p is h))) ∙ e)
+new-layout c ds d l m p is e true h = no (sym (new-table (d .alpha .0) (m .0) (omega (arith, found-own c ds d l m p is h))) ∙ e)
 new-layout c ds d l m p is e false h = refl
 
 -- the stores of a write of two blocks
@@ -391,7 +391,7 @@ module _ (c : List ℕ) (passes : Passes c) (l : ℕ) (block : List ℕ) (ok : W
         (not-stored (act .alpha .0) head-bytes [] (act .beta .0) (λ v. omega (arith, v, rise)) (none-stored (act .beta .0)))
         c refl (store (act .beta .0 + 1) block ∷ []) whole)
         (stored-last (length c) (act .alpha .0) head-bytes [] (none-stored (act .alpha .0)) c refl (store (act .beta .0 + 1) block ∷ store (act .beta .0) new-bytes ∷ []) whole)
-        (λ q h n. stored-other (length c) c refl whole q (not-in q h n)) (found-table c chn act l m p is)
+        (λ q h n. stored-other (length c) c refl whole q (not-in q h n)) (found-holder c chn act l m p is)
         act-wider act-new (extended-new snaps act 2 1 (omega arith) regions) (placed-not-active chn chn-some) act-rules
 
     pub new-two : WriteFacts c (storeAll c (writeStores c l block)) (snaps ++ (extendedOf act 2 ∷ [])) act (extendedOf act 2) l block

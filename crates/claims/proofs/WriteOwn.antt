@@ -35,10 +35,10 @@ use Rattle.claims.proofs.Changed.{layout-small, member-form}
 use Rattle.blocks.proofs.StoreLists.{Whole, stored-length, stored-other}
 use Rattle.claims.proofs.Inside.{write-whole}
 use Rattle.claims.proofs.ChainAfter.{active-split, fits-of, none-stored, one-stored}
-use Rattle.claims.proofs.LocalEntries.{Region}
+use Rattle.entries.proofs.LocalLaws.{Region}
 use Rattle.claims.proofs.WrittenChain.{stored-last, not-stored, extended-none, placed-not-active, old-table, need-nothing}
 use Rattle.claims.proofs.WrittenChain.{active-next, active-inside, active-long, active-rise, active-end, active-volume, active-name}
-use Rattle.claims.proofs.FoundEntry.{found-table, found-entry}
+use Rattle.entries.proofs.FoundLaws.{found-holder, found-value}
 use Rattle.claims.proofs.PassesSnapped.{block-entry}
 use Rattle.claims.proofs.PassesWrite.{extended-stays, extended-new, write-region, set-table-rules, set-phi-rules, kept-entry, kept-rules}
 use Rattle.claims.proofs.WriteFacts.{WriteFacts}
@@ -177,10 +177,10 @@ module _ (c : List ℕ) (ds : List Descriptor) (chained : chain c ≡ Sound ds) 
     b = d .beta .0
 
     entry-is : entryOf c d l ≡ p .0
-    entry-is = found-entry c ds d l m p is
+    entry-is = found-value c ds d l m p is
 
     table-is : m .0 ≡ tableOf c d (l / 128)
-    table-is = found-table c ds d l m p is
+    table-is = found-holder c ds d l m p is
 
     group : l / 128 < n
     group = group-below l (d .volume) below

@@ -24,22 +24,22 @@ use Rattle.blocks.proofs.ChainLaws.{region-long, region-end, cost-least}
 use Rattle.blocks.proofs.LinkedLaws.{Linked, last, chain-linked, chain-few, linked-some}
 use Rattle.blocks.proofs.NameLaws.{name-size}
 use Rattle.entries.specs.InPlace.{isDescriptor, inPlace}
-use Rattle.entries.specs.Entry.{tableOf, entryAt, entryFound, find, tableIsNew, need, tableWith, tailWith, setInTable, setInNewTable, writing}
+use Rattle.entries.specs.Entry.{find, tableIsNew, need, tableWith, tailWith, setInTable, setInNewTable, writing}
 use Rattle.entries.specs.declared.find.Found.{Found}
 use Rattle.entries.specs.declared.find.Found.the-variants.{Misplaced, Entry}
-use Rattle.entries.proofs.EntryLaws.{find-placed, placed-other, entry-table, need-more}
+use Rattle.entries.proofs.EntryLaws.{find-placed, placed-other, need-more}
 use Rattle.entries.proofs.SetLaws.{tail-with-length}
 use Rattle.calls.specs.Parts.{descriptorsOf, snapshotsOf, foundThrough, isMisplaced}
 use Rattle.calls.specs.Effect.{writeStores}
 use Rattle.calls.proofs.CardLaws.{card-most, chain-is}
-use Rattle.claims.proofs.Local.{linked-chain, shared-descriptor, shared-sound}
+use Rattle.blocks.proofs.SharedLaws.{linked-chain, shared-descriptor, shared-sound}
 use Rattle.claims.proofs.Relinked.{linked-from, linked-head, relinked, linked-next}
 use Rattle.blocks.proofs.StoredLaws.{tail-part, form-kept, form-phi, form-name}
 use Rattle.claims.proofs.Changed.{layout-small, member-form, member-region, member-fresh, member-inside, changed-last}
 use Rattle.blocks.proofs.StoreLists.{Whole, also, isStored, stored-length, stored-other}
 use Rattle.claims.proofs.Inside.{write-whole}
 use Rattle.claims.proofs.ChainAfter.{active-split, none-stored}
-use Rattle.entries.proofs.TableLaws.{table-own as own-table}
+use Rattle.entries.proofs.FoundLaws.{found-own, found-placed}
 use Rattle.calls.proofs.Passed.{WritePassed}
 
 -- the first of a list of whole-block stores, and the others
@@ -203,31 +203,6 @@ placed-not-active ds h p placed n e =
     let f : isDescriptor ds p ≡ true = subst (λ (q : ℕ). isDescriptor ds q ≡ true) (sym e) (active-descriptor ds h) in
     no (sym (placed-other ds (activeOf ds) p placed n) ∙ f)
 
--- the table block of an entry that was found: in layout 1 one of the descriptor's own, in layout 2 in place
-nil-table : (ds : List Descriptor) (d : Descriptor) (m′ p : Physical) → Entry (physical 0) (physical 0) ≡ Entry m′ p → inPlace ds d (m′ .0) ≡ true
-unfolding inPlace
-nil-table ds d m′ p e = let k : physical 0 ≡ m′ = cc in let n : 0 ≡ m′ .0 = ap (λ (x : Physical). x .0) k in subst (λ (q : ℕ). inPlace ds d q ≡ true) n refl
-
-table-by : (ds : List Descriptor) (d : Descriptor) (m q : ℕ) (m′ p : Physical) (o i z : Bool) → inPlace ds d m ≡ i
-    → pick o (entryFound ds d m q) (pick i (pick z (Entry (physical 0) (physical 0)) (entryFound ds d m q)) (Misplaced (d .alpha))) ≡ Entry m′ p
-    → (o ≡ true → m′ .0 ≡ m) × (o ≡ false → inPlace ds d (m′ .0) ≡ true)
-table-by ds d m q m′ p true i z h e = (λ u. entry-table ds d m q m′ p e, λ u. no (sym u))
-table-by ds d m q m′ p false true true h e = (λ u. no u, λ u. nil-table ds d m′ p e)
-table-by ds d m q m′ p false true false h e = (λ u. no u, λ u. subst (λ (x : ℕ). inPlace ds d x ≡ true) (sym (entry-table ds d m q m′ p e)) h)
-table-by ds d m q m′ p false false z h e = let y : _≡_ {A = ℕ} 0 1 = cc in absurd (omega arith)
-
-module _ (c : List ℕ) (ds : List Descriptor) (d : Descriptor) (l : ℕ) (m p : Physical) (is : find c ds d l ≡ Entry m p) where
-  table-found : (eqb (d .layout) 1 ≡ true → m .0 ≡ tableOf c d (l / 128)) × (eqb (d .layout) 1 ≡ false → inPlace ds d (m .0) ≡ true)
-  unfolding find
-  table-found =
-      table-by ds d (tableOf c d (l / 128)) (entryAt c (tableOf c d (l / 128)) (l % 128)) m p (eqb (d .layout) 1) (inPlace ds d (tableOf c d (l / 128))) (eqb (tableOf c d (l / 128)) 0) refl is
-
-  pub table-own : eqb (d .layout) 1 ≡ true → m .0 ≡ d .alpha .0 + 1 + l / 128
-  table-own e = table-found .0 e ∙ own-table c d (l / 128) e
-
-  pub table-placed : eqb (d .layout) 1 ≡ false → inPlace ds d (m .0) ≡ true
-  table-placed e = table-found .1 e
-
 -- a table block above alpha is not new; one that is not new is set and at or above alpha
 pub new-table : (alpha m : ℕ) → alpha < m → tableIsNew alpha m ≡ false
 unfolding tableIsNew
@@ -300,10 +275,10 @@ module _ (c : List ℕ) (ds : List Descriptor) (sound-c : chain c ≡ Sound ds) 
 
   -- through a table block of the active region
   table-above-by : tableIsNew (active .alpha .0) (m .0) ≡ false → (b : Bool) → eqb (active .layout) 1 ≡ b → active .alpha .0 < m .0
-  table-above-by e true h = omega (arith, table-own c ds active l m p is h)
+  table-above-by e true h = omega (arith, found-own c ds active l m p is h)
   table-above-by e false h =
       let r = old-table (active .alpha .0) (m .0) e in
-      let n = placed-not-active ds (ds-some c ds sound-c) (m .0) (table-placed c ds active l m p is h) (r .0) in
+      let n = placed-not-active ds (ds-some c ds sound-c) (m .0) (found-placed c ds active l m p is h) (r .0) in
       omega (arith, r .1, n)
 
   through-table : tableIsNew (active .alpha .0) (m .0) ≡ false → active .beta .0 + 1 ≤ blockCount c → Whole (length c) (store (active .beta .0) block ∷ setInTable c active (m .0) l)
@@ -324,7 +299,7 @@ module _ (c : List ℕ) (ds : List Descriptor) (sound-c : chain c ≡ Sound ds) 
 
   -- through a new table block, which arises only in layout 2
   layout-by : tableIsNew (active .alpha .0) (m .0) ≡ true → (b : Bool) → eqb (active .layout) 1 ≡ b → b ≡ false
-  layout-by e true h = no (sym (new-table (active .alpha .0) (m .0) (omega (arith, table-own c ds active l m p is h))) ∙ e)
+  layout-by e true h = no (sym (new-table (active .alpha .0) (m .0) (omega (arith, found-own c ds active l m p is h))) ∙ e)
   layout-by e false h = refl
 
   through-new : tableIsNew (active .alpha .0) (m .0) ≡ true → active .beta .0 + 2 ≤ blockCount c → Whole (length c) (store (active .beta .0 + 1) block ∷ setInNewTable c active (m .0) l)

@@ -8,3 +8,5 @@ pub mod MarkLaws
 pub mod CheckLaws
 pub mod OpeningLaws
 pub mod TableLaws
+pub mod LocalLaws
+pub mod FoundLaws

@@ -18,6 +18,7 @@ use Rattle.blocks.specs.Bytes.{part, u32At, blockAt}
 use Rattle.blocks.proofs.ByteLaws.{u32-part}
 use Rattle.blocks.proofs.DescriptorLaws.{Fits, tail-length}
 use Rattle.blocks.proofs.StoredLaws.{stored-bytes, block-tail, tail-part}
+use Rattle.blocks.specs.Pick.{pick}
 
 -- fewer descriptors: what is in place stays in place
 module _ (v w : Descriptor) (ys : List Descriptor) (alpha : w .alpha ≡ v .alpha) (layout : w .layout ≡ v .layout) (volume : w .volume ≡ v .volume) (p : ℕ) where
@@ -131,3 +132,10 @@ phi-stored c t w v q inside long is f i h =
     ∙ tail-part c a (24 + 4 * i) 4 inside (omega arith) ∙ ap (λ (x : ℕ). part c x 4) m in
     ap (λ (x : Physical). u32At t (512 * x .0 + 64 + 4 * i)) q
     ∙ ap (u32At t) (sym n) ∙ sym (u32-part t (512 * a + 64 + 4 * i) 4 0 (omega arith)) ∙ ap (λ (b : List ℕ). u32At b 0) bytes ∙ u32-part c (512 * a + 64 + 4 * i) 4 0 (omega arith) ∙ ap (u32At c) n
+
+-- the same number of Phi is the same table
+pub table-as : (s t : List ℕ) (d e : Descriptor) (i : ℕ) → e .layout ≡ d .layout → e .alpha ≡ d .alpha → phiAt t e i ≡ phiAt s d i → tableOf t e i ≡ tableOf s d i
+unfolding tableOf
+table-as s t d e i a b h =
+    ap (λ (x : ℕ). pick (eqb x 1) (e .alpha .0 + 1 + i) (phiAt t e i)) a ∙ ap (λ (x : Physical). pick (eqb (d .layout) 1) (x .0 + 1 + i) (phiAt t e i)) b
+    ∙ ap (λ (x : ℕ). pick (eqb (d .layout) 1) (d .alpha .0 + 1 + i) x) h

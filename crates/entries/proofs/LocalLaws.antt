@@ -1,4 +1,4 @@
--- Locality of entries: what is found, read and checked through a descriptor depends on the blocks below its beta alone.
+-- Locality of entries: what is found and checked through a descriptor depends on the blocks below its beta alone.
 use mathlib.Core.Path.{_≡_, refl, sym, ap, _∙_}
 use mathlib.Core.Bool.{Bool, true, false, not, _&&_, _||_}
 use mathlib.Core.List.{List, [], _∷_, _++_}
@@ -7,19 +7,17 @@ use native.Mathlib.Omega.{arith}
 use lib.Dec.{eqb, ltb, leb}
 use borrow.Author.Tests.{eq-eqb, eqb-true, eqb-false}
 use Rattle.blocks.specs.Pick.{pick}
-use Rattle.blocks.specs.Bytes.{u32At, blockAt, zeroBlock}
+use Rattle.blocks.specs.Bytes.{u32At, blockAt}
 use Rattle.blocks.specs.Descriptor.{physical, tableCount}
-use Rattle.blocks.specs.declared.numbers.Physical.{Physical}
 use Rattle.blocks.specs.declared.descriptor.Descriptor.{Descriptor}
 use Rattle.entries.specs.InPlace.{inPlace}
 use Rattle.entries.specs.Entry.{entryAt, phiAt, tableOf, entryFound, find}
 use Rattle.entries.specs.Naming.{Naming, tableNamings, tablesNamings, phiNamings, namings, among, atFault, firstFault, checkOne}
-use Rattle.entries.specs.declared.find.Found.{Found}
 use Rattle.entries.specs.declared.find.Found.the-variants.{Misplaced, Entry}
-use Rattle.entries.proofs.EntryLaws.{placed-below, find-placed}
+use Rattle.entries.proofs.EntryLaws.{placed-below}
 use Rattle.entries.proofs.CheckLaws.{fault-later, fault-here}
-use Rattle.calls.specs.Parts.{blockFound}
-use Rattle.claims.proofs.Local.{shared-number, Below}
+use Rattle.blocks.proofs.SharedLaws.{shared-number, Below}
+use lib.ListN.{length}
 
 -- a descriptor whose region lies below b, with its own tables in layout 1
 pub record Region (d : Descriptor) (b : ℕ) : Type 0 where
@@ -31,6 +29,13 @@ pub record Region (d : Descriptor) (b : ℕ) : Type 0 where
 own-at : (t : List ℕ) (d : Descriptor) (i : ℕ) {b : ℕ} → d .layout ≡ 1 → d .alpha .0 + 1 + i < b → tableOf t d i < b
 unfolding tableOf
 own-at t d i e h = rw (eq-eqb (d .layout) 1 e) h
+
+-- Phi of a descriptor block that two cards share
+pub phi-shared : (c t : List ℕ) (d : Descriptor) (i : ℕ) → 512 * d .alpha .0 + 512 ≤ length c → length c ≡ length t → blockAt t (d .alpha .0) ≡ blockAt c (d .alpha .0) → i < 112 → phiAt t d i ≡ phiAt c d i
+unfolding phiAt
+phi-shared c t d i inside long h l =
+    let e : 512 * d .alpha .0 + 64 + 4 * i ≡ 512 * d .alpha .0 + (64 + 4 * i) = omega arith in
+    rw e (shared-number t c (d .alpha .0) (omega arith) inside h (64 + 4 * i) (omega arith))
 
 module _ (s t : List ℕ) (b : ℕ) (below : Below s t b) where
   below-number : (p k : ℕ) → p < b → k + 4 ≤ 512 → u32At s (512 * p + k) ≡ u32At t (512 * p + k)
@@ -70,19 +75,6 @@ module _ (s t : List ℕ) (b : ℕ) (below : Below s t b) where
       local-find l h =
           rw (local-table (l / 128) (omega (arith, region .few)))
           (found-by (tableOf t d (l / 128)) (l % 128) (omega arith) (eqb (d .layout) 1) (inPlace ds d (tableOf t d (l / 128))) (eqb (tableOf t d (l / 128)) 0) (own-below l h) refl refl)
-
-      -- the block found
-      block-by : (f : Found) → ((m p : Physical) → f ≡ Entry m p → (p .0 ≡ 0 → ⊥) → p .0 < b) → blockFound s f ≡ blockFound t f
-      unfolding blockFound
-      block-by (Misplaced h) inside = refl
-      block-by (Entry m p) inside = by (eqb (p .0) 0) refl
-        where
-          by : (z : Bool) → eqb (p .0) 0 ≡ z → pick z zeroBlock (blockAt s (p .0)) ≡ pick z zeroBlock (blockAt t (p .0))
-          by true e = refl
-          by false e = below .blocks (p .0) (inside m p refl (eqb-false (p .0) 0 e))
-
-      pub local-block : (l : ℕ) → blockFound s (find s ds d l) ≡ blockFound t (find s ds d l)
-      local-block l = block-by (find s ds d l) (λ m p e n. omega (arith, placed-below ds d (p .0) (find-placed s ds d l m p e) n, region .upto))
 
       -- check: a table is walked only if the entry that names it is in place
       pub local-table-namings : (i m : ℕ) → m < b → (k j : ℕ) → k + j ≤ 128 → tableNamings s d i m k j ≡ tableNamings t d i m k j

@@ -1,8 +1,8 @@
 -- What find gives of a logical block is its entry, and the table block that holds it.
-use mathlib.Core.Path.{_≡_, refl, sym, ap, _∙_}
+use mathlib.Core.Path.{_≡_, refl, sym, ap, subst, _∙_}
 use mathlib.Core.Bool.{Bool, true, false}
 use mathlib.Core.List.{List}
-use Prim.Native.Nat.{ℕ, _/_, _%_}
+use Prim.Native.Nat.{ℕ, _+_, _/_, _%_}
 use native.Mathlib.Omega.{arith}
 use lib.Dec.{eqb}
 use borrow.Author.Tests.{eqb-true}
@@ -11,11 +11,11 @@ use Rattle.blocks.specs.Descriptor.{physical}
 use Rattle.blocks.specs.declared.numbers.Physical.{Physical}
 use Rattle.blocks.specs.declared.descriptor.Descriptor.{Descriptor}
 use Rattle.blocks.proofs.BoolLaws.{no}
 use Rattle.entries.specs.InPlace.{inPlace}
 use Rattle.entries.specs.Entry.{tableOf, entryAt, entryFound, find}
 use Rattle.entries.specs.Rules.{entryOf}
 use Rattle.entries.specs.declared.find.Found.the-variants.{Misplaced, Entry}
-use Rattle.entries.proofs.TableLaws.{own-set}
+use Rattle.entries.proofs.TableLaws.{own-set, table-own}
 
 -- the parts of an entry that was found
 parts-of : (m′ p : Physical) (m q : ℕ) → Entry (physical m) (physical q) ≡ Entry m′ p → (m′ .0 ≡ m) × (q ≡ p .0)
@@ -49,8 +49,31 @@ module _ (c : List ℕ) (ds : List Descriptor) (d : Descriptor) (l : ℕ) (m p :
       let n : ℕ = tableOf c d (l / 128) in
       found-by ds d n (entryAt c n (l % 128)) m p (eqb (d .layout) 1) (inPlace ds d n) (eqb n 0) (λ o. own-set c d (l / 128) o) refl is
 
-  pub found-table : m .0 ≡ tableOf c d (l / 128)
-  found-table = found-both .0
+  pub found-holder : m .0 ≡ tableOf c d (l / 128)
+  found-holder = found-both .0
 
-  pub found-entry : entryOf c d l ≡ p .0
-  found-entry = found-both .1
+  pub found-value : entryOf c d l ≡ p .0
+  found-value = found-both .1
+
+-- that table block: in layout 1 one of the descriptor's own, in layout 2 in place
+nil-table : (ds : List Descriptor) (d : Descriptor) (m′ p : Physical) → Entry (physical 0) (physical 0) ≡ Entry m′ p → inPlace ds d (m′ .0) ≡ true
+unfolding inPlace
+nil-table ds d m′ p e = let k : physical 0 ≡ m′ = cc in let n : 0 ≡ m′ .0 = ap (λ (x : Physical). x .0) k in subst (λ (q : ℕ). inPlace ds d q ≡ true) n refl
+
+table-by : (ds : List Descriptor) (d : Descriptor) (m q : ℕ) (m′ p : Physical) (o i z : Bool) → inPlace ds d m ≡ i
+    → pick o (entryFound ds d m q) (pick i (pick z (Entry (physical 0) (physical 0)) (entryFound ds d m q)) (Misplaced (d .alpha))) ≡ Entry m′ p
+    → o ≡ false → inPlace ds d (m′ .0) ≡ true
+table-by ds d m q m′ p true i z h e u = no (sym u)
+table-by ds d m q m′ p false true true h e u = nil-table ds d m′ p e
+table-by ds d m q m′ p false true false h e u = subst (λ (x : ℕ). inPlace ds d x ≡ true) (sym (through-by ds d m q m′ p e .0)) h
+table-by ds d m q m′ p false false z h e u = let y : _≡_ {A = ℕ} 0 1 = cc in absurd (omega arith)
+
+module _ (c : List ℕ) (ds : List Descriptor) (d : Descriptor) (l : ℕ) (m p : Physical) (is : find c ds d l ≡ Entry m p) where
+  pub found-own : eqb (d .layout) 1 ≡ true → m .0 ≡ d .alpha .0 + 1 + l / 128
+  found-own e = found-holder c ds d l m p is ∙ table-own c d (l / 128) e
+
+  pub found-placed : eqb (d .layout) 1 ≡ false → inPlace ds d (m .0) ≡ true
+  unfolding find
+  found-placed =
+      let n : ℕ = tableOf c d (l / 128) in
+      table-by ds d n (entryAt c n (l % 128)) m p (eqb (d .layout) 1) (inPlace ds d n) (eqb n 0) refl is
