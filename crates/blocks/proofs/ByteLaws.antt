@@ -1,8 +1,8 @@
 -- Laws of parts, splices, 32-bit numbers, blocks and stores.
-use mathlib.Core.Path.{_≡_, refl, sym, ap, _∙_}
+use mathlib.Core.Path.{_≡_, refl, sym, ap, _∙_, subst}
 use mathlib.Core.Logic.{_⊎_, inl, inr}
 use mathlib.Core.List.{List, _++_, append-assoc, append-nil, [], _∷_}
-use Prim.Native.Nat.{ℕ, _+_, _*_, _-_, _≤_, _<_, _/_, _%_, _^_, suc}
+use Prim.Native.Nat.{ℕ, _+_, _*_, _-_, _≤_, _<_, _/_, _%_, _^_, suc, zero}
 use native.Mathlib.Numerals.{add-one}
 use native.Mathlib.Omega.{arith}
 use native.Mathlib.Nat.{add-assoc, zero-add, add-zero, div-div-eq-div-mul, div-add-mod'}
@@ -11,7 +11,7 @@ use lib.Dec.{ltb}
 use borrow.Author.Tests.{ltb-true, ltb-false}
 use lib.ListN.{length, take, drop, getD, set, length-append, length-take, length-drop, List·getD-append, take-append-drop, replicate, length-replicate, getD-replicate}
 use lib.Seq.{take-length, drop-length, paste, paste-zero, paste-suc, take-at, getD-take, getD-drop, getD-append-add, ext-getD, drop-drop, take-append-add, drop-append-add, take-append-le, drop-append-le, length-take-le, take-add, drop-cons}
-use Rattle.blocks.specs.Bytes.{u32At, le32, splice, part, blockAt, storeBlock}
+use Rattle.blocks.specs.Bytes.{u32At, le32, splice, part, blockAt, storeBlock, blockCount}
 
 -- area after the first n elements of s were copied in from index at. Shut, so that `_` and `rw` find its arguments
 unfoldable pub copied : List ℕ → ℕ → List ℕ → ℕ → List ℕ
@@ -354,3 +354,22 @@ cleared-more c x at n i h l e =
     ap (λ (y : List ℕ). set y (at + i) 0) e
     ∙ ap (set (copied c at (replicate n 0) i) (at + i)) (sym (getD-replicate n i 0 0 l))
     ∙ copied-more c at (replicate n 0) i (omega arith) (rw (length-replicate {A = ℕ} n 0) l)
+
+-- a stored number by its own four bytes
+pub number-of : (b : List ℕ) (at : ℕ) → u32At (part b at 4) 0 ≡ u32At b at
+number-of b at = let e : at + 0 ≡ at = omega arith in subst (λ (n : ℕ). u32At (part b at 4) 0 ≡ u32At b n) e (u32-part b at 4 0 (omega arith))
+
+-- so many blocks are within the area
+pub blocks-long : (c : List ℕ) (b : ℕ) → b ≤ blockCount c → 512 * b ≤ length c
+unfolding blockCount
+blocks-long c b h = omega arith
+
+-- zeros, and the numbers in them
+pub zeros-at : (n k : ℕ) → getD {A = ℕ} (replicate n 0) k 0 ≡ 0
+zeros-at zero k = refl
+zeros-at (suc n) zero = refl
+zeros-at (suc n) (suc k) = zeros-at n k
+
+pub zero-number : (n k : ℕ) → u32At (replicate n 0) k ≡ 0
+unfolding u32At
+zero-number n k = rw (zeros-at n k, zeros-at n (k + 1), zeros-at n (k + 2), zeros-at n (k + 3))

@@ -13,7 +13,7 @@ use Rattle.blocks.specs.Pick.{pick, same}
 use Rattle.blocks.specs.Bytes.{blockCount}
 use Rattle.blocks.specs.Descriptor.{physical, tableCount, cost, costOf, descriptorAt}
 use Rattle.blocks.specs.Name.{hashOf}
-use Rattle.blocks.specs.Chain.{activeOf, formOk, regionOk, indexOf, named, sound, Unsound, Sound, descriptorsAt, chainFrom, chain, ends, startsOf, regionsOf, chainSound, descriptors}
+use Rattle.blocks.specs.Chain.{activeOf, formOk, regionOk, indexOf, named, sound, Unsound, Sound, descriptorsAt, chainFrom, chain, ends, startsOf, regionsOf, chainSound, descriptors, Chain}
 use Rattle.blocks.specs.Walk.{Hashed}
 use Rattle.blocks.specs.declared.descriptor.Descriptor.{Descriptor}
 use Rattle.blocks.specs.declared.chain.Regions.{Regions}
@@ -317,3 +317,9 @@ module _ (c : List ℕ) (some : length c / 512 ≡ 0 → ⊥) (d : Descriptor) (
   pub first-hashed : (hashes : List Bool) → length hashes ≡ 1024 → (hash : ℕ) → hash ≡ hashOf (d .name) → hash < 1024 → Hashed c (set (replicate 257 0) 1 (d .beta .0)) 1 (set hashes hash true)
   first-hashed hashes long hash hash-is low =
       hashed-starts c (replicate 257 0) 1 (set hashes hash true) (hashed-more c (replicate 257 0) 0 hashes (hashed-none c (replicate 257 0) hashes long) (d .name) (walked-name c (replicate 257 0) 0 0 (walked-none c some) d is) hash hash-is low) 1 (d .beta .0) (omega arith)
+
+-- the regions of a sound chain are sound
+pub regions-ok : (ch : Chain) → chainSound ch ≡ true → regionsOf ch .sound ≡ true
+unfolding regionsOf chainSound
+regions-ok (Sound ds) e = refl
+regions-ok (Unsound p) e = e

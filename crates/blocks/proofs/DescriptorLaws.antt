@@ -9,10 +9,12 @@ use lib.ListN.{length, drop, length-append, length-drop, getD}
 use lib.Seq.{take-all}
 use Rattle.blocks.specs.Pick.{same}
 use Rattle.blocks.specs.Bytes.{u32At, u64At, le32, splice, part, blockAt, storeBlock}
-use Rattle.blocks.specs.Descriptor.{mark, descriptorAt, headBytes, tailAt, descriptorBlock}
+use Rattle.blocks.specs.Descriptor.{mark, descriptorAt, headBytes, tailAt, descriptorBlock, physical, extendedOf}
 use Rattle.blocks.specs.declared.descriptor.Descriptor.{Descriptor}
 use Rattle.blocks.proofs.ListLaws.{same-equal}
 use Rattle.blocks.proofs.ByteLaws.{put-next, u32-part, u32-within, part-within, digits, splice-start, length-part, part-part, store-length, store-same, store-other, store-over, put-block, length-blockAt, part-join, number-back}
+use Rattle.blocks.proofs.NameLaws.{name-size}
+use Rattle.blocks.specs.Name.{isName}
 
 -- the fields, put one after the other from the start of a block
 pub head-put : (c₀ c₁ c₂ c₃ c₄ c₅ c₆ c₇ : List ℕ) (d : Descriptor) → 40 ≤ length c₀ → length (d .name) ≡ 16
@@ -181,3 +183,18 @@ words-apart c name p place k x y at inside e f n = by (same (part c (512 * p + 2
     by : (b : Bool) → same (part c (512 * p + 24) 16) name ≡ b → false ≡ b
     by true h = absurd (n (sym word ∙ ap (λ (z : List ℕ). u32At z k + 4294967296 * u32At z (k + 4)) (same-equal (part c (512 * p + 24) 16) name h) ∙ sym f))
     by false h = refl
+
+-- a descriptor's block is whole where its name has sixteen bytes and its tail 472
+pub block-whole : (d : Descriptor) (tail : List ℕ) → length (d .name) ≡ 16 → length tail ≡ 472 → length (descriptorBlock d tail) ≡ 512
+unfolding descriptorBlock
+block-whole d tail n t = length-append (headBytes d) tail ∙ omega (arith, head-length d n, t)
+
+-- numbers that a card's descriptors have fit 32 bits
+pub fits-of : (e : Descriptor) → e .layout ≤ 2 → e .volume ≤ 14336 → e .alpha .0 ≤ 65536 → e .beta .0 ≤ 65536 → e .next .0 ≤ 65536 → isName (e .name) ≡ true → Fits e
+fits-of e l v a b n m = record { layout = omega arith; volume = omega arith; alpha = omega arith; beta = omega arith; next = omega arith; name = name-size (e .name) m }
+
+-- no more blocks: the descriptor as it was
+pub extended-none : (d : Descriptor) → extendedOf d 0 ≡ d
+extended-none d =
+    let e : d .beta .0 + 0 ≡ d .beta .0 = omega arith in
+    ap (λ (b : ℕ). record { layout = d .layout; volume = d .volume; alpha = d .alpha; beta = physical b; next = d .next; name = d .name }) e

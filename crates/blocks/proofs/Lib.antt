@@ -12,3 +12,5 @@ pub mod LinkedLaws
 pub mod StoreLists
 pub mod StoredLaws
 pub mod SharedLaws
+pub mod RelinkedLaws
+pub mod ChangedLaws

@@ -284,3 +284,20 @@ pub starts-full : (ds : List Descriptor) → length ds ≤ 256 → length (start
 unfolding startsOf
 starts-full ds h =
     length-append (0 ∷ ends ds) (replicate (256 - length ds) 0) ∙ omega (arith, length-ends ds, length-replicate {A = ℕ} (256 - length ds) 0)
+
+-- the last region ends at the active beta
+pub end-from : (p : ℕ) (d : Descriptor) (ds : List Descriptor) → regionStart p (d ∷ ds) (length (d ∷ ds)) ≡ activeOf (d ∷ ds) .beta .0
+unfolding activeOf
+end-from p d [] = region-start-suc p d [] 0 ∙ region-start-zero (d .beta .0) []
+end-from p d (e ∷ ds) = region-start-suc p d (e ∷ ds) (length (e ∷ ds)) ∙ end-from (d .beta .0) e ds
+
+pub end-active : (ds : List Descriptor) → 0 < length ds → regionStart 0 ds (length ds) ≡ activeOf ds .beta .0
+end-active [] h = absurd (omega arith)
+end-active (d ∷ ds) h = end-from 0 d ds
+
+-- the active descriptor of a list in two parts is that of the second
+pub active-append : (xs : List Descriptor) (v : Descriptor) (ys : List Descriptor) → activeOf (xs ++ (v ∷ ys)) ≡ activeOf (v ∷ ys)
+unfolding activeOf
+active-append [] v ys = refl
+active-append (x ∷ []) v ys = refl
+active-append (x ∷ y ∷ xs) v ys = active-append (y ∷ xs) v ys

@@ -5,13 +5,14 @@ use mathlib.Core.Bool.{Bool, true, false, _||_}
 use mathlib.Core.List.{List, [], _∷_, _++_}
 use Prim.Native.Nat.{ℕ, zero, suc, _+_, _*_, _≤_, _<_}
 use native.Mathlib.Omega.{arith}
-use lib.ListN.{length, take}
+use lib.ListN.{length, take, length-replicate}
 use lib.Seq.{take-add}
 use lib.Dec.{eqb}
-use borrow.Author.Tests.{eqb-true, eqb-false}
-use Rattle.blocks.specs.Bytes.{blockAt, Store, store, storeBlock, storeAll}
+use borrow.Author.Tests.{eqb-true, eqb-false, ne-eqb}
+use Rattle.blocks.specs.Bytes.{blockAt, Store, store, storeBlock, storeAll, zeroBlock, blockCount}
 use Rattle.blocks.proofs.BoolLaws.{or-assoc, or-false-both}
-use Rattle.blocks.proofs.ByteLaws.{store-length, store-same, store-other}
+use Rattle.blocks.proofs.ByteLaws.{store-length, store-same, store-other, length-blockAt}
+use Rattle.blocks.specs.Descriptor.{clearing, copying}
 
 -- stores, one after the other
 pub stored-append : (c : List ℕ) (xs ys : List Store) → storeAll c (xs ++ ys) ≡ storeAll (storeAll c xs) ys
@@ -117,3 +118,38 @@ blocks-taken s t zero h = refl
 blocks-taken s t (suc b) h =
     let e : 512 * suc b ≡ 512 * b + 512 = omega arith in
     rw (e, take-add (512 * b) 512 s, take-add (512 * b) 512 t, blocks-taken s t b (λ p l. h p (omega arith)), h b (omega arith))
+
+-- clearing and copying store whole blocks of the area
+pub inside-clearing : (n p k : ℕ) → 512 * (p + k) ≤ n → Whole n (clearing p k)
+unfolding clearing
+inside-clearing n p zero h = none
+inside-clearing n p (suc k) h = also p zeroBlock (length-replicate {A = ℕ} 512 0) (omega arith) (inside-clearing n (suc p) k (omega arith))
+
+pub inside-copying : (c : List ℕ) (from to k : ℕ) → from ≤ to → 512 * (to + k) ≤ length c → Whole (length c) (copying c from to k)
+unfolding copying
+inside-copying c from to zero h l = none
+inside-copying c from to (suc k) h l = also to (blockAt c from) (length-blockAt c from (omega arith)) (omega arith) (inside-copying c (suc from) (suc to) k (omega arith) (omega arith))
+
+-- areas of one length have as many blocks
+pub count-kept : (s t : List ℕ) → length s ≡ length t → blockCount s ≡ blockCount t
+unfolding blockCount
+count-kept s t e = rw e
+
+-- which blocks no store, one store and copies name
+pub none-stored : (p : ℕ) → isStored [] p ≡ false
+unfolding isStored
+none-stored p = refl
+
+pub one-stored : (p : ℕ) (b : List ℕ) (q : ℕ) → (p ≡ q → ⊥) → isStored (store p b ∷ []) q ≡ false
+unfolding isStored
+one-stored p b q h = rw (ne-eqb p q h)
+
+pub copies-stored : (c : List ℕ) (from p n q : ℕ) → q < p → isStored (copying c from p n) q ≡ false
+unfolding isStored copying
+copies-stored c from p zero q h = refl
+copies-stored c from p (suc n) q h = rw (ne-eqb p q (omega arith)) (copies-stored c (suc from) (suc p) n q (omega arith))
+
+-- a block that the first store does not name, nor the others
+pub not-stored : (p : ℕ) (b : List ℕ) (ss : List Store) (q : ℕ) → (p ≡ q → ⊥) → isStored ss q ≡ false → isStored (store p b ∷ ss) q ≡ false
+unfolding isStored
+not-stored p b ss q n h = rw (ne-eqb p q n) h

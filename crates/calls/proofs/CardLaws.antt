@@ -1,7 +1,7 @@
 -- What a call knows of a card once the walk along its chain has found no fault, and of one with a fault.
 use mathlib.Core.Path.{_≡_, refl, sym, ap, _∙_}
 use mathlib.Core.Bool.{Bool, true, false, not, _||_}
-use mathlib.Core.List.{List, [], _∷_}
+use mathlib.Core.List.{List, [], _∷_, _++_}
 use Prim.Native.Nat.{ℕ, suc, _+_, _*_, _-_, _%_, _≤_, _<_}
 use native.Mathlib.Omega.{arith}
 use lib.ListN.{length, take, getD}
@@ -158,3 +158,19 @@ pub chain-is : (ch : Chain) → chainSound ch ≡ true → ch ≡ Sound (descrip
 unfolding chainSound descriptors
 chain-is (Sound ds) e = refl
 chain-is (Unsound p) e = let z : _≡_ {A = ℕ} 0 1 = cc in absurd (omega arith)
+
+-- a chain is its snapshots, then the active descriptor
+active-from : (d : Descriptor) (ds : List Descriptor) → d ∷ ds ≡ snapshotsOf (d ∷ ds) ++ (activeOf (d ∷ ds) ∷ [])
+unfolding snapshotsOf activeOf
+active-from d [] = refl
+active-from d (e ∷ ds) = ap (λ (xs : List Descriptor). d ∷ xs) (active-from e ds)
+
+pub active-split : (ds : List Descriptor) → 0 < length ds → ds ≡ snapshotsOf ds ++ (activeOf ds ∷ [])
+active-split [] h = absurd (omega arith)
+active-split (d ∷ ds) h = active-from d ds
+
+pub snapshots-snoc : (xs : List Descriptor) (e : Descriptor) → snapshotsOf (xs ++ (e ∷ [])) ≡ xs
+unfolding snapshotsOf
+snapshots-snoc [] e = refl
+snapshots-snoc (x ∷ []) e = refl
+snapshots-snoc (x ∷ y ∷ xs) e = ap (λ (zs : List Descriptor). x ∷ zs) (snapshots-snoc (y ∷ xs) e)

@@ -17,7 +17,7 @@ use Rattle.blocks.proofs.ByteLaws.{part-part}
 use Rattle.blocks.proofs.NamedLaws.{index-below}
 use Rattle.blocks.proofs.ChainLaws.{cost-least, region-volume}
 use Rattle.blocks.proofs.SoundLaws.{form-most}
-use Rattle.blocks.proofs.LinkedLaws.{Linked, chain-linked, chain-few, regionStart, region-start-zero, region-start-suc, linked-some, linked-end, linked-rise, linked-at, RegionAt, at-alpha, at-long, active-at}
+use Rattle.blocks.proofs.LinkedLaws.{Linked, chain-linked, chain-few, regionStart, linked-some, linked-end, linked-rise, linked-at, RegionAt, at-alpha, at-long, active-at, end-active}
 use Rattle.entries.specs.Entry.{find, need}
 use Rattle.entries.specs.declared.find.Found.{Found}
 use Rattle.entries.specs.declared.find.Found.the-variants.{Misplaced, Entry}
@@ -39,16 +39,6 @@ use Rattle.entries.proofs.LocalLaws.{Region, local-find, local-check}
 use Rattle.entries.proofs.TableLaws.{own-inside, few-tables}
 use Rattle.calls.specs.declared.answer.Record.{Record}
 use Rattle.blocks.specs.declared.descriptor.Format.{Format}
-
--- the last region ends at the active beta
-pub end-from : (p : ℕ) (d : Descriptor) (ds : List Descriptor) → regionStart p (d ∷ ds) (length (d ∷ ds)) ≡ activeOf (d ∷ ds) .beta .0
-unfolding activeOf
-end-from p d [] = region-start-suc p d [] 0 ∙ region-start-zero (d .beta .0) []
-end-from p d (e ∷ ds) = region-start-suc p d (e ∷ ds) (length (e ∷ ds)) ∙ end-from (d .beta .0) e ds
-
-pub end-active : (ds : List Descriptor) → 0 < length ds → regionStart 0 ds (length ds) ≡ activeOf ds .beta .0
-end-active [] h = absurd (omega arith)
-end-active (d ∷ ds) h = end-from 0 d ds
 
 -- a block below where two cards are equal
 taken-block : (s : List ℕ) (b p : ℕ) → p < b → 512 * b ≤ length s → blockAt s p ≡ part (take (512 * b) s) (512 * p) 512

@@ -17,9 +17,9 @@ use Rattle.blocks.specs.declared.chain.Regions.{Regions}
 use Rattle.blocks.proofs.Tests.{and-left}
 use Rattle.blocks.proofs.BoolLaws.{no, or-true}
 use Rattle.blocks.proofs.ByteLaws.{u32-part, store-length, store-same, store-other, length-blockAt}
-use Rattle.blocks.proofs.DescriptorLaws.{head-length, block-back, tail-length}
+use Rattle.blocks.proofs.DescriptorLaws.{head-length, block-back, tail-length, block-whole}
 use Rattle.blocks.proofs.NamedLaws.{index-below}
-use Rattle.blocks.proofs.ChainLaws.{cost-least}
+use Rattle.blocks.proofs.ChainLaws.{cost-least, regions-ok}
 use Rattle.blocks.proofs.LinkedLaws.{at-alpha, RegionAt}
 use Rattle.blocks.proofs.SoundLaws.{form-mark}
 use Rattle.blocks.proofs.NameLaws.{name-size}
@@ -44,7 +44,7 @@ use Rattle.calls.proofs.CardLaws.{card-through, card-snapshot, card-snapshot-co
 use Rattle.calls.proofs.Passed.{read-passed, write-passed, snap-passed, revert-passed}
 use Rattle.calls.proofs.StepLaws.{accepted-card}
 use Rattle.blocks.proofs.StoredLaws.{form-name}
-use Rattle.claims.proofs.Inside.{regions-ok, active-through, active-name, block-whole}
+use Rattle.claims.proofs.Inside.{active-through, active-name}
 use Rattle.blocks.proofs.StoreLists.{stored-append}
 use Rattle.entries.proofs.TableLaws.{entry-in, phi-in}
 

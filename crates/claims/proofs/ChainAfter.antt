@@ -3,53 +3,28 @@ use mathlib.Core.Path.{_≡_, refl, sym, ap, _∙_}
 use mathlib.Core.Logic.{inl}
 use mathlib.Core.Bool.{true, false}
 use mathlib.Core.List.{List, [], _∷_, _++_, append-assoc}
-use Prim.Native.Nat.{ℕ, zero, suc, _+_, _*_, _≤_, _<_}
+use Prim.Native.Nat.{ℕ, suc, _+_, _*_, _≤_, _<_}
 use native.Mathlib.Omega.{arith}
 use lib.ListN.{length, take, drop, length-append}
 use lib.Seq.{split-at}
-use borrow.Author.Tests.{ne-eqb}
 use Rattle.blocks.specs.Bytes.{part, blockCount, blockAt, store, storeAll}
 use Rattle.blocks.specs.Name.{isName}
-use Rattle.blocks.specs.Descriptor.{physical, costOf, noDescriptor, descriptorAt, tailAt, descriptorBlock, renamedOf, linkedOf, copying, reservedOk, phiOk}
+use Rattle.blocks.specs.Descriptor.{physical, costOf, noDescriptor, descriptorAt, tailAt, descriptorBlock, renamedOf, linkedOf, reservedOk, phiOk}
 use Rattle.blocks.specs.Chain.{formOk, regionOk, named, Sound, chain, chainSound, activeOf, indexOf}
 use Rattle.blocks.specs.declared.descriptor.Descriptor.{Descriptor}
-use Rattle.blocks.proofs.DescriptorLaws.{Fits, tail-length}
+use Rattle.blocks.proofs.DescriptorLaws.{Fits, tail-length, fits-of}
 use Rattle.blocks.proofs.NamedLaws.{index-below}
 use Rattle.blocks.proofs.SoundLaws.{form-most, form-layout}
 use Rattle.blocks.proofs.ChainLaws.{region-long, region-end, cost-least}
-use Rattle.blocks.proofs.LinkedLaws.{Linked, chain-linked, chain-few, linked-some, linked-rise, region-start-suc, region-start-zero}
-use Rattle.blocks.proofs.NameLaws.{name-size}
+use Rattle.blocks.proofs.LinkedLaws.{Linked, chain-linked, chain-few, linked-some, linked-rise, region-start-suc, region-start-zero, end-from, active-append}
 use Rattle.calls.specs.Parts.{areaBad, descriptorsOf, snapshotsOf, withName}
 use Rattle.calls.specs.Effect.{reverting, revertStores}
-use Rattle.calls.proofs.CardLaws.{card-most, chain-is}
+use Rattle.calls.proofs.CardLaws.{card-most, chain-is, active-split}
 use Rattle.calls.proofs.Passed.{RevertPassed}
-use Rattle.claims.proofs.Agreement.{end-from}
 use Rattle.blocks.proofs.StoredLaws.{block-long, tail-part, form-kept, form-phi, form-name}
-use Rattle.claims.proofs.Changed.{layout-small, named-left, member-from, member-form, member-region, member-fresh, member-inside, changed-last}
-use Rattle.blocks.proofs.StoreLists.{Whole, none, isStored, stored-length, stored-other, stored-last}
+use Rattle.blocks.proofs.ChangedLaws.{layout-small, named-left, member-from, member-form, member-region, member-fresh, member-inside, changed-last}
+use Rattle.blocks.proofs.StoreLists.{Whole, none, stored-length, stored-other, stored-last, count-kept, none-stored, one-stored}
 use Rattle.claims.proofs.Inside.{revert-whole}
-
--- a chain is its snapshots, then the active descriptor
-active-from : (d : Descriptor) (ds : List Descriptor) → d ∷ ds ≡ snapshotsOf (d ∷ ds) ++ (activeOf (d ∷ ds) ∷ [])
-unfolding snapshotsOf activeOf
-active-from d [] = refl
-active-from d (e ∷ ds) = ap (λ (xs : List Descriptor). d ∷ xs) (active-from e ds)
-
-pub active-split : (ds : List Descriptor) → 0 < length ds → ds ≡ snapshotsOf ds ++ (activeOf ds ∷ [])
-active-split [] h = absurd (omega arith)
-active-split (d ∷ ds) h = active-from d ds
-
-pub snapshots-snoc : (xs : List Descriptor) (e : Descriptor) → snapshotsOf (xs ++ (e ∷ [])) ≡ xs
-unfolding snapshotsOf
-snapshots-snoc [] e = refl
-snapshots-snoc (x ∷ []) e = refl
-snapshots-snoc (x ∷ y ∷ xs) e = ap (λ (zs : List Descriptor). x ∷ zs) (snapshots-snoc (y ∷ xs) e)
-
-pub active-append : (xs : List Descriptor) (v : Descriptor) (ys : List Descriptor) → activeOf (xs ++ (v ∷ ys)) ≡ activeOf (v ∷ ys)
-unfolding activeOf
-active-append [] v ys = refl
-active-append (x ∷ []) v ys = refl
-active-append (x ∷ y ∷ xs) v ys = active-append (y ∷ xs) v ys
 
 -- the first region of some ends where the last does, or before
 linked-end-below : {c : List ℕ} {es : List Descriptor} {p : ℕ} {v : Descriptor} {ys : List Descriptor} → Linked c es p (v ∷ ys) → v .beta .0 ≤ activeOf (v ∷ ys) .beta .0
@@ -65,10 +40,6 @@ behind ss name = drop (suc (indexOf ss name)) ss
 
 name-split : (ss : List Descriptor) (name : List ℕ) → named ss name ≡ true → ss ≡ before ss name ++ (withName ss name ∷ behind ss name)
 name-split ss name h = split-at ss (indexOf ss name) noDescriptor (index-below ss name h)
-
--- numbers that a card's descriptors have fit 32 bits
-pub fits-of : (e : Descriptor) → e .layout ≤ 2 → e .volume ≤ 14336 → e .alpha .0 ≤ 65536 → e .beta .0 ≤ 65536 → e .next .0 ≤ 65536 → isName (e .name) ≡ true → Fits e
-fits-of e l v a b n m = record { layout = omega arith; volume = omega arith; alpha = omega arith; beta = omega arith; next = omega arith; name = name-size (e .name) m }
 
 -- a card with a sound chain
 module _ (c : List ℕ) (area : areaBad c ≡ false) (ok : chainSound (chain c) ≡ true) where
@@ -142,23 +113,6 @@ module _ (c : List ℕ) (area : areaBad c ≡ false) (ok : chainSound (chain c) 
     end-below =
         let l = member-from c ds xs v ys sound-is split in
         omega (arith, linked-end-below l, ap (λ (x : Descriptor). x .beta .0) (active-append xs v ys), ap (λ (zs : List Descriptor). activeOf zs .beta .0) split)
-
-pub count-kept : (s t : List ℕ) → length s ≡ length t → blockCount s ≡ blockCount t
-unfolding blockCount
-count-kept s t e = rw e
-
-pub none-stored : (p : ℕ) → isStored [] p ≡ false
-unfolding isStored
-none-stored p = refl
-
-pub one-stored : (p : ℕ) (b : List ℕ) (q : ℕ) → (p ≡ q → ⊥) → isStored (store p b ∷ []) q ≡ false
-unfolding isStored
-one-stored p b q h = rw (ne-eqb p q h)
-
-pub copies-stored : (c : List ℕ) (from p n q : ℕ) → q < p → isStored (copying c from p n) q ≡ false
-unfolding isStored copying
-copies-stored c from p zero q h = refl
-copies-stored c from p (suc n) q h = rw (ne-eqb p q (omega arith)) (copies-stored c (suc from) (suc p) n q (omega arith))
 
 -- a revert
 module _ (c name : List ℕ) (e : RevertPassed c name) where

@@ -18,10 +18,10 @@ use Rattle.blocks.specs.Chain.{formOk, sound, Sound, chain, chainSound, descrip
 use Rattle.blocks.specs.declared.numbers.Physical.{Physical}
 use Rattle.blocks.specs.declared.descriptor.Descriptor.{Descriptor}
 use Rattle.blocks.proofs.Tests.{and-left, and-right}
-use Rattle.blocks.proofs.ByteLaws.{length-splice, splice-after, store-length, store-same, store-other, u32-part}
+use Rattle.blocks.proofs.ByteLaws.{length-splice, splice-after, store-length, store-same, store-other, u32-part, zero-number}
 use Rattle.blocks.proofs.ListLaws.{same-self}
 use Rattle.blocks.proofs.NameLaws.{drop-replicate, name-size}
-use Rattle.blocks.proofs.DescriptorLaws.{Fits}
+use Rattle.blocks.proofs.DescriptorLaws.{Fits, block-whole}
 use Rattle.blocks.proofs.NamedLaws.{named-none}
 use Rattle.blocks.proofs.ChainLaws.{cost-least}
 use Rattle.blocks.proofs.LinkedLaws.{last}
@@ -37,9 +37,8 @@ use Rattle.claims.specs.Claims.{FormatClaim}
 use Rattle.calls.proofs.CardLaws.{card-most}
 use Rattle.blocks.proofs.SharedLaws.{linked-chain}
 use Rattle.blocks.proofs.StoredLaws.{block-tail, stored-descriptor, stored-bytes, stored-mark, region-ok}
-use Rattle.claims.proofs.Changed.{layout-small}
-use Rattle.blocks.proofs.StoreLists.{isStored, stored-length, stored-other, stored-append, stored-one}
-use Rattle.claims.proofs.Inside.{inside-clearing, block-whole}
+use Rattle.blocks.proofs.ChangedLaws.{layout-small}
+use Rattle.blocks.proofs.StoreLists.{isStored, stored-length, stored-other, stored-append, stored-one, inside-clearing}
 use Rattle.blocks.specs.declared.descriptor.Format.{Format}
 
 -- a store before block b leaves the bytes from block b on
@@ -100,15 +99,6 @@ zeros-taken (suc m) (suc n) = zeros-taken m n
 
 zero-part : (n k m : ℕ) → allZero (part (replicate n 0) k m) ≡ true
 zero-part n k m = rw (drop-replicate n k) (zeros-taken m (n - k))
-
-zeros-at : (n k : ℕ) → getD {A = ℕ} (replicate n 0) k 0 ≡ 0
-zeros-at zero k = refl
-zeros-at (suc n) zero = refl
-zeros-at (suc n) (suc k) = zeros-at n k
-
-pub zero-number : (n k : ℕ) → u32At (replicate n 0) k ≡ 0
-unfolding u32At
-zero-number n k = rw (zeros-at n k, zeros-at n (k + 1), zeros-at n (k + 2), zeros-at n (k + 3))
 
 phi-by : (z : Bool) (bytes : List ℕ) → allZero bytes ≡ true → pick z (allZero bytes) true ≡ true
 phi-by true bytes h = h

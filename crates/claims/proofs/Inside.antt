@@ -2,23 +2,23 @@
 use mathlib.Core.Path.{_≡_, refl, sym, _∙_}
 use mathlib.Core.Bool.{Bool, true, false}
 use mathlib.Core.List.{List, [], _∷_}
-use Prim.Native.Nat.{ℕ, zero, suc, _+_, _*_, _-_, _/_, _%_, _≤_, _<_}
+use Prim.Native.Nat.{ℕ, _+_, _*_, _-_, _/_, _%_, _≤_, _<_}
 use native.Mathlib.Omega.{arith}
-use lib.ListN.{length, getD, replicate, length-append, length-replicate}
+use lib.ListN.{length, getD, replicate, length-replicate}
 use lib.Dec.{eqb}
 use borrow.Author.Tests.{eqb-true, eqb-false}
 use Rattle.blocks.specs.Pick.{pick}
 use Rattle.blocks.specs.Bytes.{store, blockCount, blockAt, zeroBlock}
 use Rattle.blocks.specs.Name.{isName}
-use Rattle.blocks.specs.Descriptor.{physical, costOf, descriptorAt, firstOf, headBytes, tailAt, descriptorBlock, renamedOf, linkedOf, extendedOf, reopenedOf, clearing, copying, opening, costIn}
-use Rattle.blocks.specs.Chain.{Chain, Sound, Unsound, chain, chainSound, indexOf, named, regionsOf, activeOf}
+use Rattle.blocks.specs.Descriptor.{physical, costOf, descriptorAt, firstOf, tailAt, descriptorBlock, renamedOf, linkedOf, extendedOf, reopenedOf, opening, costIn}
+use Rattle.blocks.specs.Chain.{chain, chainSound, indexOf, named, regionsOf, activeOf}
 use Rattle.blocks.specs.declared.numbers.Physical.{Physical}
 use Rattle.blocks.specs.declared.descriptor.Descriptor.{Descriptor}
 use Rattle.blocks.specs.declared.chain.Regions.{Regions}
 use Rattle.blocks.proofs.ByteLaws.{length-part, length-blockAt}
 use Rattle.blocks.proofs.NamedLaws.{index-below}
-use Rattle.blocks.proofs.ChainLaws.{cost-least}
-use Rattle.blocks.proofs.DescriptorLaws.{head-length, tail-length}
+use Rattle.blocks.proofs.ChainLaws.{cost-least, regions-ok}
+use Rattle.blocks.proofs.DescriptorLaws.{tail-length, block-whole}
 use Rattle.blocks.proofs.NameLaws.{name-size}
 use Rattle.entries.specs.Through.{Through, WriteReady}
 use Rattle.entries.specs.Entry.{find, tableIsNew, need, tailWith, setInTable, setInNewTable, writing}
@@ -31,23 +31,8 @@ use Rattle.calls.specs.Parts.{areaBad, descriptorsOf, snapshotsOf, withName, fo
 use Rattle.calls.specs.Effect.{snapping, reverting, writeStores, snapStores, revertStores}
 use Rattle.calls.proofs.CardLaws.{card-some, card-found, card-active, card-through, card-inside, card-snapshot, card-snapshot-count}
 use Rattle.calls.proofs.Passed.{ReamPassed, WritePassed, SnapPassed, RevertPassed}
-use Rattle.blocks.proofs.StoreLists.{Whole, none, also, whole-append}
+use Rattle.blocks.proofs.StoreLists.{Whole, none, also, whole-append, inside-clearing, inside-copying}
 use Rattle.blocks.specs.declared.descriptor.Format.{Format}
-
-pub inside-clearing : (n p k : ℕ) → 512 * (p + k) ≤ n → Whole n (clearing p k)
-unfolding clearing
-inside-clearing n p zero h = none
-inside-clearing n p (suc k) h = also p zeroBlock (length-replicate {A = ℕ} 512 0) (omega arith) (inside-clearing n (suc p) k (omega arith))
-
-pub inside-copying : (c : List ℕ) (from to k : ℕ) → from ≤ to → 512 * (to + k) ≤ length c → Whole (length c) (copying c from to k)
-unfolding copying
-inside-copying c from to zero h l = none
-inside-copying c from to (suc k) h l = also to (blockAt c from) (length-blockAt c from (omega arith)) (omega arith) (inside-copying c (suc from) (suc to) k (omega arith) (omega arith))
-
--- a descriptor's block is whole where its name has sixteen bytes and its tail 472
-pub block-whole : (d : Descriptor) (tail : List ℕ) → length (d .name) ≡ 16 → length tail ≡ 472 → length (descriptorBlock d tail) ≡ 512
-unfolding descriptorBlock
-block-whole d tail n t = length-append (headBytes d) tail ∙ omega (arith, head-length d n, t)
 
 -- a format
 module _ (c : List ℕ) (format : Format) where
@@ -98,12 +83,6 @@ module _ (c : List ℕ) (d : Descriptor) (m p : Physical) (l : ℕ) (block : Lis
     entry-inside : Whole (length c) (writing c d (Entry m p) l block)
     unfolding writing
     entry-inside = entry-by (eqb (need (d .alpha .0) (Entry m p)) 0) refl
-
--- a card with a sound chain
-pub regions-ok : (ch : Chain) → chainSound ch ≡ true → regionsOf ch .sound ≡ true
-unfolding regionsOf chainSound
-regions-ok (Sound ds) e = refl
-regions-ok (Unsound p) e = e
 
 at-name : (c : List ℕ) (d : Descriptor) (p : ℕ) → d ≡ descriptorAt c p → 512 * p + 512 ≤ length c → length (d .name) ≡ 16
 unfolding descriptorAt

@@ -27,17 +27,18 @@ use Rattle.calls.specs.Parts.{descriptorsOf, snapshotsOf, withName, foundThroug
 use Rattle.calls.specs.Effect.{reverting, writeStores, snapStores, revertStores}
 use Rattle.calls.specs.Step.{step}
 use Rattle.claims.specs.History.{isFormat, formats}
-use Rattle.claims.proofs.Relinked.{later-alpha}
-use Rattle.claims.proofs.Changed.{named-left, member-from, member-fresh}
-use Rattle.blocks.proofs.StoreLists.{isStored, stored-length, stored-other, Whole}
+use Rattle.blocks.proofs.RelinkedLaws.{later-alpha}
+use Rattle.blocks.proofs.ChangedLaws.{named-left, member-from, member-fresh}
+use Rattle.blocks.proofs.StoreLists.{isStored, stored-length, stored-other, Whole, one-stored}
 use Rattle.claims.proofs.Inside.{write-whole, snap-whole, revert-whole}
-use Rattle.claims.proofs.ChainAfter.{before, behind, active-split, snapshots-snoc, active-last, link-low, one-stored, revert-split, reverted-chain}
+use Rattle.claims.proofs.ChainAfter.{before, behind, active-last, link-low, revert-split, reverted-chain}
 use Rattle.claims.proofs.SnappedChain.{snap-above, snapped-chain}
 use Rattle.claims.proofs.WrittenChain.{written-chain}
 use Rattle.calls.proofs.Passed.{WritePassed, SnapPassed, RevertPassed}
 use Rattle.claims.specs.Kinds.{Kind}
 use Rattle.claims.proofs.Changes.{storesBy, Allowed, to-format, to-leave, to-write, to-snap, to-revert}
 use Rattle.claims.proofs.Steps.{step-cases}
+use Rattle.calls.proofs.CardLaws.{active-split, snapshots-snoc}
 
 -- a later region starts where an earlier one ends, or after
 beta-before : {c : List ℕ} {es : List Descriptor} {p : ℕ} {ds : List Descriptor} → Linked c es p ds → (v : Descriptor) (us : List Descriptor) (u : Descriptor) (ws : List Descriptor) → ds ≡ v ∷ (us ++ (u ∷ ws))

@@ -23,8 +23,8 @@ use Rattle.calls.specs.Effect.{writeStores, snapStores, revertStores}
 use Rattle.calls.specs.Step.{step, after, isAccepted}
 use Rattle.claims.specs.History.{isFormat, Standing, more, isSnapOf, Position, Nowhere, At, latestFrom, latestSnap, formats, snapsAs}
 use Rattle.claims.specs.Claims.{Unsnapped, end, then, LastSnap}
-use Rattle.claims.proofs.Changed.{named-append, named-left}
-use Rattle.claims.proofs.ChainAfter.{before, snapshots-snoc, reverted-chain}
+use Rattle.blocks.proofs.ChangedLaws.{named-append, named-left}
+use Rattle.claims.proofs.ChainAfter.{before, reverted-chain}
 use Rattle.claims.proofs.SnappedChain.{snapped-chain}
 use Rattle.claims.proofs.WrittenChain.{written-chain}
 use Rattle.claims.proofs.Kept.{Stands, stands-step}
@@ -33,6 +33,7 @@ use Rattle.calls.proofs.Passed.{WritePassed, SnapPassed, RevertPassed}
 use Rattle.claims.specs.Kinds.{Kind, Formats, Leaves, Writes, Snaps, Reverts, kindOf}
 use Rattle.claims.proofs.Changes.{storesBy, Allowed, to-format, to-leave, to-write, to-snap, to-revert}
 use Rattle.claims.proofs.Steps.{step-cases}
+use Rattle.calls.proofs.CardLaws.{snapshots-snoc}
 
 -- a call that is no accepted snap of the name makes no snapshot of it
 module _ (n t : List ℕ) (gone : named (snapshotsOf (descriptorsOf t)) n ≡ false) where

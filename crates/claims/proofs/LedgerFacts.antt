@@ -17,7 +17,7 @@ use Rattle.blocks.proofs.BoolLaws.{no}
 use Rattle.blocks.proofs.NamedLaws.{named-none, named-cons, named-one}
 use Rattle.blocks.proofs.ChainLaws.{region-volume}
 use Rattle.blocks.proofs.SoundLaws.{form-layout}
-use Rattle.blocks.proofs.LinkedLaws.{Linked, chain-linked, regionStart, linked-some, linked-end, linked-at, RegionAt, active-at}
+use Rattle.blocks.proofs.LinkedLaws.{Linked, chain-linked, regionStart, linked-some, linked-end, linked-at, RegionAt, active-at, end-active}
 use Rattle.entries.specs.InPlace.{inPlace}
 use Rattle.entries.specs.Entry.{entryAt, tableOf, entryFound, find}
 use Rattle.entries.specs.Rules.{entryOf}
@@ -36,11 +36,10 @@ use Rattle.calls.specs.Step.{step, isAccepted}
 use Rattle.claims.specs.History.{betaOf}
 use Rattle.claims.specs.Ledger.{Volume, hasVolume, volumeNamed, ledgerRows, volumeRead, cellRead, namesFrom, ledgerNames, cellsFrom, volumeOf, volumesOf, ledgerOf}
 use Rattle.claims.specs.Claims.{blocksNeeded, recordNames, CheckClaim, ListClaim}
-use Rattle.calls.proofs.CardLaws.{chain-is}
-use Rattle.claims.proofs.Agreement.{end-active, target-member, active-target}
-use Rattle.claims.proofs.Changed.{named-append}
+use Rattle.calls.proofs.CardLaws.{chain-is, active-split}
+use Rattle.claims.proofs.Agreement.{target-member, active-target}
+use Rattle.blocks.proofs.ChangedLaws.{named-append}
 use Rattle.claims.proofs.Lists.{list-claim}
-use Rattle.claims.proofs.ChainAfter.{active-split}
 use Rattle.claims.proofs.CheckClaims.{check-claim}
 use Rattle.entries.proofs.TableLaws.{table-phi, own-set, group-below}
 use Rattle.calls.proofs.Passed.{read-passed, list-passed}

@@ -9,7 +9,7 @@ use lib.Seq.{getD-append-seam}
 use lib.Dec.{eqb}
 use borrow.Author.Tests.{eq-eqb, eqb-true, eqb-false}
 use Rattle.blocks.specs.Pick.{pick, same}
-use Rattle.blocks.specs.Bytes.{blockCount, blockAt, zeroBlock, storeAll}
+use Rattle.blocks.specs.Bytes.{blockAt, zeroBlock, storeAll}
 use Rattle.blocks.specs.Descriptor.{physical, tableCount, noDescriptor, linkedOf, renamedOf}
 use Rattle.blocks.specs.declared.numbers.Physical.{Physical}
 use Rattle.blocks.specs.declared.descriptor.Descriptor.{Descriptor}
@@ -28,8 +28,8 @@ use Rattle.blocks.proofs.BoolLaws.{no}
 use Rattle.blocks.proofs.LinkedLaws.{linked-at, linked-rise, at-alpha}
 use Rattle.entries.proofs.LocalLaws.{Region, phi-shared}
 use Rattle.claims.proofs.Agreement.{agree-region}
-use Rattle.blocks.proofs.StoreLists.{stored-other}
-use Rattle.claims.proofs.ChainAfter.{before, behind, snapshots-snoc, link-inside, one-stored, revert-split, reverted-chain, fits, block, same-long, whole}
+use Rattle.blocks.proofs.StoreLists.{stored-other, one-stored}
+use Rattle.claims.proofs.ChainAfter.{before, behind, link-inside, revert-split, reverted-chain, fits, block, same-long, whole}
 use Rattle.claims.proofs.SoundStep.{agree-self}
 use Rattle.claims.proofs.LedgerFacts.{linked-of, beta-upto, passing-found, volume-named}
 use Rattle.blocks.proofs.SharedLaws.{shared-number}
@@ -37,6 +37,8 @@ use Rattle.blocks.proofs.ChainLaws.{active-snoc, descriptors-are}
 use Rattle.entries.proofs.TableLaws.{fewer-placed, placed-apart, table-own, table-as, group-below, phi-stored}
 use Rattle.calls.proofs.Passed.{RevertPassed}
 use Rattle.claims.specs.Kinds.{Reverts}
+use Rattle.calls.proofs.CardLaws.{snapshots-snoc}
+use Rattle.blocks.proofs.ByteLaws.{blocks-long}
 
 -- the volumes before a name are those of the descriptors before it
 before-by : (c : List ℕ) (d : Descriptor) (ds : List Descriptor) (name : List ℕ) (vs : List Volume) (b : Bool) → vs ≡ volumesOf c (take (indexOf ds name) ds)
@@ -137,10 +139,6 @@ module _ (ds es : List Descriptor) (d e : Descriptor) (kept : (p : ℕ) → inPl
 
       pub cell-kept : isMisplaced (find s ds d l) ≡ false → blockFound t (find t es e l) ≡ blockFound s (find s ds d l)
       cell-kept h = ap (blockFound t) (find-kept h) ∙ block-by (find s ds d l) (λ m p q. find-placed s ds d l m p q)
-
-blocks-long : (c : List ℕ) (b : ℕ) → b ≤ blockCount c → 512 * b ≤ length c
-unfolding blockCount
-blocks-long c b h = omega arith
 
 groups-few : (l v : ℕ) → l < v → tableCount v ≤ 112 → l / 128 < 112
 groups-few l v h f = omega (arith, group-below l v h)

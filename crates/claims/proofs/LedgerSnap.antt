@@ -21,16 +21,16 @@ use Rattle.calls.specs.Parts.{descriptorsOf, snapshotsOf, foundThrough, blockFo
 use Rattle.calls.specs.Check.{Passes}
 use Rattle.calls.specs.Effect.{snapStores}
 use Rattle.claims.specs.Ledger.{Volume, volumeOf, volumesOf, ledgerOf, ledgerChange}
-use Rattle.claims.proofs.ChainAfter.{snapshots-snoc}
 use Rattle.claims.proofs.SnappedChain.{snapped-chain}
 use Rattle.claims.proofs.PassesAfter.{same-below}
-use Rattle.claims.proofs.PassesSnapped.{same-entry, placed-longer, block-entry, cut, low, old-phi, new-phi, kept, copied}
+use Rattle.claims.proofs.PassesSnapped.{same-entry, placed-longer, cut, low, old-phi, new-phi, kept, copied}
 use Rattle.claims.proofs.PassesSnapped.{placed-entry, linked, counted, act-at, act-rules, rules-old, rules-new, rules-first, phi-shared}
 use Rattle.claims.proofs.LedgerNext.{cells-same, volumes-same, volumes-append, ledger-parts}
 use Rattle.claims.proofs.CellEntry.{blockNamed, named-same, cell-rules}
-use Rattle.entries.proofs.TableLaws.{placed-apart, own-inside, few-tables, under}
+use Rattle.entries.proofs.TableLaws.{placed-apart, own-inside, few-tables, under, block-entry}
 use Rattle.calls.proofs.Passed.{SnapPassed}
 use Rattle.claims.specs.Kinds.{Snaps}
+use Rattle.calls.proofs.CardLaws.{snapshots-snoc}
 
 module _ (c name : List ℕ) (pass : Passes c) (e : SnapPassed c name) where
   abbrev ds : List Descriptor

@@ -26,7 +26,6 @@ use Rattle.calls.specs.Parts.{descriptorsOf, snapshotsOf, foundThrough, isMispl
 use Rattle.claims.specs.Ledger.{Volume, cellsFrom, volumeOf, volumesOf, ledgerOf, ledgerChange}
 use Rattle.calls.specs.Check.{Passes}
 use Rattle.calls.specs.Effect.{writeStores}
-use Rattle.claims.proofs.ChainAfter.{active-split, snapshots-snoc}
 use Rattle.claims.proofs.WrittenChain.{written-chain}
 use Rattle.claims.proofs.LedgerFacts.{linked-of, some-of}
 use Rattle.claims.proofs.PassesWrite.{shared-entry, snapshot-region, write-below, passes-write-by}
@@ -38,6 +37,7 @@ use Rattle.claims.proofs.CellEntry.{blockNamed, named-same, cell-entry}
 use Rattle.calls.proofs.Passed.{WritePassed}
 use Rattle.claims.specs.Kinds.{Writes}
 use Rattle.entries.proofs.TableLaws.{group-below}
+use Rattle.calls.proofs.CardLaws.{active-split, snapshots-snoc}
 
 -- what a read gives through a descriptor that stands at k
 cell-at : (c : List ℕ) → Passes c → (k : ℕ) → k < length (descriptorsOf c) → (d : Descriptor) → getD (descriptorsOf c) k noDescriptor ≡ d → (j : ℕ) → j < d .volume

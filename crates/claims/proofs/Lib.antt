@@ -4,9 +4,7 @@ pub mod Bench
 pub mod Example
 pub mod Areas
 pub mod Rows
-pub mod Relinked
 pub mod Agreement
-pub mod Changed
 pub mod Inside
 pub mod Changes
 pub mod Lists

@@ -14,7 +14,7 @@ use Rattle.blocks.specs.Descriptor.{physical, tableCount, noDescriptor, tailAt,
 use Rattle.blocks.specs.Chain.{activeOf}
 use Rattle.blocks.specs.declared.numbers.Physical.{Physical}
 use Rattle.blocks.specs.declared.descriptor.Descriptor.{Descriptor}
-use Rattle.blocks.proofs.ByteLaws.{u32-part}
+use Rattle.blocks.proofs.ByteLaws.{number-of}
 use Rattle.blocks.proofs.SoundLaws.{form-most, form-layout}
 use Rattle.blocks.proofs.ChainLaws.{cost-least, descriptors-are, is-sound}
 use Rattle.blocks.proofs.LinkedLaws.{Linked, RegionAt, regionStart, chain-linked, linked-at, linked-rise, at-alpha, at-long, at-end}
@@ -27,8 +27,8 @@ use Rattle.calls.specs.Check.{Passes}
 use Rattle.calls.specs.Effect.{revertStores}
 use Rattle.blocks.proofs.SharedLaws.{shared-number}
 use Rattle.blocks.proofs.StoredLaws.{block-tail, stored-bytes, tail-part}
-use Rattle.blocks.proofs.StoreLists.{stored-other}
-use Rattle.claims.proofs.ChainAfter.{before, behind, sound-is, link-inside, one-stored, revert-split, stores-are, whole, fits, tail, block, same-long, reverted-chain}
+use Rattle.blocks.proofs.StoreLists.{stored-other, one-stored}
+use Rattle.claims.proofs.ChainAfter.{before, behind, sound-is, link-inside, revert-split, stores-are, whole, fits, tail, block, same-long, reverted-chain}
 use Rattle.claims.proofs.Undone.{area-kept}
 use Rattle.entries.proofs.TableLaws.{fewer-placed, placed-apart, table-own, table-phi, own-inside, few-tables, layout-two, under}
 use Rattle.calls.proofs.Passed.{RevertPassed}
@@ -94,9 +94,6 @@ module _ (c t : List ℕ) (ds : List Descriptor) (d : Descriptor) (layout : (eqb
           once = λ l k h g e z. r .tables .once l k h g (sym (same-below l h) ∙ e ∙ same-below k g) (λ y. z (same-below l h ∙ y));
         };
       }
-
-pub number-of : (b : List ℕ) (at : ℕ) → u32At (part b at 4) 0 ≡ u32At b at
-number-of b at = let e : at + 0 ≡ at = omega arith in subst (λ (n : ℕ). u32At (part b at 4) 0 ≡ u32At b n) e (u32-part b at 4 0 (omega arith))
 
 -- a revert
 module _ (c name : List ℕ) (pass : Passes c) (e : RevertPassed c name) where

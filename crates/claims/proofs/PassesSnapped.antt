@@ -15,7 +15,7 @@ use Rattle.blocks.specs.declared.numbers.Physical.{Physical}
 use Rattle.blocks.specs.declared.descriptor.Descriptor.{Descriptor}
 use Rattle.blocks.specs.Chain.{activeOf}
 use Rattle.blocks.proofs.BoolLaws.{no, or-false-both, false-or}
-use Rattle.blocks.proofs.ByteLaws.{u32-part}
+use Rattle.blocks.proofs.ByteLaws.{number-of}
 use Rattle.blocks.proofs.DescriptorLaws.{Fits}
 use Rattle.blocks.proofs.SoundLaws.{form-most, form-layout}
 use Rattle.blocks.proofs.ChainLaws.{cost-least, descriptors-are, is-sound}
@@ -29,13 +29,13 @@ use Rattle.calls.specs.Check.{Passes}
 use Rattle.calls.specs.Effect.{snapStores}
 use Rattle.blocks.proofs.SharedLaws.{shared-number}
 use Rattle.blocks.proofs.StoredLaws.{block-tail, stored-bytes, tail-part}
-use Rattle.blocks.proofs.StoreLists.{Whole, none, also, isStored, stored-join, stored-length, stored-other, stored-append}
-use Rattle.claims.proofs.ChainAfter.{sound-is, copies-stored}
+use Rattle.blocks.proofs.StoreLists.{Whole, none, also, isStored, stored-join, stored-length, stored-other, stored-append, copies-stored}
+use Rattle.claims.proofs.ChainAfter.{sound-is}
 use Rattle.claims.proofs.SnappedChain.{stores-are, whole, d-low, room-bytes, old-fits, new-fits, old-long, new-long, new-inside, d-inside, copies-whole, old-block, new-block, tail-whole, same-long, split, snapped-chain}
 use Rattle.claims.proofs.AlgorithmLaws.{copied-in}
 use Rattle.claims.proofs.Undone.{area-kept}
-use Rattle.claims.proofs.PassesAfter.{number-of, rules-renamed, rules-moved}
-use Rattle.entries.proofs.TableLaws.{placed-apart, table-own, table-phi, own-inside, few-tables, under, layout-two}
+use Rattle.claims.proofs.PassesAfter.{rules-renamed, rules-moved}
+use Rattle.entries.proofs.TableLaws.{placed-apart, table-own, table-phi, own-inside, few-tables, under, layout-two, block-entry}
 use Rattle.calls.proofs.Passed.{SnapPassed}
 
 and-mid : (x y z : Bool) → y ≡ false → (x && y && z) ≡ false
@@ -146,10 +146,6 @@ cost-one d e = rw (eq-eqb (d .layout) 1 e)
 pair-not : (x y : ℕ) (f g : List ℕ) (q : ℕ) → (x ≡ q → ⊥) → (y ≡ q → ⊥) → isStored (store x f ∷ store y g ∷ []) q ≡ false
 unfolding isStored
 pair-not x y f g q h k = rw (ne-eqb x q h, ne-eqb y q k)
-
-pub block-entry : (s c : List ℕ) (m n j : ℕ) → blockAt s m ≡ blockAt c n → j < 128 → entryAt s m j ≡ entryAt c n j
-unfolding entryAt blockAt
-block-entry s c m n j e h = sym (u32-part s (512 * m) 512 (4 * j) (omega arith)) ∙ ap (λ (b : List ℕ). u32At b (4 * j)) e ∙ u32-part c (512 * n) 512 (4 * j) (omega arith)
 
 -- a snap
 module _ (c name : List ℕ) (pass : Passes c) (e : SnapPassed c name) where

@@ -26,11 +26,10 @@ use Rattle.calls.specs.Parts.{areaBad, descriptorsOf, snapshotsOf, foundThrough
 use Rattle.calls.specs.Check.{Passes}
 use Rattle.calls.specs.Effect.{writeStores}
 use Rattle.claims.specs.History.{betaOf}
-use Rattle.calls.proofs.CardLaws.{chain-is}
+use Rattle.calls.proofs.CardLaws.{chain-is, active-split}
 use Rattle.claims.proofs.Agreement.{agree-region}
 use Rattle.blocks.proofs.StoreLists.{isStored, stored-length, stored-other}
 use Rattle.claims.proofs.Inside.{write-whole}
-use Rattle.claims.proofs.ChainAfter.{active-split}
 use Rattle.claims.proofs.WrittenChain.{active-rise, active-inside, written-chain}
 use Rattle.claims.proofs.Kept.{writing-above}
 use Rattle.blocks.proofs.SharedLaws.{shared-number, Below}

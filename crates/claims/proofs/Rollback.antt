@@ -26,7 +26,7 @@ use Rattle.claims.specs.Claims.{Unsnapped, LastSnap, Matched, RevertedAt
 use Rattle.blocks.proofs.SharedLaws.{shared-bytes}
 use Rattle.calls.proofs.CardLaws.{chain-is}
 use Rattle.calls.proofs.StepLaws.{accepted-card}
-use Rattle.claims.proofs.Changed.{member-fresh, member-inside}
+use Rattle.blocks.proofs.ChangedLaws.{member-fresh, member-inside}
 use Rattle.blocks.proofs.StoreLists.{Whole, stored-length, stored-both, blocks-taken}
 use Rattle.claims.proofs.Inside.{revert-whole}
 use Rattle.claims.proofs.ChainAfter.{before, behind, link-low, revert-split, reverted-chain}

@@ -16,7 +16,7 @@ use Rattle.blocks.specs.Chain.{named, sound, Sound, chain, chainSound, activeOf
 use Rattle.blocks.specs.declared.descriptor.Descriptor.{Descriptor}
 use Rattle.blocks.proofs.BoolLaws.{no, or-false-right}
 use Rattle.blocks.proofs.ListLaws.{same-equal, same-self}
-use Rattle.blocks.proofs.DescriptorLaws.{Fits, tail-length}
+use Rattle.blocks.proofs.DescriptorLaws.{Fits, tail-length, fits-of}
 use Rattle.blocks.proofs.NamedLaws.{named-one}
 use Rattle.blocks.proofs.ChainLaws.{cost-least}
 use Rattle.blocks.proofs.LinkedLaws.{last, more, chain-linked}
@@ -24,12 +24,12 @@ use Rattle.calls.specs.Parts.{areaBad, descriptorsOf, snapshotsOf}
 use Rattle.calls.specs.Effect.{snapping, snapStores}
 use Rattle.calls.proofs.Passed.{SnapPassed}
 use Rattle.blocks.proofs.SharedLaws.{linked-chain}
-use Rattle.claims.proofs.Relinked.{linked-next, relinked}
+use Rattle.blocks.proofs.RelinkedLaws.{linked-next, relinked}
 use Rattle.blocks.proofs.StoredLaws.{block-long, stored-descriptor, stored-form, region-ok}
-use Rattle.claims.proofs.Changed.{named-append, named-left, member-from, changed-first, changed-ok}
-use Rattle.blocks.proofs.StoreLists.{Whole, none, also, whole-append, isStored, stored-join, stored-length, stored-other, stored-last}
-use Rattle.claims.proofs.Inside.{snap-whole, inside-copying}
-use Rattle.claims.proofs.ChainAfter.{fits-of, sound-is, active-last, active-name, active-fresh, link-form, link-inside, link-long, link-most, link-low, link-layout, link-volume, link-reserved, link-phi, count-kept, none-stored, one-stored, copies-stored}
+use Rattle.blocks.proofs.ChangedLaws.{named-append, named-left, member-from, changed-first, changed-ok}
+use Rattle.blocks.proofs.StoreLists.{Whole, none, also, whole-append, isStored, stored-join, stored-length, stored-other, stored-last, inside-copying, count-kept, none-stored, one-stored, copies-stored}
+use Rattle.claims.proofs.Inside.{snap-whole}
+use Rattle.claims.proofs.ChainAfter.{sound-is, active-last, active-name, active-fresh, link-form, link-inside, link-long, link-most, link-low, link-layout, link-volume, link-reserved, link-phi}
 
 same-not : (a b : List ℕ) (z : Bool) → same a b ≡ z → same b a ≡ false → same a b ≡ false
 same-not a b false e h = e

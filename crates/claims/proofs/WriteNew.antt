@@ -15,7 +15,7 @@ use Rattle.blocks.specs.Chain.{Sound, chain, activeOf}
 use Rattle.blocks.specs.declared.numbers.Physical.{Physical}
 use Rattle.blocks.specs.declared.descriptor.Descriptor.{Descriptor}
 use Rattle.blocks.proofs.BoolLaws.{no}
-use Rattle.blocks.proofs.ByteLaws.{u32-part, u32-in, u32-before, u32-after, length-le32, length-blockAt}
+use Rattle.blocks.proofs.ByteLaws.{u32-part, u32-in, u32-before, u32-after, length-le32, length-blockAt, number-of, zero-number, blocks-long}
 use Rattle.blocks.proofs.DescriptorLaws.{Fits, tail-length}
 use Rattle.blocks.proofs.SoundLaws.{form-layout}
 use Rattle.blocks.proofs.LinkedLaws.{active-at}
@@ -25,25 +25,21 @@ use Rattle.entries.specs.Entry.{entryAt, phiAt, tableOf, find, tableIsNew, need
 use Rattle.entries.specs.Rules.{entryOf, Rules}
 use Rattle.entries.specs.declared.find.Found.{Found}
 use Rattle.entries.specs.declared.find.Found.the-variants.{Entry}
-use Rattle.entries.proofs.EntryLaws.{placed-below, need-more}
+use Rattle.entries.proofs.EntryLaws.{placed-below, need-more, new-table, placed-not-active}
 use Rattle.entries.proofs.SetLaws.{tail-with-length}
 use Rattle.calls.specs.Parts.{descriptorsOf, snapshotsOf, foundThrough}
 use Rattle.calls.specs.Check.{Passes}
 use Rattle.calls.specs.Effect.{writeStores}
-use Rattle.calls.proofs.CardLaws.{card-most, chain-is}
+use Rattle.calls.proofs.CardLaws.{card-most, chain-is, active-split}
 use Rattle.blocks.proofs.StoredLaws.{stored-bytes, block-tail}
-use Rattle.blocks.proofs.StoreLists.{Whole, isStored, stored-length, stored-other}
+use Rattle.blocks.proofs.StoreLists.{Whole, isStored, stored-length, stored-other, none-stored, not-stored}
 use Rattle.claims.proofs.Inside.{write-whole}
-use Rattle.claims.proofs.ChainAfter.{active-split, none-stored}
-use Rattle.claims.proofs.WrittenChain.{stored-last, not-stored, ds-some, active-next, active-form, active-rise, active-volume, active-name, placed-not-active, new-table}
-use Rattle.claims.proofs.Format.{zero-number}
+use Rattle.claims.proofs.WrittenChain.{stored-last, ds-some, active-next, active-form, active-rise, active-volume, active-name}
 use Rattle.entries.proofs.FoundLaws.{found-holder, found-own}
 use Rattle.entries.proofs.LocalLaws.{Region}
-use Rattle.claims.proofs.PassesAfter.{number-of}
-use Rattle.claims.proofs.PassesSnapped.{block-entry}
 use Rattle.claims.proofs.PassesWrite.{extended-stays, extended-new, write-region, set-table-rules, set-phi-rules}
 use Rattle.claims.proofs.WriteFacts.{WriteFacts}
-use Rattle.entries.proofs.TableLaws.{table-phi, few-tables, under, layout-two, group-below, entry-in}
+use Rattle.entries.proofs.TableLaws.{table-phi, few-tables, under, layout-two, group-below, entry-in, block-entry}
 use Rattle.calls.proofs.Passed.{WritePassed}
 
 -- numbers of four bytes each, after n bytes of a list: one that is put, and the others
@@ -328,10 +324,6 @@ module _ (c : List ℕ) (passes : Passes c) (l : ℕ) (block : List ℕ) (ok : W
   write-room : act .beta .0 + need (act .alpha .0) (foundThrough c act l) ≤ blockCount c
   write-room = ok .room
 
-  blocks-long : (n : ℕ) → n ≤ blockCount c → 512 * n ≤ length c
-  unfolding blockCount
-  blocks-long n h = omega arith
-
   module _ (m p : Physical) (is : foundThrough c act l ≡ Entry m p) (takes : need (act .alpha .0) (Entry m p) ≡ 2) where
     abbrev new-bytes : List ℕ
     new-bytes = tableWith (pick (eqb (m .0) 0) zeroBlock (blockAt c (m .0))) (l % 128) (act .beta .0 + 1)
@@ -382,7 +374,7 @@ module _ (c : List ℕ) (passes : Passes c) (l : ℕ) (block : List ℕ) (ok : W
     facts : WriteFacts c (storeAll c ss) (snaps ++ (extendedOf act 2 ∷ [])) act (extendedOf act 2) l block
     facts =
         two-facts c (storeAll c ss) chn (snaps ++ (extendedOf act 2 ∷ [])) act l (m .0) block (sym (stored-length (length c) c refl whole)) write-inside (active-volume c chn sound-c)
-        in-layout rise (omega (arith, blocks-long (act .beta .0 + 2) room-two)) act-small act-fits
+        in-layout rise (omega (arith, blocks-long c (act .beta .0 + 2) room-two)) act-small act-fits
         (stored-last (length c) (act .beta .0 + 1) block (store (act .beta .0) new-bytes ∷ store (act .alpha .0) head-bytes ∷ [])
         (not-stored (act .beta .0) new-bytes (store (act .alpha .0) head-bytes ∷ []) (act .beta .0 + 1) (λ v. omega (arith, v))
         (not-stored (act .alpha .0) head-bytes [] (act .beta .0 + 1) (λ v. omega (arith, v, rise)) (none-stored (act .beta .0 + 1))))

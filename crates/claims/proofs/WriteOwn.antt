@@ -18,7 +18,7 @@ use Rattle.blocks.specs.declared.descriptor.Descriptor.{Descriptor}
 use Rattle.blocks.proofs.Tests.{and-right}
 use Rattle.blocks.proofs.BoolLaws.{no, true-or, or-false-right}
 use Rattle.blocks.proofs.ByteLaws.{u32-before, u32-after, u32-in, length-le32, length-blockAt}
-use Rattle.blocks.proofs.DescriptorLaws.{Fits}
+use Rattle.blocks.proofs.DescriptorLaws.{Fits, fits-of, extended-none}
 use Rattle.blocks.proofs.SoundLaws.{form-layout}
 use Rattle.blocks.proofs.LinkedLaws.{chain-linked, linked-some, active-at}
 use Rattle.entries.specs.InPlace.{isDescriptor, isTable, inPlace}
@@ -26,23 +26,21 @@ use Rattle.entries.specs.Entry.{entryAt, phiAt, tableOf, find, tableIsNew, need
 use Rattle.entries.specs.Rules.{entryOf, Rules}
 use Rattle.entries.specs.declared.find.Found.{Found}
 use Rattle.entries.specs.declared.find.Found.the-variants.{Entry}
-use Rattle.entries.proofs.EntryLaws.{placed-below}
+use Rattle.entries.proofs.EntryLaws.{placed-below, old-table, placed-not-active, need-nothing}
 use Rattle.calls.specs.Parts.{descriptorsOf, snapshotsOf, foundThrough}
 use Rattle.calls.specs.Check.{Passes}
 use Rattle.calls.specs.Effect.{writeStores}
-use Rattle.calls.proofs.CardLaws.{card-most, chain-is}
-use Rattle.claims.proofs.Changed.{layout-small, member-form}
-use Rattle.blocks.proofs.StoreLists.{Whole, stored-length, stored-other}
+use Rattle.calls.proofs.CardLaws.{card-most, chain-is, active-split}
+use Rattle.blocks.proofs.ChangedLaws.{layout-small, member-form}
+use Rattle.blocks.proofs.StoreLists.{Whole, stored-length, stored-other, none-stored, one-stored, not-stored}
 use Rattle.claims.proofs.Inside.{write-whole}
-use Rattle.claims.proofs.ChainAfter.{active-split, fits-of, none-stored, one-stored}
 use Rattle.entries.proofs.LocalLaws.{Region}
-use Rattle.claims.proofs.WrittenChain.{stored-last, not-stored, extended-none, placed-not-active, old-table, need-nothing}
+use Rattle.claims.proofs.WrittenChain.{stored-last}
 use Rattle.claims.proofs.WrittenChain.{active-next, active-inside, active-long, active-rise, active-end, active-volume, active-name}
 use Rattle.entries.proofs.FoundLaws.{found-holder, found-value}
-use Rattle.claims.proofs.PassesSnapped.{block-entry}
 use Rattle.claims.proofs.PassesWrite.{extended-stays, extended-new, write-region, set-table-rules, set-phi-rules, kept-entry, kept-rules}
 use Rattle.claims.proofs.WriteFacts.{WriteFacts}
-use Rattle.entries.proofs.TableLaws.{table-own, table-phi, own-inside, few-tables, under, layout-two, group-below, entry-in, phi-stored}
+use Rattle.entries.proofs.TableLaws.{table-own, table-phi, own-inside, few-tables, under, layout-two, group-below, entry-in, phi-stored, block-entry}
 use Rattle.calls.proofs.Passed.{WritePassed}
 
 -- the stores of a write that takes no block, and of one that takes one

@@ -1,44 +1,41 @@
 -- The chain after an accepted write: the snapshots as they were, then the active descriptor with as many more blocks as the write took.
 use mathlib.Core.Path.{_≡_, refl, sym, ap, _∙_, subst}
 use mathlib.Core.Logic.{inl}
-use mathlib.Core.Bool.{Bool, true, false, not, _&&_}
+use mathlib.Core.Bool.{Bool, true, false}
 use mathlib.Core.List.{List, [], _∷_, _++_}
 use Prim.Native.Nat.{ℕ, _+_, _*_, _/_, _%_, _≤_, _<_}
 use native.Mathlib.Omega.{arith}
 use lib.ListN.{length, length-append}
-use lib.Dec.{eqb, ltb, leb}
-use borrow.Author.Tests.{eq-eqb, ne-eqb, le-ltb, eqb-true, eqb-false, ltb-false, leb-true, not-true}
+use lib.Dec.{eqb}
+use borrow.Author.Tests.{eqb-true, eqb-false}
 use Rattle.blocks.specs.Pick.{pick}
 use Rattle.blocks.specs.Bytes.{le32, part, blockCount, blockAt, zeroBlock, Store, store, storeBlock, storeAll}
 use Rattle.blocks.specs.Name.{isName}
-use Rattle.blocks.specs.Descriptor.{physical, costOf, descriptorAt, tailAt, descriptorBlock, extendedOf, reservedOk, phiOk}
+use Rattle.blocks.specs.Descriptor.{costOf, descriptorAt, tailAt, descriptorBlock, extendedOf, reservedOk, phiOk}
 use Rattle.blocks.specs.Chain.{formOk, regionOk, sound, Sound, chain, activeOf}
 use Rattle.blocks.specs.declared.numbers.Physical.{Physical}
 use Rattle.blocks.specs.declared.descriptor.Descriptor.{Descriptor}
-use Rattle.blocks.proofs.Tests.{and-left, and-right}
-use Rattle.blocks.proofs.BoolLaws.{no, true-or, or-false-both}
+use Rattle.blocks.proofs.BoolLaws.{no}
 use Rattle.blocks.proofs.ByteLaws.{length-le32, part-before, store-length, store-same}
-use Rattle.blocks.proofs.DescriptorLaws.{Fits, tail-length}
+use Rattle.blocks.proofs.DescriptorLaws.{Fits, tail-length, extended-none}
 use Rattle.blocks.proofs.SoundLaws.{form-most, form-layout}
 use Rattle.blocks.proofs.ChainLaws.{region-long, region-end, cost-least}
 use Rattle.blocks.proofs.LinkedLaws.{Linked, last, chain-linked, chain-few, linked-some}
 use Rattle.blocks.proofs.NameLaws.{name-size}
-use Rattle.entries.specs.InPlace.{isDescriptor, inPlace}
 use Rattle.entries.specs.Entry.{find, tableIsNew, need, tableWith, tailWith, setInTable, setInNewTable, writing}
 use Rattle.entries.specs.declared.find.Found.{Found}
 use Rattle.entries.specs.declared.find.Found.the-variants.{Misplaced, Entry}
-use Rattle.entries.proofs.EntryLaws.{find-placed, placed-other, need-more}
+use Rattle.entries.proofs.EntryLaws.{find-placed, need-more, new-table, old-table, placed-not-active, need-nothing}
 use Rattle.entries.proofs.SetLaws.{tail-with-length}
 use Rattle.calls.specs.Parts.{descriptorsOf, snapshotsOf, foundThrough, isMisplaced}
 use Rattle.calls.specs.Effect.{writeStores}
-use Rattle.calls.proofs.CardLaws.{card-most, chain-is}
+use Rattle.calls.proofs.CardLaws.{card-most, chain-is, active-split}
 use Rattle.blocks.proofs.SharedLaws.{linked-chain, shared-descriptor, shared-sound}
-use Rattle.claims.proofs.Relinked.{linked-from, linked-head, relinked, linked-next}
+use Rattle.blocks.proofs.RelinkedLaws.{linked-from, linked-head, relinked, linked-next}
 use Rattle.blocks.proofs.StoredLaws.{tail-part, form-kept, form-phi, form-name}
-use Rattle.claims.proofs.Changed.{layout-small, member-form, member-region, member-fresh, member-inside, changed-last}
-use Rattle.blocks.proofs.StoreLists.{Whole, also, isStored, stored-length, stored-other}
+use Rattle.blocks.proofs.ChangedLaws.{layout-small, member-form, member-region, member-fresh, member-inside, changed-last}
+use Rattle.blocks.proofs.StoreLists.{Whole, also, isStored, stored-length, stored-other, none-stored, not-stored}
 use Rattle.claims.proofs.Inside.{write-whole}
-use Rattle.claims.proofs.ChainAfter.{active-split, none-stored}
 use Rattle.entries.proofs.FoundLaws.{found-own, found-placed}
 use Rattle.calls.proofs.Passed.{WritePassed}
 
@@ -58,17 +55,6 @@ module _ (n : ℕ) (p : ℕ) (b : List ℕ) (ys : List Store) (after : isStored 
       let h = whole-parts w in
       let i : 512 * x .at + 512 ≤ length c = omega (arith, h .1) in
       stored-last (storeBlock c (x .at) (x .bytes)) (store-length c (x .at) (x .bytes) (h .0) i ∙ e) xs (h .2)
-
--- a block that the first store does not name, nor the others
-pub not-stored : (p : ℕ) (b : List ℕ) (ss : List Store) (q : ℕ) → (p ≡ q → ⊥) → isStored ss q ≡ false → isStored (store p b ∷ ss) q ≡ false
-unfolding isStored
-not-stored p b ss q n h = rw (ne-eqb p q n) h
-
--- no more blocks: the descriptor as it was
-pub extended-none : (d : Descriptor) → extendedOf d 0 ≡ d
-extended-none d =
-    let e : d .beta .0 + 0 ≡ d .beta .0 = omega arith in
-    ap (λ (b : ℕ). record { layout = d .layout; volume = d .volume; alpha = d .alpha; beta = physical b; next = d .next; name = d .name }) e
 
 -- stores at or above the active alpha, on a card with a sound chain
 module _ (c : List ℕ) (ds : List Descriptor) (sound-c : chain c ≡ Sound ds) where
@@ -190,40 +176,6 @@ module _ (c : List ℕ) (ds : List Descriptor) (sound-c : chain c ≡ Sound ds) 
       extended-chain =
           changed-last c ds xs d [] sound-c split t long kept (extendedOf d k) tail is extended-fits tail-whole refl refl refl active-name reserved phi
           (omega (arith, active-long)) end (inl active-next) (member-fresh c ds xs d [] sound-c split) active-next few
-
--- the active descriptor's block is a descriptor of the chain, and so no set entry in place names it
-active-descriptor : (ds : List Descriptor) → 0 < length ds → isDescriptor ds (activeOf ds .alpha .0) ≡ true
-unfolding isDescriptor activeOf
-active-descriptor [] h = absurd (omega arith)
-active-descriptor (d ∷ []) h = rw (eq-eqb (d .alpha .0) (d .alpha .0) refl)
-active-descriptor (d ∷ e ∷ ds) h = true-or (eqb (activeOf (e ∷ ds) .alpha .0) (d .alpha .0)) (isDescriptor (e ∷ ds) (activeOf (e ∷ ds) .alpha .0)) (active-descriptor (e ∷ ds) (omega arith))
-
-pub placed-not-active : (ds : List Descriptor) → 0 < length ds → (p : ℕ) → inPlace ds (activeOf ds) p ≡ true → (p ≡ 0 → ⊥) → p ≡ activeOf ds .alpha .0 → ⊥
-placed-not-active ds h p placed n e =
-    let f : isDescriptor ds p ≡ true = subst (λ (q : ℕ). isDescriptor ds q ≡ true) (sym e) (active-descriptor ds h) in
-    no (sym (placed-other ds (activeOf ds) p placed n) ∙ f)
-
--- a table block above alpha is not new; one that is not new is set and at or above alpha
-pub new-table : (alpha m : ℕ) → alpha < m → tableIsNew alpha m ≡ false
-unfolding tableIsNew
-new-table alpha m h = rw (ne-eqb m 0 (omega arith), le-ltb m alpha (omega arith))
-
-pub old-table : (alpha m : ℕ) → tableIsNew alpha m ≡ false → (m ≡ 0 → ⊥) × (alpha ≤ m)
-unfolding tableIsNew
-old-table alpha m h = let r = or-false-both (eqb m 0) (ltb m alpha) h in (eqb-false m 0 (r .0), ltb-false m alpha (r .1))
-
--- what a write takes
-need-set : (s new : Bool) (n : ℕ) → n ≡ pick s 0 (pick new 2 1) → n ≡ 0 → s ≡ true
-need-set true new n e z = refl
-need-set false true n e z = absurd (omega arith)
-need-set false false n e z = absurd (omega arith)
-
--- none: the entry is set and at or above alpha
-pub need-nothing : (alpha : ℕ) (m p : Physical) → need alpha (Entry m p) ≡ 0 → (p .0 ≡ 0 → ⊥) × (alpha ≤ p .0)
-unfolding need
-need-nothing alpha m p e =
-    let s = need-set (not (eqb (p .0) 0) && leb alpha (p .0)) (tableIsNew alpha (m .0)) (need alpha (Entry m p)) refl e in
-    (eqb-false (p .0) 0 (not-true (eqb (p .0) 0) (and-left (not (eqb (p .0) 0)) (leb alpha (p .0)) s)), leb-true alpha (p .0) (and-right (not (eqb (p .0) 0)) (leb alpha (p .0)) s))
 
 -- a tail with an entry of Phi set
 module _ (tail : List ℕ) (i m : ℕ) (few-entries : i < 112) (tail-whole : length tail ≡ 472) where

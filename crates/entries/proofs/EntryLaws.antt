@@ -1,20 +1,20 @@
 -- Laws of finding, as the code asks them.
-use mathlib.Core.Path.{_≡_, refl, sym, ap, _∙_}
+use mathlib.Core.Path.{_≡_, refl, sym, ap, _∙_, subst}
 use mathlib.Core.Bool.{Bool, true, false, not, _&&_, _||_}
-use mathlib.Core.List.{List}
+use mathlib.Core.List.{List, [], _∷_}
 use Prim.Native.Nat.{ℕ, _+_, _*_, _/_, _%_, _≤_, _<_, _^_}
 use native.Mathlib.Omega.{arith}
 use lib.ListN.{length}
 use lib.Dec.{eqb, ltb, leb}
-use borrow.Author.Tests.{eq-eqb, ne-eqb, not-true, not-false, ltb-true, eqb-true, eqb-false}
+use borrow.Author.Tests.{eq-eqb, ne-eqb, not-true, not-false, ltb-true, eqb-true, eqb-false, le-ltb, ltb-false, leb-true}
 use Rattle.blocks.specs.Pick.{pick}
 use Rattle.blocks.specs.Bytes.{blockCount}
 use Rattle.blocks.specs.Descriptor.{physical, tableCount, cost, costOf}
-use Rattle.blocks.specs.Chain.{chain, descriptors}
+use Rattle.blocks.specs.Chain.{chain, descriptors, activeOf}
 use Rattle.blocks.specs.declared.numbers.Physical.{Physical}
 use Rattle.blocks.specs.declared.descriptor.Descriptor.{Descriptor}
-use Rattle.blocks.proofs.Tests.{and-right}
-use Rattle.blocks.proofs.BoolLaws.{or-false-left}
+use Rattle.blocks.proofs.Tests.{and-right, and-left}
+use Rattle.blocks.proofs.BoolLaws.{or-false-left, or-false-both, true-or, no}
 use Rattle.blocks.proofs.SoundLaws.{form-most}
 use Rattle.blocks.proofs.ChainLaws.{cost-least}
 use Rattle.blocks.proofs.LinkedLaws.{at-alpha, at-long, at-end}
@@ -188,3 +188,37 @@ need-some false new n e z = e
 pub need-more : (alpha : ℕ) (m p : Physical) → (need alpha (Entry m p) ≡ 0 → ⊥) → need alpha (Entry m p) ≡ pick (tableIsNew alpha (m .0)) 2 1
 unfolding need
 need-more alpha m p z = need-some (not (eqb (p .0) 0) && leb alpha (p .0)) (tableIsNew alpha (m .0)) (need alpha (Entry m p)) refl z
+
+-- a table block above alpha is not new; one that is not new is set and at or above alpha
+pub new-table : (alpha m : ℕ) → alpha < m → tableIsNew alpha m ≡ false
+unfolding tableIsNew
+new-table alpha m h = rw (ne-eqb m 0 (omega arith), le-ltb m alpha (omega arith))
+
+pub old-table : (alpha m : ℕ) → tableIsNew alpha m ≡ false → (m ≡ 0 → ⊥) × (alpha ≤ m)
+unfolding tableIsNew
+old-table alpha m h = let r = or-false-both (eqb m 0) (ltb m alpha) h in (eqb-false m 0 (r .0), ltb-false m alpha (r .1))
+
+-- the active descriptor's block is a descriptor of the chain, and so no set entry in place names it
+active-descriptor : (ds : List Descriptor) → 0 < length ds → isDescriptor ds (activeOf ds .alpha .0) ≡ true
+unfolding isDescriptor activeOf
+active-descriptor [] h = absurd (omega arith)
+active-descriptor (d ∷ []) h = rw (eq-eqb (d .alpha .0) (d .alpha .0) refl)
+active-descriptor (d ∷ e ∷ ds) h = true-or (eqb (activeOf (e ∷ ds) .alpha .0) (d .alpha .0)) (isDescriptor (e ∷ ds) (activeOf (e ∷ ds) .alpha .0)) (active-descriptor (e ∷ ds) (omega arith))
+
+pub placed-not-active : (ds : List Descriptor) → 0 < length ds → (p : ℕ) → inPlace ds (activeOf ds) p ≡ true → (p ≡ 0 → ⊥) → p ≡ activeOf ds .alpha .0 → ⊥
+placed-not-active ds h p placed n e =
+    let f : isDescriptor ds p ≡ true = subst (λ (q : ℕ). isDescriptor ds q ≡ true) (sym e) (active-descriptor ds h) in
+    no (sym (placed-other ds (activeOf ds) p placed n) ∙ f)
+
+-- what a write takes
+need-set : (s new : Bool) (n : ℕ) → n ≡ pick s 0 (pick new 2 1) → n ≡ 0 → s ≡ true
+need-set true new n e z = refl
+need-set false true n e z = absurd (omega arith)
+need-set false false n e z = absurd (omega arith)
+
+-- none: the entry is set and at or above alpha
+pub need-nothing : (alpha : ℕ) (m p : Physical) → need alpha (Entry m p) ≡ 0 → (p .0 ≡ 0 → ⊥) × (alpha ≤ p .0)
+unfolding need
+need-nothing alpha m p e =
+    let s = need-set (not (eqb (p .0) 0) && leb alpha (p .0)) (tableIsNew alpha (m .0)) (need alpha (Entry m p)) refl e in
+    (eqb-false (p .0) 0 (not-true (eqb (p .0) 0) (and-left (not (eqb (p .0) 0)) (leb alpha (p .0)) s)), leb-true alpha (p .0) (and-right (not (eqb (p .0) 0)) (leb alpha (p .0)) s))

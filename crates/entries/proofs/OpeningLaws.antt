@@ -26,6 +26,7 @@ use Rattle.entries.specs.declared.check.Verdict.the-variants.{Passed}
 use Rattle.entries.proofs.RegionLaws.{opening-alone, through-count, through-at, through-region, through-rising}
 use Rattle.entries.proofs.EntryLaws.{through-beta, through-end, through-volume}
 use Rattle.entries.proofs.CheckLaws.{Agrees, above-all, above-tables, taking-agrees}
+use Rattle.blocks.proofs.ByteLaws.{zeros-at}
 
 -- a run of flags
 flagged-length : (seen : List ℕ) (from n : ℕ) → length (flagged seen from n) ≡ length seen
@@ -217,12 +218,6 @@ module _ (c starts : List ℕ) (count : ℕ) (d : Descriptor) (t : Through c sta
         let at : (v : ℕ) → getD seen v 0 ≡ pick (opened ds v) 255 0 = λ v. rw (is, e) (opened-all v) in
         marks-first ds seen at
 
--- flags that are all clear
-pub replicate-clear : (n v : ℕ) → _≡_ {A = ℕ} (getD (replicate n 0) v 0) 0
-replicate-clear zero v = refl
-replicate-clear (suc n) zero = refl
-replicate-clear (suc n) (suc v) = replicate-clear n v
-
 -- the flags of the next turn
 module _ (c starts : List ℕ) (count : ℕ) (d : Descriptor) (t : Through c starts count d) (cost : ℕ) (cost-is : cost ≡ costOf d) (turn : ℕ) (seen : List ℕ) (long : length c ≤ 512 * length seen)
     (marks : turn < 255 → Marks (descriptors (chain c)) (turn + 1) seen []) where
@@ -232,7 +227,7 @@ module _ (c starts : List ℕ) (count : ℕ) (d : Descriptor) (t : Through c sta
   turn-by false e =
       let n = length seen in
       let zeros = replicate {A = ℕ} n 0 in
-      rw e (openings-marked c starts count d t zeros (omega (arith, length-replicate {A = ℕ} n 0)) (replicate-clear n) cost cost-is (openingsFlagged zeros starts cost count) refl)
+      rw e (openings-marked c starts count d t zeros (omega (arith, length-replicate {A = ℕ} n 0)) (zeros-at n) cost cost-is (openingsFlagged zeros starts cost count) refl)
 
   pub turn-marked : Marks (descriptors (chain c)) (nextTurn turn) (nextFlags seen starts cost count turn) []
   turn-marked = turn-by (ltb turn 255) refl

@@ -139,3 +139,8 @@ unfolding tableOf
 table-as s t d e i a b h =
     ap (λ (x : ℕ). pick (eqb x 1) (e .alpha .0 + 1 + i) (phiAt t e i)) a ∙ ap (λ (x : Physical). pick (eqb (d .layout) 1) (x .0 + 1 + i) (phiAt t e i)) b
     ∙ ap (λ (x : ℕ). pick (eqb (d .layout) 1) (d .alpha .0 + 1 + i) x) h
+
+-- the entries of two blocks that are equal
+pub block-entry : (s c : List ℕ) (m n j : ℕ) → blockAt s m ≡ blockAt c n → j < 128 → entryAt s m j ≡ entryAt c n j
+unfolding entryAt blockAt
+block-entry s c m n j e h = sym (u32-part s (512 * m) 512 (4 * j) (omega arith)) ∙ ap (λ (b : List ℕ). u32At b (4 * j)) e ∙ u32-part c (512 * n) 512 (4 * j) (omega arith)

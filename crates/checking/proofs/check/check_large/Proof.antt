@@ -1,7 +1,7 @@
 -- `check_large` meets its contract: no card has more blocks than there are flags.
 use native.Mathlib.Omega.{arith}
 use borrow.Author.Needs.{needs}
-use Rattle.entries.proofs.OpeningLaws.{replicate-clear}
+use Rattle.blocks.proofs.ByteLaws.{zeros-at}
 use Rattle.calls.proofs.CardLaws.{card-small}
 use Rattle.checking.proofs.check.check_large.Statement.{statement}
 use Rattle.checking.proofs.check.check_large.Tie as tie
@@ -12,7 +12,7 @@ slice-aggregate-check-chain c = search needs
 check-chain-requires : tie.Need-check-chain-requires
 check-chain-requires c κs =
     let s = c .before .before .before in
-    (s .pre .0, s .pre .1, replicate-clear 65536, omega (arith, card-small _ (s .pre .0)))
+    (s .pre .0, s .pre .1, zeros-at 65536, omega (arith, card-small _ (s .pre .0)))
 
 returns : tie.Need-returns
 returns c = search needs

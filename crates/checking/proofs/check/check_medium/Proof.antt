@@ -1,7 +1,7 @@
 -- `check_medium` meets its contract: a card of this size has no more blocks than there are flags.
 use native.Mathlib.Omega.{arith}
 use borrow.Author.Needs.{needs}
-use Rattle.entries.proofs.OpeningLaws.{replicate-clear}
+use Rattle.blocks.proofs.ByteLaws.{zeros-at}
 use Rattle.checking.proofs.check.check_medium.Statement.{statement}
 use Rattle.checking.proofs.check.check_medium.Tie as tie
 
@@ -11,7 +11,7 @@ slice-aggregate-check-chain c = search needs
 check-chain-requires : tie.Need-check-chain-requires
 check-chain-requires c κs =
     let s = c .before .before .before in
-    (s .pre .0, s .pre .1, replicate-clear 16384, omega arith)
+    (s .pre .0, s .pre .1, zeros-at 16384, omega arith)
 
 returns : tie.Need-returns
 returns c = search needs

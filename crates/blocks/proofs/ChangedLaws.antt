@@ -8,21 +8,21 @@ use native.Mathlib.Omega.{arith}
 use lib.ListN.{length, length-append}
 use lib.Dec.{eqb}
 use borrow.Author.Tests.{eqb-true, eqb-false, not-true}
 use Rattle.blocks.specs.Pick.{same}
 use Rattle.blocks.specs.Bytes.{part, blockCount, blockAt}
 use Rattle.blocks.specs.Name.{isName}
 use Rattle.blocks.specs.Descriptor.{costOf, descriptorAt, descriptorBlock, reservedOk, phiOk}
 use Rattle.blocks.specs.Chain.{formOk, regionOk, named, sound, Sound, chain}
 use Rattle.blocks.specs.declared.descriptor.Descriptor.{Descriptor}
 use Rattle.blocks.proofs.Tests.{and-right}
 use Rattle.blocks.proofs.BoolLaws.{or-assoc, or-false-left}
 use Rattle.blocks.proofs.DescriptorLaws.{Fits}
 use Rattle.blocks.proofs.NamedLaws.{named-none, named-cons}
 use Rattle.blocks.proofs.ChainLaws.{region-layout, region-volume, region-end, region-long, cost-least}
 use Rattle.blocks.proofs.LinkedLaws.{Linked, last, chain-linked, sound-form, sound-region}
 use Rattle.blocks.proofs.SharedLaws.{linked-chain, shared-descriptor}
-use Rattle.claims.proofs.Relinked.{linked-from, linked-head, relinked}
+use Rattle.blocks.proofs.RelinkedLaws.{linked-from, linked-head, relinked}
 use Rattle.blocks.proofs.StoredLaws.{stored-descriptor, stored-form, region-ok}
 
 -- a layout is small
 layout-by : (l : ℕ) (x y : Bool) → eqb l 1 ≡ x → eqb l 2 ≡ y → (x || y) ≡ true → l ≤ 2
