@@ -304,7 +304,8 @@ module _ (c : List ℕ) (some : length c / 512 ≡ 0 → ⊥) (d : Descriptor) (
     unfolding named indexOf descriptorsAt
     not-named = refl
 
-    pub first-end : d .next .0 ≡ 0 → _≡_ {A = Regions} (record { sound = true; place = physical 0; active = d; count = 1; starts = set (replicate 257 0) 1 (d .beta .0) }) (regionsOf (chain c))
+    pub first-end : d .next .0 ≡ 0 → regionsOf (Sound (d ∷ [])) ≡ regionsOf (chain c)
+    unfolding regionsOf activeOf ends startsOf
     first-end = walk-end c (replicate 257 0) 0 0 (walked-none c some) (omega arith) d is d is n count true (sym right) refl false not-named refl
 
     pub first-next : (d .next .0 ≡ 0 → ⊥) → 512 * d .next .0 + 512 ≤ length c

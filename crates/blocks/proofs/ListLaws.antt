@@ -1,4 +1,4 @@
--- Laws of `same`, `allZero` and `nameLength` with i of the elements passed, as a loop over a slice asks them.
+-- Laws of `same`, `allZero`, `nameLength`, `nameOrZero` and `zerosLast` with i of the elements passed, as a loop over a slice asks them.
 use mathlib.Core.Path.{_≡_, refl, sym, ap, _∙_}
 use mathlib.Core.Bool.{Bool, true, false, not, _&&_, _||_}
 use mathlib.Core.List.{List, [], _∷_}
@@ -176,48 +176,48 @@ module _ (a : List ℕ) where
   name-end i h = rw (drop-of-length-le a h) (omega arith)
 
 -- what is left to be of a name or zero from index i
-unfoldable pub paddedFrom : List ℕ → ℕ → Bool
-paddedFrom a i = nameOrZero (drop i a)
+unfoldable pub nameOrZeroFrom : List ℕ → ℕ → Bool
+nameOrZeroFrom a i = nameOrZero (drop i a)
 
 module _ (a : List ℕ) where
-  pub padded-start : nameOrZero a ≡ paddedFrom a 0
-  unfolding paddedFrom
-  padded-start = refl
+  pub name-or-zero-start : nameOrZero a ≡ nameOrZeroFrom a 0
+  unfolding nameOrZeroFrom
+  name-or-zero-start = refl
 
-  padded-step : (i : ℕ) → i < length a → paddedFrom a i ≡ ((nameByte (getD a i 0) || eqb (getD a i 0) 0) && paddedFrom a (i + 1))
-  unfolding nameOrZero paddedFrom
-  padded-step i h = rw (add-one, drop-cons a i 0)
+  name-or-zero-step : (i : ℕ) → i < length a → nameOrZeroFrom a i ≡ ((nameByte (getD a i 0) || eqb (getD a i 0) 0) && nameOrZeroFrom a (i + 1))
+  unfolding nameOrZero nameOrZeroFrom
+  name-or-zero-step i h = rw (add-one, drop-cons a i 0)
 
   -- with a test carried along: all before are, and what is left decides
-  pub padded-next : (i : ℕ) (z r : Bool) → i < length a → r ≡ (z && (nameByte (getD a i 0) || eqb (getD a i 0) 0)) → nameOrZero a ≡ (z && paddedFrom a i) → nameOrZero a ≡ (r && paddedFrom a (i + 1))
-  padded-next i true r h e q = q ∙ padded-step i h ∙ rw e
-  padded-next i false r h e q = q ∙ rw e
+  pub name-or-zero-next : (i : ℕ) (z r : Bool) → i < length a → r ≡ (z && (nameByte (getD a i 0) || eqb (getD a i 0) 0)) → nameOrZero a ≡ (z && nameOrZeroFrom a i) → nameOrZero a ≡ (r && nameOrZeroFrom a (i + 1))
+  name-or-zero-next i true r h e q = q ∙ name-or-zero-step i h ∙ rw e
+  name-or-zero-next i false r h e q = q ∙ rw e
 
-  pub padded-last : (i : ℕ) (z : Bool) → length a ≤ i → nameOrZero a ≡ (z && paddedFrom a i) → z ≡ nameOrZero a
-  unfolding nameOrZero paddedFrom
-  padded-last i true h q = sym (q ∙ rw (drop-of-length-le a h))
-  padded-last i false h q = sym q
+  pub name-or-zero-last : (i : ℕ) (z : Bool) → length a ≤ i → nameOrZero a ≡ (z && nameOrZeroFrom a i) → z ≡ nameOrZero a
+  unfolding nameOrZero nameOrZeroFrom
+  name-or-zero-last i true h q = sym (q ∙ rw (drop-of-length-le a h))
+  name-or-zero-last i false h q = sym q
 
 -- what is left to have only zeros after a zero from index i
-unfoldable pub endedFrom : List ℕ → ℕ → Bool
-endedFrom a i = zerosLast (drop i a)
+unfoldable pub zerosLastFrom : List ℕ → ℕ → Bool
+zerosLastFrom a i = zerosLast (drop i a)
 
 module _ (a : List ℕ) where
-  pub ended-start : zerosLast a ≡ endedFrom a 0
-  unfolding endedFrom
-  ended-start = refl
+  pub zeros-last-start : zerosLast a ≡ zerosLastFrom a 0
+  unfolding zerosLastFrom
+  zeros-last-start = refl
 
-  ended-step : (i : ℕ) → i + 1 < length a → endedFrom a i ≡ ((not (eqb (getD a i 0) 0) || eqb (getD a (i + 1) 0) 0) && endedFrom a (i + 1))
-  unfolding zerosLast endedFrom
-  ended-step i h = rw (add-one, drop-cons a i 0 (omega arith), drop-cons a (suc i) 0 (omega arith))
+  zeros-last-step : (i : ℕ) → i + 1 < length a → zerosLastFrom a i ≡ ((not (eqb (getD a i 0) 0) || eqb (getD a (i + 1) 0) 0) && zerosLastFrom a (i + 1))
+  unfolding zerosLast zerosLastFrom
+  zeros-last-step i h = rw (add-one, drop-cons a i 0 (omega arith), drop-cons a (suc i) 0 (omega arith))
 
-  pub ended-next : (i : ℕ) (z r : Bool) → i + 1 < length a → r ≡ (z && (not (eqb (getD a i 0) 0) || eqb (getD a (i + 1) 0) 0)) → zerosLast a ≡ (z && endedFrom a i) → zerosLast a ≡ (r && endedFrom a (i + 1))
-  ended-next i true r h e q = q ∙ ended-step i h ∙ rw e
-  ended-next i false r h e q = q ∙ rw e
+  pub zeros-last-next : (i : ℕ) (z r : Bool) → i + 1 < length a → r ≡ (z && (not (eqb (getD a i 0) 0) || eqb (getD a (i + 1) 0) 0)) → zerosLast a ≡ (z && zerosLastFrom a i) → zerosLast a ≡ (r && zerosLastFrom a (i + 1))
+  zeros-last-next i true r h e q = q ∙ zeros-last-step i h ∙ rw e
+  zeros-last-next i false r h e q = q ∙ rw e
 
-  pub ended-last : (i : ℕ) (z : Bool) → length a ≡ i + 1 → zerosLast a ≡ (z && endedFrom a i) → z ≡ zerosLast a
-  unfolding zerosLast endedFrom
-  ended-last i true h q =
+  pub zeros-last-last : (i : ℕ) (z : Bool) → length a ≡ i + 1 → zerosLast a ≡ (z && zerosLastFrom a i) → z ≡ zerosLast a
+  unfolding zerosLast zerosLastFrom
+  zeros-last-last i true h q =
       let past : length a ≤ suc i = omega arith in
       sym (q ∙ rw (drop-cons a i 0 (omega arith), drop-of-length-le a past))
-  ended-last i false h q = sym q
+  zeros-last-last i false h q = sym q

@@ -20,13 +20,13 @@ pub name-size : (n : List ℕ) → isName n ≡ true → length n ≡ 16
 unfolding isName
 name-size n h = eqb-true (length n) 16 (and-left (eqb (length n) 16) (ltb 0 (nameLength n)) (and-left (eqb (length n) 16 && ltb 0 (nameLength n)) (allZero (drop (nameLength n) n)) h))
 
--- isName, by the tests of the code
+-- bytes of another length are no name
 module _ (n : List ℕ) where
   pub name-wrong-length : (length n ≡ 16 → ⊥) → false ≡ isName n
   unfolding isName
   name-wrong-length h = rw (ne-eqb (length n) 16 h)
 
--- after a zero byte: bytes of a name or zero, and after a zero a zero, is all zero
+-- what stands after a zero byte is all zero exactly where it passes `nameOrZero`, and `zerosLast` with that byte before it
 after-zero : (l : List ℕ) → allZero l ≡ (nameOrZero l && zerosLast (0 ∷ l))
 unfolding allZero nameOrZero zerosLast
 after-zero [] = refl
@@ -45,11 +45,11 @@ name-not-zero b h = by (eqb b 0) refl
     by true e = sym h ∙ ap nameByte (eqb-true b 0 e)
     by false e = refl
 
--- so it leaves the order to those after it
-ended-after : (b : ℕ) (l : List ℕ) → eqb b 0 ≡ false → zerosLast (b ∷ l) ≡ zerosLast l
+-- a first byte that is not zero leaves `zerosLast` to the bytes after it
+zeros-last-after : (b : ℕ) (l : List ℕ) → eqb b 0 ≡ false → zerosLast (b ∷ l) ≡ zerosLast l
 unfolding zerosLast
-ended-after b [] e = refl
-ended-after b (c ∷ l) e = rw e
+zeros-last-after b [] e = refl
+zeros-last-after b (c ∷ l) e = rw e
 
 -- what comes after the bytes of a name is zero, as the code tests it
 name-after : (l : List ℕ) → allZero (drop (nameLength l) l) ≡ (nameOrZero l && zerosLast l)
@@ -63,7 +63,7 @@ name-after (b ∷ l) = by (nameByte b) refl (name-after l)
 
     by : (t : Bool) → nameByte b ≡ t → allZero (drop (nameLength l) l) ≡ (nameOrZero l && zerosLast l)
         → allZero (drop (pick t (suc (nameLength l)) 0) (b ∷ l)) ≡ (((t || eqb b 0) && nameOrZero l) && zerosLast (b ∷ l))
-    by true e more = rw (ended-after b l (name-not-zero b e)) more
+    by true e more = rw (zeros-last-after b l (name-not-zero b e)) more
     by false e more = zero-or (eqb b 0) refl
 
 -- the first byte is one of a name, as the code tests it
@@ -78,6 +78,7 @@ name-first (b ∷ l) h = by (nameByte b) (eqb b 0) (nameOrZero l) (zerosLast (b 
     by false true s r q = sym (and-false (s && r))
     by false false s r q = refl
 
+-- sixteen bytes are a name exactly where they pass the tests of the code: each of a name or zero, zeros last, and the first not zero
 pub name-tests : (n : List ℕ) → length n ≡ 16 → (p z : Bool) → p ≡ nameOrZero n → z ≡ zerosLast n → (p && z && not (eqb (getD n 0 0) 0)) ≡ isName n
 unfolding isName
 name-tests n h p z e f = rw (eq-eqb (length n) 16 h, name-after n, e, f) (sym (name-first n (omega arith)))

@@ -1,4 +1,4 @@
--- Names: sixteen bytes, 1 to 16 of `a-z`, `0-9`, `.`, `-`, then zero bytes; and how a text becomes such sixteen bytes.
+-- Names: sixteen bytes, 1 to 16 of `a-z`, `0-9`, `.`, `-`, then zero bytes; how a text becomes such sixteen bytes; and, for the code alone, two tests and a hash.
 use mathlib.Core.Bool.{Bool, true, not, _&&_, _||_}
 use mathlib.Core.List.{List, [], _∷_, _++_}
 use Prim.Native.Nat.{ℕ, suc, _+_, _-_, _*_, _/_, _%_}
@@ -24,16 +24,6 @@ nameLength (b ∷ bs) = pick (nameByte b) (suc (nameLength bs)) 0
 unfoldable pub isName : List ℕ → Bool
 isName n = eqb (length n) nameSize && ltb 0 (nameLength n) && allZero (drop (nameLength n) n)
 
--- the same, as the code tests it: each byte is one that a name may have or zero, and after a zero byte stands a zero byte
-unfoldable pub nameOrZero : List ℕ → Bool
-nameOrZero [] = true
-nameOrZero (b ∷ bs) = (nameByte b || eqb b 0) && nameOrZero bs
-
-unfoldable pub zerosLast : List ℕ → Bool
-zerosLast [] = true
-zerosLast (b ∷ []) = true
-zerosLast (b ∷ c ∷ bs) = (not (eqb b 0) || eqb c 0) && zerosLast (c ∷ bs)
-
 -- no name at all: what stands for a text that is none
 abbrev pub noName : List ℕ
 noName = replicate nameSize 0
@@ -46,9 +36,21 @@ isText t = ltb 0 (length t) && leb (length t) nameSize && eqb (nameLength t) (le
 unfoldable pub padded : List ℕ → List ℕ
 padded t = pick (isText t) (t ++ replicate (nameSize - length t) 0) noName
 
--- a hash of sixteen bytes, one of hashCount numbers, by which the walk in code tells most names apart
+-- for the code: each byte is one that a name may have, or zero. Sixteen zeros pass this test and the next, and are no name
+unfoldable pub nameOrZero : List ℕ → Bool
+nameOrZero [] = true
+nameOrZero (b ∷ bs) = (nameByte b || eqb b 0) && nameOrZero bs
+
+-- for the code: after a zero byte there are only zero bytes, by each byte and the next
+unfoldable pub zerosLast : List ℕ → Bool
+zerosLast [] = true
+zerosLast (b ∷ []) = true
+zerosLast (b ∷ c ∷ bs) = (not (eqb b 0) || eqb c 0) && zerosLast (c ∷ bs)
+
+-- for the code: how many hashes there are. The walk keeps a flag for each
 abbrev pub hashCount : ℕ
 hashCount = 1024
 
+-- for the code: a hash of sixteen bytes, below hashCount, by which the walk tells most names apart
 unfoldable pub hashOf : List ℕ → ℕ
 hashOf n = (u32At n 0 + 5 * (u32At n 4 + u32At n 8) + u32At n 12) * 44407899 / 4194304 % hashCount

@@ -6,7 +6,7 @@ ghost use mathlib.Core.Bool.{_&&_, _||_, not};
 ghost use Prim.Native.Nat.{_≤_, _<_};
 ghost use lib.ListN.{length};
 ghost use lib.Dec.{eqb};
-ghost use Rattle.blocks.specs.Name.{nameSize, nameByte, nameLength, nameOrZero, zerosLast, isName, padded, hashCount, hashOf};
+ghost use Rattle.blocks.specs.Name.{nameSize, nameByte, nameLength, isName, padded, nameOrZero, zerosLast, hashCount, hashOf};
 
 // How many hashes of names there are: the walk keeps a flag for each.
 pub const HASH_COUNT: usize = 1024;
@@ -34,55 +34,55 @@ pub fn name_length(text: &[u8]) -> usize
 }
 
 // Whether all bytes so far were of a name or zero, and this one is.
-fn still_padded(good: bool, b: u8) -> bool
+fn still_name_or_zero(good: bool, b: u8) -> bool
     ensures { λ r. ⌜ r ≡ (good && (nameByte b || eqb b 0)) ⌝ }
 {
     good & (is_name_byte(b) | (b == 0))
 }
 
 // Whether each byte is of a name or zero. It looks at every byte, so that the compiler can take all at a time.
-fn are_padded(bytes: &[u8]) -> bool
+fn are_name_or_zero(bytes: &[u8]) -> bool
     requires { ⌜ length (now bytes) ≡ nameSize ⌝ }
     ensures { λ r. ⌜ r ≡ nameOrZero (now (bytes .entry)) ⌝ }
 {
     let mut good = true;
     let mut i = 0;
     while i < NAME_SIZE {
-        good = still_padded(good, bytes[i]);
+        good = still_name_or_zero(good, bytes[i]);
         i += 1;
     }
     good
 }
 
-// Whether so far no other byte came after a zero byte, and `next` after `b` is none.
-fn still_ended(good: bool, b: u8, next: u8) -> bool
+// Whether no zero byte so far was followed by another byte, nor is `b` by `next`.
+fn still_zeros_last(good: bool, b: u8, next: u8) -> bool
     ensures { λ r. ⌜ r ≡ (good && (not (eqb b 0) || eqb next 0)) ⌝ }
 {
     good & ((b != 0) | (next == 0))
 }
 
 // Whether after a zero byte there are only zero bytes, by each byte and the next.
-fn are_ended(bytes: &[u8]) -> bool
+fn are_zeros_last(bytes: &[u8]) -> bool
     requires { ⌜ length (now bytes) ≡ nameSize ⌝ }
     ensures { λ r. ⌜ r ≡ zerosLast (now (bytes .entry)) ⌝ }
 {
     let mut good = true;
     let mut i = 0;
-    while i < 15 {
-        good = still_ended(good, bytes[i], bytes[i + 1]);
+    while i < NAME_SIZE - 1 {
+        good = still_zeros_last(good, bytes[i], bytes[i + 1]);
         i += 1;
     }
     good
 }
 
-// Whether bytes of a card are a name.
+// Whether the bytes of a slice are a name.
 pub fn are_name(bytes: &[u8]) -> bool
     ensures { λ r. ⌜ r ≡ isName (now (bytes .entry)) ⌝ }
 {
     if bytes.len() != NAME_SIZE {
         return false;
     }
-    are_padded(bytes) & are_ended(bytes) & (bytes[0] != 0)
+    are_name_or_zero(bytes) & are_zeros_last(bytes) & (bytes[0] != 0)
 }
 
 // Whether sixteen bytes by value are a name.

@@ -22,7 +22,7 @@ ghost use Rattle.calls.specs.Check.{checkCard, takingChain};
 ghost use Rattle.calls.specs.Step.{step, done};
 ghost use Rattle.blocks.specs.Bytes.{blockSize};
 
-// The most blocks of a card that is checked with few flags, and of one that is checked with more.
+// The most blocks of a card that is checked with 2,048 flags, and of one that is checked with 16,384. A larger one is checked with `MOST_BLOCKS`.
 const SMALL_BLOCKS: usize = 2048;
 
 const MEDIUM_BLOCKS: usize = 16384;
@@ -82,7 +82,7 @@ fn check_large(card: &[u8], active: Descriptor, starts: &[u32], count: usize) ->
     check_chain(card, active, starts, count, &mut seen)
 }
 
-// The same, with as few flags as the card needs: on a small card to clear more would be most of the work.
+// The same, with the smallest of the three numbers of flags that suffices: on a small card to clear more would be most of the work.
 fn check_regions(card: &[u8], active: Descriptor, starts: &[u32], count: usize) -> Verdict
     requires { ⌜ (areaBad (now card) ≡ false) × (regionsOf (chainOf (now card)) ≡ record { sound = true; place = physical 0; active = active; count = count; starts = now starts }) ⌝ }
     ensures { λ r. ⌜ r ≡ checkCard (now (card .entry)) ⌝ }

@@ -15,14 +15,15 @@ use blocks::sizes::PHI_START;
 use blocks::sizes::STARTS_SIZE;
 ghost use mathlib.Core.Path.{_≡_};
 ghost use mathlib.Core.Bool.{true, _&&_};
+ghost use mathlib.Core.List.{[], _∷_};
 ghost use Prim.Native.Nat.{ℕ, _+_, _*_, _/_, _≤_, _<_};
-ghost use lib.ListN.{length, take, getD, set, replicate};
+ghost use lib.ListN.{length, take, getD};
 ghost use lib.Dec.{eqb};
 ghost use Rattle.blocks.specs.Pick.{pick, same};
 ghost use Rattle.blocks.specs.Bytes.{blockSize, part};
 ghost use Rattle.blocks.specs.Name.{isName};
 ghost use Rattle.blocks.specs.Descriptor.{physical, mark, mostVolume, descriptorAt, reservedOk};
-ghost use Rattle.blocks.specs.Chain.{formOk, regionOk, indexOf, named, descriptorsAt, chain, regionsOf, Unsound};
+ghost use Rattle.blocks.specs.Chain.{formOk, regionOk, indexOf, named, descriptorsAt, chain, regionsOf, Unsound, Sound};
 ghost use Rattle.blocks.specs.Walk.{Hashed};
 
 // Whether block `p` begins with the mark.
@@ -213,7 +214,7 @@ fn is_right(card: &[u8], first: Descriptor, n: usize, p: Physical, d: Descriptor
 
 // The regions of a chain of one descriptor.
 fn single(d: Descriptor) -> Regions
-    ensures { λ r. ⌜ r ≡ record { sound = true; place = physical 0; active = d; count = 1; starts = set (replicate 257 0) 1 (d .beta .0) } ⌝ }
+    ensures { λ r. ⌜ r ≡ regionsOf (Sound (d ∷ [])) ⌝ }
 {
     let mut starts = [0u32; STARTS_SIZE];
     let beta = d.beta.0;
@@ -227,9 +228,9 @@ fn single(d: Descriptor) -> Regions
     }
 }
 
-// Whether mark, name and zero bytes of block `p` are those of a descriptor, where layout and L are in range. These tests stand in `is_formed` too:
-// the compiler calls a function that both share, and puts two that have one caller each in their places, which spares a third of the walk.
-fn is_filled(card: &[u8], p: Physical, d: Descriptor) -> bool
+// Whether mark, name and zero bytes of block `p` are those of a descriptor, where layout and L are in range. The four tests stand in `is_formed` too: a shared
+// function would be called and not inlined (decision 95).
+fn is_formed_in_range(card: &[u8], p: Physical, d: Descriptor) -> bool
     requires { ⌜ (blockSize * p .0 + blockSize ≤ length (now card)) × (d ≡ descriptorAt (now card) (p .0)) × (d .layout ≡ 0 → ⊥) × (d .layout ≤ 2) × (d .volume ≡ 0 → ⊥) × (d .volume ≤ mostVolume) ⌝ }
     ensures { λ r. ⌜ r ≡ formOk (now (card .entry)) (p .0) d ⌝ }
 {
@@ -250,7 +251,7 @@ fn is_filled(card: &[u8], p: Physical, d: Descriptor) -> bool
     bytes::all_zero(&card[at + PHI_START..at + BLOCK_SIZE])
 }
 
-// The same as `is_right` of a later descriptor: the layout and L of the first are in range, and it has the same.
+// The same as `is_right` of a later descriptor: once `is_placed` has found it to have the same layout and L as the first, their range needs no test.
 fn is_next(card: &[u8], first: Descriptor, n: usize, p: Physical, d: Descriptor) -> bool
     requires { ⌜ (blockSize * p .0 + blockSize ≤ length (now card)) × (d ≡ descriptorAt (now card) (p .0)) × (formOk (now card) 0 first ≡ true) ⌝ }
     ensures { λ r. ⌜ r ≡ (formOk (now (card .entry)) (p .0) d && regionOk first n (p .0) d) ⌝ }
@@ -258,7 +259,7 @@ fn is_next(card: &[u8], first: Descriptor, n: usize, p: Physical, d: Descriptor)
     if !is_placed(first, n, p, d) {
         return false;
     }
-    is_filled(card, p, d)
+    is_formed_in_range(card, p, d)
 }
 
 // Walks the chain of the card. A chain of one descriptor ends before any flag is cleared. Else a flag for each name's hash says of most names that no earlier

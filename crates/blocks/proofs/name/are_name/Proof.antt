@@ -7,11 +7,11 @@ use Rattle.blocks.proofs.name.are_name.Tie as tie
 returns : tie.Need-returns
 returns c = search name-wrong-length
 
-are-padded-requires : tie.Need-are-padded-requires
-are-padded-requires c κs = search needs
+are-name-or-zero-requires : tie.Need-are-name-or-zero-requires
+are-name-or-zero-requires c κs = search needs
 
-are-ended-requires : tie.Need-are-ended-requires
-are-ended-requires c κs = search needs
+are-zeros-last-requires : tie.Need-are-zeros-last-requires
+are-zeros-last-requires c κs = search needs
 
 shared-slice-read-result : tie.Need-shared-slice-read-result
 shared-slice-read-result c = search needs
@@ -20,4 +20,4 @@ returns-2 : tie.Need-returns-2
 returns-2 c = search name-tests
 
 pub are-name-spec : {M : Type 1} → statement M
-are-name-spec = tie.close (tie.spec returns are-padded-requires are-ended-requires shared-slice-read-result returns-2)
+are-name-spec = tie.close (tie.spec returns are-name-or-zero-requires are-zeros-last-requires shared-slice-read-result returns-2)

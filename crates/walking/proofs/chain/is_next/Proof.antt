@@ -37,8 +37,8 @@ returns c =
     let a = c .before .before .before .args in
     wrong (formOk (a .card .now) (a .p .0) (a .d)) _ _ (c .before .is-placed .ensures) (c .if1 .taken)
 
-is-filled-requires : tie.Need-is-filled-requires
-is-filled-requires c κs =
+is-formed-in-range-requires : tie.Need-is-formed-in-range-requires
+is-formed-in-range-requires c κs =
     let s = c .before .before .before in
     let a = s .args in
     let placed = sym (c .before .is-placed .ensures) ∙ not-false _ (c .if1 .left) in
@@ -51,7 +51,7 @@ is-filled-requires c κs =
     (s .pre .0, s .pre .1, λ z. omega (arith, range .0, layout), omega (arith, range .1, layout), λ z. omega (arith, volume, least), omega (arith, volume, most))
 
 returns-2 : tie.Need-returns-2
-returns-2 c = right _ _ _ _ (c .before .before .is-placed .ensures) (c .before .if1 .left) (c .is-filled .ensures)
+returns-2 c = right _ _ _ _ (c .before .before .is-placed .ensures) (c .before .if1 .left) (c .is-formed-in-range .ensures)
 
 pub is-next-spec : {M : Type 1} → statement M
-is-next-spec = tie.close (tie.spec is-placed-requires returns is-filled-requires returns-2)
+is-next-spec = tie.close (tie.spec is-placed-requires returns is-formed-in-range-requires returns-2)

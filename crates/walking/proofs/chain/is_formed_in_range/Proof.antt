@@ -1,8 +1,8 @@
--- `is_filled` meets its contract, test by test.
+-- `is_formed_in_range` meets its contract, test by test.
 use Rattle.blocks.proofs.SoundLaws.{form-unmarked, form-unnamed, form-reserved, form-layout-2, form-layout-1}
 use borrow.Author.Needs.{needs}
-use Rattle.walking.proofs.chain.is_filled.Statement.{statement}
-use Rattle.walking.proofs.chain.is_filled.Tie as tie
+use Rattle.walking.proofs.chain.is_formed_in_range.Statement.{statement}
+use Rattle.walking.proofs.chain.is_formed_in_range.Tie as tie
 
 cast-at : tie.Need-cast-at
 cast-at c = search needs
@@ -67,8 +67,8 @@ all-zero-requires c κs = search needs
 returns-5 : tie.Need-returns-5
 returns-5 c = search form-layout-1
 
-pub is-filled-spec : {M : Type 1} → statement M
-is-filled-spec =
+pub is-formed-in-range-spec : {M : Type 1} → statement M
+is-formed-in-range-spec =
     tie.close
     (tie.spec
     cast-at
