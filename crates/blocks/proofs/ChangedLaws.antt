@@ -1,37 +1,28 @@
 -- The chain after a descriptor block was stored: the descriptors before it, then what was stored.
 use mathlib.Core.Path.{_≡_, refl, sym, _∙_}
 use mathlib.Core.Logic.{_⊎_}
-use mathlib.Core.Bool.{Bool, true, false, not, _&&_, _||_}
+use mathlib.Core.Bool.{Bool, true, false, _||_}
 use mathlib.Core.List.{List, [], _∷_, _++_}
 use Prim.Native.Nat.{ℕ, _+_, _*_, _≤_, _<_}
 use native.Mathlib.Omega.{arith}
 use lib.ListN.{length, length-append}
 use lib.Dec.{eqb}
-use borrow.Author.Tests.{eqb-true, eqb-false, not-true}
+use borrow.Author.Tests.{eqb-true, eqb-false}
 use Rattle.blocks.specs.Pick.{same}
 use Rattle.blocks.specs.Bytes.{part, blockCount, blockAt}
 use Rattle.blocks.specs.Name.{isName}
 use Rattle.blocks.specs.Descriptor.{costOf, descriptorAt, descriptorBlock, reservedOk, phiOk}
-use Rattle.blocks.specs.Chain.{formOk, regionOk, named, sound, Sound, chain}
+use Rattle.blocks.specs.Chain.{named, sound, Sound, chain}
 use Rattle.blocks.specs.declared.descriptor.Descriptor.{Descriptor}
-use Rattle.blocks.proofs.Tests.{and-right}
 use Rattle.blocks.proofs.BoolLaws.{or-assoc, or-false-left}
 use Rattle.blocks.proofs.DescriptorLaws.{Fits}
 use Rattle.blocks.proofs.NamedLaws.{named-none, named-cons}
-use Rattle.blocks.proofs.ChainLaws.{region-layout, region-volume, region-end, region-long, cost-least}
-use Rattle.blocks.proofs.LinkedLaws.{Linked, last, chain-linked, sound-form, sound-region}
+use Rattle.blocks.proofs.ChainLaws.{region-layout, region-volume}
+use Rattle.blocks.proofs.LinkedLaws.{last, chain-linked}
 use Rattle.blocks.proofs.SharedLaws.{linked-chain, shared-descriptor}
-use Rattle.blocks.proofs.RelinkedLaws.{linked-from, linked-head, relinked}
+use Rattle.blocks.proofs.RelinkedLaws.{relinked}
 use Rattle.blocks.proofs.StoredLaws.{stored-descriptor, stored-form, region-ok}
-
--- a layout is small
-layout-by : (l : ℕ) (x y : Bool) → eqb l 1 ≡ x → eqb l 2 ≡ y → (x || y) ≡ true → l ≤ 2
-layout-by l true y e f h = omega (arith, eqb-true l 1 e)
-layout-by l false true e f h = omega (arith, eqb-true l 2 f)
-layout-by l false false e f h = let y : _≡_ {A = ℕ} 0 1 = cc in absurd (omega arith)
-
-pub layout-small : (l : ℕ) → (eqb l 1 || eqb l 2) ≡ true → l ≤ 2
-layout-small l h = layout-by l (eqb l 1) (eqb l 2) refl refl h
+use Rattle.blocks.proofs.MemberLaws.{member-region, member-form, member-inside}
 
 -- names of lists joined
 pub named-append : (xs ys : List Descriptor) (n : List ℕ) → named (xs ++ ys) n ≡ (named xs n || named ys n)
@@ -43,34 +34,8 @@ named-left xs ys n h = or-false-left (named xs n) (named ys n) (sym (named-appen
 
 -- a descriptor of a chain, by its place in the list
 module _ (s : List ℕ) (ds xs : List Descriptor) (d : Descriptor) (ys : List Descriptor) (sound-s : chain s ≡ Sound ds) (split : ds ≡ xs ++ (d ∷ ys)) where
-  pub member-from : Linked s xs (d .alpha .0) (d ∷ ys)
-  member-from = linked-from s (chain-linked s ds sound-s) xs d ys split
-
-  pub member-is : d ≡ descriptorAt s (d .alpha .0)
-  member-is = linked-head s member-from d ys refl .0
-
-  member-ok : sound s xs (d .alpha .0) ≡ true
-  member-ok = linked-head s member-from d ys refl .1
-
-  pub member-form : formOk s (d .alpha .0) d ≡ true
-  member-form = sound-form s xs (d .alpha .0) d member-is member-ok
-
-  pub member-region : regionOk (descriptorAt s 0) (blockCount s) (d .alpha .0) d ≡ true
-  member-region = sound-region s xs (d .alpha .0) d member-is member-ok
-
-  pub member-fresh : named xs (d .name) ≡ false
-  unfolding sound
-  member-fresh =
-      rw member-is
-      (not-true (named xs (descriptorAt s (d .alpha .0) .name))
-      (and-right (formOk s (d .alpha .0) (descriptorAt s (d .alpha .0)) && regionOk (descriptorAt s 0) (blockCount s) (d .alpha .0) (descriptorAt s (d .alpha .0)))
-      (not (named xs (descriptorAt s (d .alpha .0) .name))) member-ok))
-
-  pub member-inside : 512 * d .alpha .0 + 512 ≤ length s
-  unfolding blockCount
-  member-inside =
-      let r = member-region in
-      omega (arith, region-long (descriptorAt s 0) (blockCount s) (d .alpha .0) d r, region-end (descriptorAt s 0) (blockCount s) (d .alpha .0) d r, cost-least (d .layout) (d .volume))
+  abbrev inside : 512 * d .alpha .0 + 512 ≤ length s
+  inside = member-inside s ds xs d ys sound-s split
 
   -- the card t has e with some tail in the block of d, and the blocks before it as they were
   module _ (t : List ℕ) (long : length s ≡ length t) (kept : (q : ℕ) → q < d .alpha .0 → blockAt s q ≡ blockAt t q)
@@ -81,7 +46,7 @@ module _ (s : List ℕ) (ds xs : List Descriptor) (d : Descriptor) (ys : List De
       (next : (e .next .0 ≡ 0) ⊎ ((e .next .0 ≡ e .beta .0) × (e .beta .0 < blockCount t)))
       (fresh : named xs (e .name) ≡ false) where
     in-t : 512 * d .alpha .0 + 512 ≤ length t
-    in-t = omega (arith, member-inside)
+    in-t = omega (arith, inside)
 
     pub changed-is : descriptorAt t (d .alpha .0) ≡ e
     changed-is = stored-descriptor t (d .alpha .0) in-t e tail is fits whole
@@ -90,10 +55,10 @@ module _ (s : List ℕ) (ds xs : List Descriptor) (d : Descriptor) (ys : List De
     first-by true h = let a = eqb-true (d .alpha .0) 0 h in let q : descriptorAt t 0 ≡ e = rw (← a) changed-is in rw q (refl, refl)
     first-by false h =
         let a = eqb-false (d .alpha .0) 0 h in
-        let q : descriptorAt s 0 ≡ descriptorAt t 0 = shared-descriptor s t 0 (omega (arith, member-inside)) (omega (arith, in-t)) (kept 0 (omega arith)) in
+        let q : descriptorAt s 0 ≡ descriptorAt t 0 = shared-descriptor s t 0 (omega (arith, inside)) (omega (arith, in-t)) (kept 0 (omega arith)) in
         rw (← q) (
-          layout ∙ region-layout (descriptorAt s 0) (blockCount s) (d .alpha .0) d member-region,
-          volume ∙ region-volume (descriptorAt s 0) (blockCount s) (d .alpha .0) d member-region,
+          layout ∙ region-layout (descriptorAt s 0) (blockCount s) (d .alpha .0) d (member-region s ds xs d ys sound-s split),
+          volume ∙ region-volume (descriptorAt s 0) (blockCount s) (d .alpha .0) d (member-region s ds xs d ys sound-s split),
         )
 
     pub changed-first : (e .layout ≡ descriptorAt t 0 .layout) × (e .volume ≡ descriptorAt t 0 .volume)
@@ -105,7 +70,7 @@ module _ (s : List ℕ) (ds xs : List Descriptor) (d : Descriptor) (ys : List De
         let f = changed-first in
         rw (
           changed-is,
-          stored-form t (d .alpha .0) in-t e tail is fits whole d layout volume name s (d .alpha .0) member-form reserved phi,
+          stored-form t (d .alpha .0) in-t e tail is fits whole d layout volume name s (d .alpha .0) (member-form s ds xs d ys sound-s split) reserved phi,
           region-ok (descriptorAt t 0) (blockCount t) (d .alpha .0) e (f .0) (f .1) alpha region end next,
           fresh,
         )
@@ -114,5 +79,5 @@ module _ (s : List ℕ) (ds xs : List Descriptor) (d : Descriptor) (ys : List De
     pub changed-last : e .next .0 ≡ 0 → length xs < 256 → chain t ≡ Sound (xs ++ (e ∷ []))
     changed-last z few =
         linked-chain t (xs ++ (e ∷ []))
-        (relinked s t long d ys (e ∷ []) (omega (arith, member-inside)) kept (chain-linked s ds sound-s) xs split (last (sym changed-is) changed-ok z))
+        (relinked s t long d ys (e ∷ []) (omega (arith, inside)) kept (chain-linked s ds sound-s) xs split (last (sym changed-is) changed-ok z))
         (omega (arith, length-append xs (e ∷ [])))

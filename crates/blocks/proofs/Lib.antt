@@ -13,4 +13,5 @@ pub mod StoreLists
 pub mod StoredLaws
 pub mod SharedLaws
 pub mod RelinkedLaws
+pub mod MemberLaws
 pub mod ChangedLaws

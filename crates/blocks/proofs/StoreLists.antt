@@ -3,7 +3,7 @@ use mathlib.Core.Path.{_≡_, refl, sym, ap, _∙_}
 use mathlib.Core.Logic.{_⊎_, inl, inr}
 use mathlib.Core.Bool.{Bool, true, false, _||_}
 use mathlib.Core.List.{List, [], _∷_, _++_}
-use Prim.Native.Nat.{ℕ, zero, suc, _+_, _*_, _≤_, _<_}
+use Prim.Native.Nat.{ℕ, zero, suc, _+_, _*_, _≤_, _<_, _-_}
 use native.Mathlib.Omega.{arith}
 use lib.ListN.{length, take, length-replicate}
 use lib.Seq.{take-add}
@@ -153,3 +153,59 @@ copies-stored c from p (suc n) q h = rw (ne-eqb p q (omega arith)) (copies-store
 pub not-stored : (p : ℕ) (b : List ℕ) (ss : List Store) (q : ℕ) → (p ≡ q → ⊥) → isStored ss q ≡ false → isStored (store p b ∷ ss) q ≡ false
 unfolding isStored
 not-stored p b ss q n h = rw (ne-eqb p q n) h
+
+-- which blocks two stores name
+pub pair-stored : (x y : ℕ) (f g : List ℕ) (q : ℕ) → (x ≡ q → ⊥) → (y ≡ q → ⊥) → isStored (store x f ∷ store y g ∷ []) q ≡ false
+pair-stored x y f g q h k = not-stored x f (store y g ∷ []) q h (one-stored y g q k)
+
+-- the first of a list of whole-block stores, and the others
+whole-parts : {n : ℕ} {s : Store} {ss : List Store} → Whole n (s ∷ ss) → (length (s .bytes) ≡ 512) × (512 * s .at + 512 ≤ n) × Whole n ss
+whole-parts (also p b w i ss) = (w, i, ss)
+
+-- the last store to block p decides what it holds
+module _ (n : ℕ) (p : ℕ) (b : List ℕ) (ys : List Store) (after : isStored ys p ≡ false) where
+  pub stored-among : (c : List ℕ) → length c ≡ n → (xs : List Store) → Whole n (xs ++ (store p b ∷ ys)) → blockAt (storeAll c (xs ++ (store p b ∷ ys))) p ≡ b
+  unfolding storeAll
+  stored-among c e [] w =
+      let h = whole-parts w in
+      let i : 512 * p + 512 ≤ length c = omega (arith, h .1) in
+      stored-other n (storeBlock c p b) (store-length c p b (h .0) i ∙ e) (h .2) p after ∙ store-same c p b (h .0) i
+  stored-among c e (x ∷ xs) w =
+      let h = whole-parts w in
+      let i : 512 * x .at + 512 ≤ length c = omega (arith, h .1) in
+      stored-among (storeBlock c (x .at) (x .bytes)) (store-length c (x .at) (x .bytes) (h .0) i ∙ e) xs (h .2)
+
+-- copies of blocks: the others stay, and each copy is its block
+module _ (c : List ℕ) where
+  pub copied-length : (x : List ℕ) → length x ≡ length c → (from to k : ℕ) → from ≤ to → 512 * (to + k) ≤ length c → length (storeAll x (copying c from to k)) ≡ length c
+  unfolding copying storeAll
+  copied-length x e from to zero f h = e
+  copied-length x e from to (suc k) f h =
+      copied-length (storeBlock x to (blockAt c from)) (store-length x to (blockAt c from) (length-blockAt c from (omega arith)) (omega arith) ∙ e) (suc from) (suc to) k (omega arith) (omega arith)
+
+  pub copied-out : (x : List ℕ) → length x ≡ length c → (from to k : ℕ) → from ≤ to → 512 * (to + k) ≤ length c → (p : ℕ) → (to ≤ p → p < to + k → ⊥) → blockAt (storeAll x (copying c from to k)) p ≡ blockAt x p
+  unfolding copying storeAll
+  copied-out x e from to zero f h p out = refl
+  copied-out x e from to (suc k) f h p out =
+      copied-out (storeBlock x to (blockAt c from)) (store-length x to (blockAt c from) (length-blockAt c from (omega arith)) (omega arith) ∙ e) (suc from) (suc to) k (omega arith) (omega arith) p
+      (λ i j. out (omega arith) (omega arith))
+      ∙ store-other x to (blockAt c from) (length-blockAt c from (omega arith)) (omega arith) p (λ q. out (omega arith) (omega arith))
+
+  pub copied-in : (x : List ℕ) → length x ≡ length c → (from to k : ℕ) → from ≤ to → 512 * (to + k) ≤ length c → (p : ℕ) → to ≤ p → p < to + k → (z : Bool) → eqb p to ≡ z
+      → blockAt (storeAll x (copying c from to k)) p ≡ blockAt c (from + (p - to))
+  unfolding copying storeAll
+  copied-in x e from to zero f h p i j z q = absurd (omega arith)
+  copied-in x e from to (suc k) f h p i j true q =
+      let w = eqb-true p to q in
+      let n : from ≡ from + (p - to) = omega arith in
+      copied-out (storeBlock x to (blockAt c from)) (store-length x to (blockAt c from) (length-blockAt c from (omega arith)) (omega arith) ∙ e) (suc from) (suc to) k (omega arith) (omega arith) p
+      (λ i j. absurd (omega arith))
+      ∙ ap (blockAt (storeBlock x to (blockAt c from))) w
+      ∙ store-same x to (blockAt c from) (length-blockAt c from (omega arith)) (omega arith)
+      ∙ ap (blockAt c) n
+  copied-in x e from to (suc k) f h p i j false q =
+      let w = eqb-false p to q in
+      let n : suc from + (p - suc to) ≡ from + (p - to) = omega arith in
+      copied-in (storeBlock x to (blockAt c from)) (store-length x to (blockAt c from) (length-blockAt c from (omega arith)) (omega arith) ∙ e) (suc from) (suc to) k (omega arith) (omega arith) p
+      (omega arith) (omega arith) (eqb p (suc to)) refl
+      ∙ ap (blockAt c) n

@@ -4,6 +4,7 @@ pub mod RowLaws
 pub mod Passed
 pub mod StepLaws
 pub mod CardLaws
+pub mod ActiveLaws
 pub mod ReamLaws
 pub mod RevertLaws
 pub mod SnapLaws
@@ -11,3 +12,4 @@ pub mod CheckCardLaws
 pub mod ReadLaws
 pub mod WriteLaws
 pub mod ListLaws
+pub mod CellLaws

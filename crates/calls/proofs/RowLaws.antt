@@ -278,3 +278,22 @@ pub reached : (k : Call) (c : List ℕ) (rs : List Row) (a : Answer) → a ≡ f
     → answerOf k c ≡ firstRow (chainRow c ∷ rs) → Reached k c rs r
 reached k c rs a asked card r walked whole to-chain =
     record { rest = to-chain ∙ chain-passed rs c r walked whole; area = admitted-card c a asked card; walked = walked; sound = not-false (r .sound) whole }
+
+-- rows that are the same as far as they decide
+pub data SameRows : List Row → List Row → Type 0 where
+  same-rows : {xs ys : List Row} → xs ≡ ys → SameRows xs ys
+  then : {r : Row} {xs ys : List Row} → (r .holds ≡ false → SameRows xs ys) → SameRows (r ∷ xs) (r ∷ ys)
+
+rows-by : (r : Row) (x y : Answer) (b : Bool) → r .holds ≡ b → (r .holds ≡ false → x ≡ y) → pick b (answer (r .number) (r .place)) x ≡ pick b (answer (r .number) (r .place)) y
+rows-by r x y true e h = refl
+rows-by r x y false e h = h e
+
+-- so they are after the same rows
+pub prefix-same : (zs : List Row) {xs ys : List Row} → SameRows xs ys → SameRows (zs ++ xs) (zs ++ ys)
+prefix-same [] h = h
+prefix-same (z ∷ zs) h = then (λ e. prefix-same zs h)
+
+pub first-same : {xs ys : List Row} → SameRows xs ys → firstRow xs ≡ firstRow ys
+unfolding firstRow
+first-same (same-rows e) = ap firstRow e
+first-same (then {r = r} {xs = xs} {ys = ys} h) = rows-by r (firstRow xs) (firstRow ys) (r .holds) refl (λ e. first-same (h e))

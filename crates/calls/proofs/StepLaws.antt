@@ -1,24 +1,25 @@
 -- Laws of step: what a refusal leaves, what an accepted call does; the area, by its tests; stores of zeros.
-use mathlib.Core.Path.{_≡_, refl, ap}
+use mathlib.Core.Path.{_≡_, refl, ap, sym, _∙_}
 use mathlib.Core.Bool.{Bool, true, false}
 use mathlib.Core.List.{List, [], _∷_, _++_}
 use Prim.Native.Nat.{ℕ, zero, suc, _+_, _/_, _%_, _≤_, _<_}
 use native.Mathlib.Numerals.{add-one}
 use native.Mathlib.Omega.{arith}
-use lib.ListN.{length}
+use lib.ListN.{length, take, drop, take-append-drop}
 use lib.Dec.{eqb, ltb}
 use borrow.Author.Tests.{eq-eqb, ne-eqb, lt-ltb, le-ltb}
 use Rattle.blocks.specs.Pick.{pick}
 use Rattle.blocks.specs.Bytes.{Store, store, storeBlock, storeAll, zeroBlock, blockCount}
 use Rattle.blocks.specs.Descriptor.{clearing}
 use Rattle.calls.specs.declared.answer.Answer.{Answer}
-use Rattle.calls.specs.Call.{Call, Lent, NoneGiven, answer, accepted}
+use Rattle.calls.specs.Call.{Call, Lent, NoneGiven, answer, accepted, Outcome}
 use Rattle.calls.specs.Parts.{areaBad}
 use Rattle.calls.specs.Ladder.{firstRow, admission}
 use Rattle.calls.specs.Meaning.{meaningOf, rowsOf, answerOf, storesOf, lentOf, filledOf, givenOf}
-use Rattle.calls.specs.Step.{Done, step, done, isAccepted}
+use Rattle.calls.specs.Step.{Done, step, done, isAccepted, after, outcomes}
 use Rattle.blocks.proofs.StoreLists.{stored-append, stored-one}
 use Rattle.calls.proofs.RowLaws.{not-admitted}
+use lib.Seq.{length-take-le, take-add, drop-at}
 
 -- what a call does, given its answer
 module _ (k : Call) (c : List ℕ) where
@@ -90,3 +91,29 @@ cleared-more c p n x y e f =
 
 pub cleared-all : (c : List ℕ) (p i n : ℕ) (x : List ℕ) → x ≡ storeAll c (clearing p i) → i ≤ n → n ≤ i → x ≡ storeAll c (clearing p n)
 cleared-all c p i n x e h k = let q : i ≡ n = omega arith in rw (← q) e
+
+-- a run of an append
+pub after-append : (xs ys : List Call) (c : List ℕ) → after (xs ++ ys) c ≡ after ys (after xs c)
+unfolding after
+after-append [] ys c = refl
+after-append (k ∷ xs) ys c = after-append xs ys (step k c .card)
+
+pub outcomes-append : (xs ys : List Call) (c : List ℕ) → outcomes (xs ++ ys) c ≡ outcomes xs c ++ outcomes ys (after xs c)
+unfolding after outcomes
+outcomes-append [] ys c = refl
+outcomes-append (k ∷ xs) ys c = ap (λ (os : List Outcome). step k c .outcome ∷ os) (outcomes-append xs ys (step k c .card))
+
+pub outcomes-length : (ks : List Call) (c : List ℕ) → length (outcomes ks c) ≡ length ks
+unfolding outcomes
+outcomes-length [] c = refl
+outcomes-length (k ∷ ks) c = ap suc (outcomes-length ks (step k c .card))
+
+-- a run up to n calls and on from there
+pub after-split : (ks : List Call) (n m : ℕ) (c : List ℕ) → after (take (n + m) ks) c ≡ after (take m (drop n ks)) (after (take n ks) c)
+after-split ks n m c = ap (λ (xs : List Call). after xs c) (take-add n m ks) ∙ after-append (take n ks) (take m (drop n ks)) c
+
+pub outcomes-drop : (ks : List Call) (n : ℕ) (c : List ℕ) → n ≤ length ks → drop n (outcomes ks c) ≡ outcomes (drop n ks) (after (take n ks) c)
+outcomes-drop ks n c h =
+    ap (λ (xs : List Call). drop n (outcomes xs c)) (sym (take-append-drop n ks))
+    ∙ ap (λ (os : List Outcome). drop n os) (outcomes-append (take n ks) (drop n ks) c)
+    ∙ drop-at (outcomes (take n ks) c) (outcomes (drop n ks) (after (take n ks) c)) n (outcomes-length (take n ks) c ∙ length-take-le n ks h)

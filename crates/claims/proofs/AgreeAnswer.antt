@@ -10,8 +10,9 @@ use Rattle.calls.specs.Ladder.{Row, firstRow, admission}
 use Rattle.calls.specs.Meaning.{rowsOf, answerOf, storesOf, filledOf, givenOf, lentOf}
 use Rattle.calls.specs.Step.{step, done, isAccepted}
 use Rattle.claims.specs.History.{Agree}
-use Rattle.claims.proofs.Agreement.{SameRows, prefix-same, first-same, agree-admission}
+use Rattle.claims.proofs.Agreement.{agree-admission}
 use Rattle.claims.proofs.Owed.{owed}
+use Rattle.calls.proofs.RowLaws.{SameRows, prefix-same, first-same}
 
 module _ (s t : List ℕ) (agree : Agree s t) where
   own-same : {xs ys : List Row} → SameRows xs ys → firstRow (admission s ++ xs) ≡ firstRow (admission t ++ ys)

@@ -22,17 +22,17 @@ use Rattle.claims.specs.History.{betaOf, Agree, isFormat, formats}
 use Rattle.claims.proofs.Agreement.{agree-below, agree-chain}
 use Rattle.claims.proofs.AgreeAnswer.{agree-answer}
 use Rattle.blocks.proofs.StoreLists.{Whole, isStored, stored-length, stored-both, stored-anyway, blocks-taken}
-use Rattle.claims.proofs.Inside.{write-whole, snap-whole, revert-whole}
-use Rattle.claims.proofs.ChainAfter.{before, reverted-chain}
-use Rattle.claims.proofs.SnappedChain.{snapped-chain}
 use Rattle.claims.proofs.SameStores.{v-below, same-revert, same-snap, snap-covered, same-write, found-is, write-covered}
-use Rattle.claims.proofs.WrittenChain.{written-chain}
 use Rattle.calls.proofs.Passed.{WritePassed, SnapPassed, RevertPassed}
 use Rattle.claims.specs.Kinds.{Kind, kindOf}
 use Rattle.claims.proofs.Changes.{storesBy, Allowed, to-format, to-leave, to-write, to-snap, to-revert}
 use Rattle.claims.proofs.Steps.{step-cases}
 use Rattle.claims.proofs.Owed.{owed}
 use Rattle.blocks.proofs.LinkedLaws.{active-append}
+use Rattle.changes.proofs.WholeLaws.{write-whole, snap-whole, revert-whole}
+use Rattle.changes.proofs.RevertedChain.{before, reverted-chain}
+use Rattle.changes.proofs.SnappedChain.{snapped-chain}
+use Rattle.changes.proofs.WrittenChain.{written-chain}
 
 -- the same stores on two cards that agree: they agree again, where every block below the new beta was below the old one or is stored
 module _ (s t : List ℕ) (agree : Agree s t) (ss : List Store) (whole : Whole (length s) ss) (ds : List Descriptor)

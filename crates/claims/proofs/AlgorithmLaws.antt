@@ -40,13 +40,14 @@ use Rattle.claims.specs.Algorithms.{Sigma, put, putNumber, copyRange, cl
 use Rattle.calls.specs.Step.{step, isAccepted}
 use Rattle.claims.specs.History.{AreBytes}
 use Rattle.claims.specs.Claims.{AlgorithmClaim}
-use Rattle.calls.proofs.CardLaws.{card-through, card-snapshot, card-snapshot-count}
+use Rattle.calls.proofs.CardLaws.{card-through, card-snapshot, card-snapshot-count, chain-is}
 use Rattle.calls.proofs.Passed.{read-passed, write-passed, snap-passed, revert-passed}
 use Rattle.calls.proofs.StepLaws.{accepted-card}
 use Rattle.blocks.proofs.StoredLaws.{form-name}
-use Rattle.claims.proofs.Inside.{active-through, active-name}
-use Rattle.blocks.proofs.StoreLists.{stored-append}
+use Rattle.blocks.proofs.StoreLists.{stored-append, copied-in, copied-length, copied-out}
 use Rattle.entries.proofs.TableLaws.{entry-in, phi-in}
+use Rattle.calls.proofs.ActiveLaws.{active-volume, active-name}
+use Rattle.changes.proofs.WholeLaws.{active-through}
 
 -- an accepted call: the card after it, and what was lent
 accepted-lent : (k : Call) (c : List ℕ) → isAccepted (answerOf k c) ≡ true → step k c .outcome .lent ≡ filledOf k c
@@ -85,10 +86,6 @@ module _ (c : List ℕ) (ds : List Descriptor) (d : Descriptor) (l : ℕ) (below
       rw (e, phi-in c d (l / 128) (omega arith), entry-in c (phiAt c d (l / 128)) (l % 128) (omega arith))
       (read-phi c ds d (phiAt c d (l / 128)) (entryAt c (phiAt c d (l / 128)) (l % 128)) (inPlace ds d (phiAt c d (l / 128))) (eqb (phiAt c d (l / 128)) 0) (rw e at h))
 
--- the active volume has at most 14,336 blocks
-active-volume : (c : List ℕ) → areaBad c ≡ false → chainSound (chain c) ≡ true → activeOf (descriptorsOf c) .volume ≤ 14336
-active-volume c area sound = through-volume c (regionsOf (chain c) .starts) (regionsOf (chain c) .count) (activeOf (descriptorsOf c)) (active-through c area sound)
-
 -- an accepted read gives the block of algorithm 1 or 4
 pub algorithm-read : (c : List ℕ) → AreBytes c → (target : Target) (name : List ℕ) (l : ℕ) (block : List ℕ) → isAccepted (answerOf (Read target name l block) c) ≡ true
     → let d = targetOf (descriptorsOf c) target name in
@@ -97,7 +94,7 @@ unfolding filledOf
 algorithm-read c bytes target name l block e =
     let shown = read-passed c target name l block e in
     let d : Descriptor = targetOf (descriptorsOf c) target name in
-    let most = active-volume c (shown .area) (shown .sound) in
+    let most = active-volume c (descriptorsOf c) (chain-is (chain c) (shown .sound)) in
     let below = shown .below in
     accepted-lent (Read target name l block) c e
     ∙ ap Block (read-by c (descriptorsOf c) d l (omega (arith, most, below)) (eqb (d .layout) 1) refl (shown .in-place))
@@ -186,42 +183,7 @@ algorithm-revert c bytes name e p h =
     let count : ℕ = regionsOf (chain c) .count in
     let t = snapshot-through c area sound name called in
     ap (λ (x : List ℕ). blockAt x p) (accepted-card (Revert name) c e)
-    ∙ reverted c v (activeOf (descriptorsOf c) .name) (through-block c bytes starts count v t) (through-alpha c starts count v t) (through-name c starts count v t) (active-name c area sound) p
-
--- copies of blocks: the others stay, and each copy is its block
-module _ (c : List ℕ) where
-  copied-length : (x : List ℕ) → length x ≡ length c → (from to k : ℕ) → from ≤ to → 512 * (to + k) ≤ length c → length (storeAll x (copying c from to k)) ≡ length c
-  unfolding copying storeAll
-  copied-length x e from to zero f h = e
-  copied-length x e from to (suc k) f h =
-      copied-length (storeBlock x to (blockAt c from)) (store-length x to (blockAt c from) (length-blockAt c from (omega arith)) (omega arith) ∙ e) (suc from) (suc to) k (omega arith) (omega arith)
-
-  copied-out : (x : List ℕ) → length x ≡ length c → (from to k : ℕ) → from ≤ to → 512 * (to + k) ≤ length c → (p : ℕ) → (to ≤ p → p < to + k → ⊥) → blockAt (storeAll x (copying c from to k)) p ≡ blockAt x p
-  unfolding copying storeAll
-  copied-out x e from to zero f h p out = refl
-  copied-out x e from to (suc k) f h p out =
-      copied-out (storeBlock x to (blockAt c from)) (store-length x to (blockAt c from) (length-blockAt c from (omega arith)) (omega arith) ∙ e) (suc from) (suc to) k (omega arith) (omega arith) p
-      (λ i j. out (omega arith) (omega arith))
-      ∙ store-other x to (blockAt c from) (length-blockAt c from (omega arith)) (omega arith) p (λ q. out (omega arith) (omega arith))
-
-  pub copied-in : (x : List ℕ) → length x ≡ length c → (from to k : ℕ) → from ≤ to → 512 * (to + k) ≤ length c → (p : ℕ) → to ≤ p → p < to + k → (z : Bool) → eqb p to ≡ z
-      → blockAt (storeAll x (copying c from to k)) p ≡ blockAt c (from + (p - to))
-  unfolding copying storeAll
-  copied-in x e from to zero f h p i j z q = absurd (omega arith)
-  copied-in x e from to (suc k) f h p i j true q =
-      let w = eqb-true p to q in
-      let n : from ≡ from + (p - to) = omega arith in
-      copied-out (storeBlock x to (blockAt c from)) (store-length x to (blockAt c from) (length-blockAt c from (omega arith)) (omega arith) ∙ e) (suc from) (suc to) k (omega arith) (omega arith) p
-      (λ i j. absurd (omega arith))
-      ∙ ap (blockAt (storeBlock x to (blockAt c from))) w
-      ∙ store-same x to (blockAt c from) (length-blockAt c from (omega arith)) (omega arith)
-      ∙ ap (blockAt c) n
-  copied-in x e from to (suc k) f h p i j false q =
-      let w = eqb-false p to q in
-      let n : suc from + (p - suc to) ≡ from + (p - to) = omega arith in
-      copied-in (storeBlock x to (blockAt c from)) (store-length x to (blockAt c from) (length-blockAt c from (omega arith)) (omega arith) ∙ e) (suc from) (suc to) k (omega arith) (omega arith) p
-      (omega arith) (omega arith) (eqb p (suc to)) refl
-      ∙ ap (blockAt c) n
+    ∙ reverted c v (activeOf (descriptorsOf c) .name) (through-block c bytes starts count v t) (through-alpha c starts count v t) (through-name c starts count v t) (name-size (activeOf (descriptorsOf c) .name) (active-name c (descriptorsOf c) (chain-is (chain c) sound))) p
 
 -- the range that the algorithm copies
 range-by : (s : Sigma) (a b n p : ℕ) (x y : Bool) → leb b p ≡ x → ltb p (b + n) ≡ y → (out : List ℕ) → (b ≤ p → p < b + n → out ≡ s (a + (p - b))) → ((b ≤ p → p < b + n → ⊥) → out ≡ s p) → out ≡ copyRange s a b n p

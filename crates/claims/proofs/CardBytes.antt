@@ -23,13 +23,14 @@ use Rattle.calls.specs.Parts.{areaBad, descriptorsOf, snapshotsOf, withName, fo
 use Rattle.calls.specs.Effect.{snapping, reverting, writeStores, snapStores, revertStores}
 use Rattle.calls.specs.Step.{step, after}
 use Rattle.claims.specs.History.{formats, isFormat, AreBytes, bytesOf, writtenBy, Standing, none, more, formattable, formatted}
-use Rattle.claims.proofs.ChainAfter.{active-name}
 use Rattle.claims.proofs.Runs.{standing-length, step-length}
 use Rattle.calls.proofs.Passed.{WritePassed, SnapPassed, RevertPassed}
 use Rattle.claims.specs.Kinds.{Kind}
 use Rattle.claims.proofs.Changes.{storesBy, Allowed, to-format, to-leave, to-write, to-snap, to-revert}
 use Rattle.claims.proofs.Steps.{step-cases}
 use Rattle.blocks.specs.declared.descriptor.Format.{Format}
+use Rattle.calls.proofs.ActiveLaws.{active-name}
+use Rattle.calls.proofs.CardLaws.{chain-is}
 
 -- lists of bytes: their parts and joins
 bytes-nil : AreBytes []
@@ -222,7 +223,7 @@ module _ (c : List ℕ) (card : AreBytes c) where
 
   -- the name of the active descriptor
   active-bytes : areaBad c ≡ false → chainSound (chain c) ≡ true → AreBytes (activeOf (descriptorsOf c) .name)
-  active-bytes a s = bytes-name (activeOf (descriptorsOf c) .name) (active-name c a s)
+  active-bytes a s = bytes-name (activeOf (descriptorsOf c) .name) (active-name c (descriptorsOf c) (chain-is (chain c) s))
 
   stores-write : (l : ℕ) (block : List ℕ) → AreBytes block → WritePassed c l block → ByteStores (writeStores c l block)
   unfolding writeStores

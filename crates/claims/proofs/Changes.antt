@@ -8,8 +8,8 @@ use Rattle.calls.specs.Effect.{writeStores, snapStores, revertStores}
 use Rattle.calls.proofs.Passed.{ReamPassed, WritePassed, SnapPassed, RevertPassed}
 use Rattle.claims.specs.Kinds.{Kind, Formats, Leaves, Writes, Snaps, Reverts}
 use Rattle.blocks.proofs.StoreLists.{Whole, none}
-use Rattle.claims.proofs.Inside.{ream-whole, write-whole, snap-whole, revert-whole}
 use Rattle.blocks.specs.declared.descriptor.Format.{Format}
+use Rattle.changes.proofs.WholeLaws.{ream-whole, write-whole, snap-whole, revert-whole}
 
 -- the stores of a change
 unfoldable pub storesBy : Kind → List ℕ → List Store

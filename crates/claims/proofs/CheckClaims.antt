@@ -32,7 +32,7 @@ use Rattle.calls.specs.Ladder.{firstRow, checkRows, admission}
 use Rattle.calls.specs.Meaning.{rowsOf, answerOf}
 use Rattle.claims.specs.Claims.{CheckClaim, valuesOf, noNaming, FirstFault, FaultClaim}
 use Rattle.calls.proofs.CardLaws.{chain-is}
-use Rattle.entries.proofs.TableLaws.{few-tables, table-two, layout-two}
+use Rattle.entries.proofs.TableLaws.{few-tables, table-two, layout-two, table-own}
 use Rattle.calls.proofs.Passed.{check-passed}
 use Rattle.calls.specs.Step.{isAccepted}
 
@@ -306,16 +306,15 @@ module _ (c : List ℕ) (ds : List Descriptor) (d : Descriptor) where
       (subst (λ (m : ℕ). Held c d before n m) q (held-nil before n (128 * i + j) is h))
 
   -- layout 1
-  own-set : d .layout ≡ 1 → (i : ℕ) → tableOf c d i ≡ 0 → ⊥
-  unfolding tableOf
-  own-set e i z = let q : d .alpha .0 + 1 + i ≡ 0 = rw (eq-eqb (d .layout) 1 e) at z in omega arith
+  own-some : d .layout ≡ 1 → (i : ℕ) → tableOf c d i ≡ 0 → ⊥
+  own-some e i z = omega (arith, table-own c d i (eq-eqb (d .layout) 1 e), z)
 
   tables-pass : d .layout ≡ 1 → (k i : ℕ) (before : List ℕ) → Flat c ds d 0 (128 * i) → Held c d before 0 (128 * i) → firstFault ds d before (tablesNamings c d k i) ≡ Passed → Flat c ds d 0 (128 * (i + k))
   unfolding tablesNamings Reached
   tables-pass one zero i before f h p = let q : 128 * i ≡ 128 * (i + 0) = omega arith in subst (λ (m : ℕ). Flat c ds d 0 m) q f
   tables-pass one (suc k) i before f h p =
       let q : 128 * i ≡ 128 * i + 0 = omega arith in
-      let r = table-passes 0 i (own-set one i) (tablesNamings c d k (suc i)) 128 0 (omega arith) before (subst (λ (m : ℕ). Flat c ds d 0 m) q f) (subst (λ (m : ℕ). Held c d before 0 m) q h) p in
+      let r = table-passes 0 i (own-some one i) (tablesNamings c d k (suc i)) 128 0 (omega arith) before (subst (λ (m : ℕ). Flat c ds d 0 m) q f) (subst (λ (m : ℕ). Held c d before 0 m) q h) p in
       let s : 128 * (suc i + k) ≡ 128 * (i + suc k) = omega arith in
       subst (λ (m : ℕ). Flat c ds d 0 m) s (tables-pass one k (suc i) (r .0) (r .1) (r .2) (r .3))
 
@@ -449,7 +448,7 @@ module _ (c : List ℕ) (ds : List Descriptor) (d : Descriptor) where
   tables-kept one more f zero i b before o = refl
   tables-kept one more f (suc k) i b before o =
       let q : 128 * i ≡ 128 * i + 0 = omega arith in
-      table-kept 0 more 0 i f (omega arith) (omega arith) (own-set one i) (tablesNamings c d k (suc i)) (λ before2 o2. tables-kept one more f k (suc i) (omega arith) before2 o2) 128 0 (omega arith) before
+      table-kept 0 more 0 i f (omega arith) (omega arith) (own-some one i) (tablesNamings c d k (suc i)) (λ before2 o2. tables-kept one more f k (suc i) (omega arith) before2 o2) 128 0 (omega arith) before
       (subst (λ (m : ℕ). Only c d before 0 m) q o)
 
   kept-one : d .layout ≡ 2 → (big i : ℕ) → Flat c ds d big (128 * big) → i < big → (rest : List Naming)

@@ -13,9 +13,8 @@ use borrow.Author.Tests.{ne-eqb, lt-ltb, le-leb, eqb-true, eqb-false, leb-true, 
 use Rattle.blocks.specs.Pick.{pick, allZero}
 use Rattle.blocks.specs.Bytes.{part, u32At, splice, store, blockCount, blockAt, zeroBlock, storeBlock, storeAll}
 use Rattle.blocks.specs.Name.{isName}
-use Rattle.blocks.specs.Descriptor.{physical, mark, tableCount, cost, firstOf, noDescriptor, descriptorAt, descriptorBlock, reservedOk, phiOk, clearing, opening, costIn}
+use Rattle.blocks.specs.Descriptor.{mark, tableCount, cost, firstOf, noDescriptor, descriptorAt, descriptorBlock, reservedOk, phiOk, clearing, opening, costIn}
 use Rattle.blocks.specs.Chain.{formOk, sound, Sound, chain, chainSound, descriptors, activeOf}
-use Rattle.blocks.specs.declared.numbers.Physical.{Physical}
 use Rattle.blocks.specs.declared.descriptor.Descriptor.{Descriptor}
 use Rattle.blocks.proofs.Tests.{and-left, and-right}
 use Rattle.blocks.proofs.ByteLaws.{length-splice, splice-after, store-length, store-same, store-other, u32-part, zero-number}
@@ -26,10 +25,9 @@ use Rattle.blocks.proofs.NamedLaws.{named-none}
 use Rattle.blocks.proofs.ChainLaws.{cost-least}
 use Rattle.blocks.proofs.LinkedLaws.{last}
 use Rattle.entries.specs.InPlace.{inPlace}
-use Rattle.entries.specs.Entry.{entryAt, phiAt, tableOf, entryFound, find}
+use Rattle.entries.specs.Entry.{entryAt, phiAt, tableOf}
 use Rattle.entries.specs.Rules.{entryOf, PhiRules, TableRules, Rules}
-use Rattle.entries.specs.declared.find.Found.the-variants.{Misplaced, Entry}
-use Rattle.calls.specs.Parts.{areaBad, descriptorsOf, snapshotsOf, blockFound}
+use Rattle.calls.specs.Parts.{areaBad, descriptorsOf, snapshotsOf, blockFound, foundThrough}
 use Rattle.calls.specs.Check.{Passes}
 use Rattle.claims.specs.History.{formattable, formatted}
 use Rattle.claims.specs.Ledger.{cellsFrom, volumeOf, volumesOf, ledgerOf}
@@ -37,9 +35,11 @@ use Rattle.claims.specs.Claims.{FormatClaim}
 use Rattle.calls.proofs.CardLaws.{card-most}
 use Rattle.blocks.proofs.SharedLaws.{linked-chain}
 use Rattle.blocks.proofs.StoredLaws.{block-tail, stored-descriptor, stored-bytes, stored-mark, region-ok}
-use Rattle.blocks.proofs.ChangedLaws.{layout-small}
 use Rattle.blocks.proofs.StoreLists.{isStored, stored-length, stored-other, stored-append, stored-one, inside-clearing}
 use Rattle.blocks.specs.declared.descriptor.Format.{Format}
+use Rattle.blocks.proofs.MemberLaws.{layout-small}
+use Rattle.entries.proofs.TableLaws.{table-own, table-phi}
+use Rattle.calls.proofs.CellLaws.{cell-rules, blockNamed}
 
 -- a store before block b leaves the bytes from block b on
 store-past : (c : List ℕ) (p : ℕ) (bytes : List ℕ) (b : ℕ) → length bytes ≡ 512 → 512 * p + 512 ≤ length c → p < b → drop (512 * b) (storeBlock c p bytes) ≡ drop (512 * b) c
@@ -116,11 +116,6 @@ pick-nil false v e = e
 nil-placed : (ds : List Descriptor) (d : Descriptor) → inPlace ds d 0 ≡ true
 unfolding inPlace
 nil-placed ds d = refl
-
-nil-read : (c : List ℕ) (z : Bool) (m h : Physical) → blockFound c (pick z (Entry m (physical 0)) (Misplaced h)) ≡ zeroBlock
-unfolding blockFound
-nil-read c true m h = refl
-nil-read c false m h = refl
 
 -- an area that can be formatted
 module _ (area : List ℕ) (format : Format) (ok : formattable area format ≡ true) where
@@ -309,8 +304,7 @@ module _ (area : List ℕ) (format : Format) (ok : formattable area format ≡ t
   -- layout 1: the tables follow the descriptor
   module _ (one : eqb (format .layout) 1 ≡ true) where
     one-table : (i : ℕ) → tableOf card first i ≡ 1 + i
-    unfolding tableOf
-    one-table i = rw one (omega arith)
+    one-table i = omega (arith, table-own card first i one)
 
     one-cost : costIn format ≡ 1 + tableCount (format .volume)
     unfolding cost
@@ -321,8 +315,7 @@ module _ (area : List ℕ) (format : Format) (ok : formattable area format ≡ t
 
   -- layout 2: Phi names no table
   two-table : eqb (format .layout) 1 ≡ false → (i : ℕ) → i < 112 → tableOf card first i ≡ 0
-  unfolding tableOf
-  two-table two i h = rw two (phi-zero i h)
+  two-table two i h = table-phi card first i two ∙ phi-zero i h
 
   entry-by : (z : Bool) → eqb (format .layout) 1 ≡ z → (l : ℕ) → l < 128 * tableCount (format .volume) → entryOf card first l ≡ 0
   unfolding entryOf
@@ -372,16 +365,16 @@ module _ (area : List ℕ) (format : Format) (ok : formattable area format ≡ t
       }
 
   -- a read gives zeros
-  read-by : (z : Bool) → eqb (format .layout) 1 ≡ z → (ds : List Descriptor) (l : ℕ) → l < (format .volume) → blockFound card (find card ds first l) ≡ zeroBlock
-  unfolding find entryFound
-  read-by true e ds l h = rw (e, one-entry e l (omega (arith, tables-hold))) (nil-read card (inPlace ds first 0) _ _)
-  read-by false e ds l h = rw (e, two-table e (l / 128) (omega (arith, tables-few, tables-hold))) (nil-read card (inPlace ds first 0) _ _)
+  read-zero : (l : ℕ) → l < (format .volume) → blockFound card (foundThrough card first l) ≡ zeroBlock
+  read-zero l h =
+      rw formatted-descriptors
+      (cell-rules card (first ∷ []) first format-layout formatted-rules l h ∙ ap (blockNamed card) (entries-nil l (omega (arith, tables-hold))))
 
   cells-zero : (n l : ℕ) → l + n ≤ (format .volume) → cellsFrom card first n l ≡ replicate n zeroBlock
   unfolding cellsFrom
   cells-zero zero l h = refl
   cells-zero (suc n) l h =
-      rw (read-by (eqb (format .layout) 1) refl (descriptorsOf card) l (omega arith))
+      rw (read-zero l (omega arith))
       (ap (λ (cs : List (List ℕ)). zeroBlock ∷ cs) (cells-zero n (suc l) (omega arith)))
 
   -- the ledger: no snapshots and a volume of zeros

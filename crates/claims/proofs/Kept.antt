@@ -2,43 +2,42 @@
 -- below its beta; and so does the active name.
 use mathlib.Core.Path.{_≡_, refl, sym, ap, _∙_}
 use mathlib.Core.Logic.{_⊎_, inl, inr}
-use mathlib.Core.Bool.{Bool, true, false, not, _&&_}
+use mathlib.Core.Bool.{Bool, true, false}
 use mathlib.Core.List.{List, [], _∷_, _++_, append-assoc}
 use Prim.Native.Nat.{ℕ, suc, _+_, _-_, _≤_, _<_}
 use native.Mathlib.Omega.{arith}
 use lib.ListN.{length, take, drop, length-append, take-append-drop}
 use lib.Seq.{take-append-le, take-append-add, append-snoc}
-use lib.Dec.{eqb, ltb, leb}
-use borrow.Author.Tests.{ne-eqb, leb-true, leb-false, ltb-false}
-use Rattle.blocks.specs.Pick.{pick}
-use Rattle.blocks.specs.Bytes.{blockAt, store, storeAll, Store}
+use lib.Dec.{leb}
+use borrow.Author.Tests.{leb-true, leb-false}
+use Rattle.blocks.specs.Bytes.{blockAt, storeAll, Store}
 use Rattle.blocks.specs.Descriptor.{physical, renamedOf, linkedOf, extendedOf, reopenedOf}
 use Rattle.blocks.specs.Chain.{Sound, chain, indexOf, named, activeOf}
 use Rattle.blocks.specs.declared.descriptor.Descriptor.{Descriptor}
-use Rattle.blocks.proofs.Tests.{and-right}
-use Rattle.blocks.proofs.BoolLaws.{no, or-false-right}
+use Rattle.blocks.proofs.BoolLaws.{no}
 use Rattle.blocks.proofs.LinkedLaws.{Linked, last, more, sound-next}
 use Rattle.blocks.proofs.ChainLaws.{active-snoc, descriptors-are}
-use Rattle.entries.specs.Entry.{tableIsNew, need, setInTable, setInNewTable, writing}
-use Rattle.entries.specs.declared.find.Found.{Found}
-use Rattle.entries.specs.declared.find.Found.the-variants.{Misplaced, Entry}
+use Rattle.entries.specs.Entry.{need}
 use Rattle.calls.specs.Call.{Call}
 use Rattle.calls.specs.Parts.{descriptorsOf, snapshotsOf, withName, foundThrough}
 use Rattle.calls.specs.Effect.{reverting, writeStores, snapStores, revertStores}
 use Rattle.calls.specs.Step.{step}
 use Rattle.claims.specs.History.{isFormat, formats}
 use Rattle.blocks.proofs.RelinkedLaws.{later-alpha}
-use Rattle.blocks.proofs.ChangedLaws.{named-left, member-from, member-fresh}
+use Rattle.blocks.proofs.ChangedLaws.{named-left}
 use Rattle.blocks.proofs.StoreLists.{isStored, stored-length, stored-other, Whole, one-stored}
-use Rattle.claims.proofs.Inside.{write-whole, snap-whole, revert-whole}
-use Rattle.claims.proofs.ChainAfter.{before, behind, active-last, link-low, revert-split, reverted-chain}
-use Rattle.claims.proofs.SnappedChain.{snap-above, snapped-chain}
-use Rattle.claims.proofs.WrittenChain.{written-chain}
 use Rattle.calls.proofs.Passed.{WritePassed, SnapPassed, RevertPassed}
 use Rattle.claims.specs.Kinds.{Kind}
 use Rattle.claims.proofs.Changes.{storesBy, Allowed, to-format, to-leave, to-write, to-snap, to-revert}
 use Rattle.claims.proofs.Steps.{step-cases}
-use Rattle.calls.proofs.CardLaws.{active-split, snapshots-snoc}
+use Rattle.calls.proofs.CardLaws.{active-split, snapshots-snoc, chain-is}
+use Rattle.blocks.proofs.MemberLaws.{member-from, member-fresh}
+use Rattle.calls.proofs.ActiveLaws.{active-rise}
+use Rattle.entries.proofs.PutLaws.{writing-above}
+use Rattle.changes.proofs.WholeLaws.{write-whole, snap-whole, revert-whole}
+use Rattle.changes.proofs.RevertedChain.{before, behind, revert-split, reverted-chain}
+use Rattle.changes.proofs.SnappedChain.{snap-above, snapped-chain}
+use Rattle.changes.proofs.WrittenChain.{written-chain}
 
 -- a later region starts where an earlier one ends, or after
 beta-before : {c : List ℕ} {es : List Descriptor} {p : ℕ} {ds : List Descriptor} → Linked c es p ds → (v : Descriptor) (us : List Descriptor) (u : Descriptor) (ws : List Descriptor) → ds ≡ v ∷ (us ++ (u ∷ ws))
@@ -48,26 +47,6 @@ beta-before {c = c} (more {es = es} {p = p} {d = e} {ds = ds} is ok z rest) v us
     let k : ds ≡ us ++ (u ∷ ws) = cc in
     let x : e ≡ v = cc in
     omega (arith, later-alpha c rest us u ws k, sound-next c es p e is ok z, ap (λ (y : Descriptor). y .beta .0) x)
-
--- a write stores no block below the active alpha
-module _ (c : List ℕ) (d : Descriptor) (low : d .alpha .0 < d .beta .0) (l : ℕ) (block : List ℕ) (q : ℕ) (h : q < d .alpha .0) where
-  above-by : (m o : ℕ) (a n : Bool) → (a ≡ true → d .alpha .0 ≤ o) → (n ≡ false → d .alpha .0 ≤ m)
-      → isStored (pick (eqb (pick a 0 (pick n 2 1)) 0) (store o block ∷ []) (pick n (store (d .beta .0 + 1) block ∷ setInNewTable c d m l) (store (d .beta .0) block ∷ setInTable c d m l))) q ≡ false
-  unfolding isStored setInNewTable setInTable
-  above-by m o true n f g = rw (ne-eqb o q (omega (arith, f refl)))
-  above-by m o false true f g = rw (ne-eqb (d .beta .0 + 1) q (omega arith), ne-eqb (d .beta .0) q (omega arith), ne-eqb (d .alpha .0) q (omega arith))
-  above-by m o false false f g = rw (ne-eqb (d .beta .0) q (omega arith), ne-eqb (d .alpha .0) q (omega arith), ne-eqb m q (omega (arith, g refl)))
-
-  not-new : (m : ℕ) → tableIsNew (d .alpha .0) m ≡ false → d .alpha .0 ≤ m
-  unfolding tableIsNew
-  not-new m e = ltb-false m (d .alpha .0) (or-false-right (eqb m 0) (ltb m (d .alpha .0)) e)
-
-  pub writing-above : (f : Found) → isStored (writing c d f l block) q ≡ false
-  unfolding writing need isStored
-  writing-above (Misplaced x) = refl
-  writing-above (Entry m o) =
-      above-by (m .0) (o .0) (not (eqb (o .0) 0) && leb (d .alpha .0) (o .0)) (tableIsNew (d .alpha .0) (m .0))
-      (λ e. leb-true (d .alpha .0) (o .0) (and-right (not (eqb (o .0) 0)) (leb (d .alpha .0) (o .0)) e)) (not-new (m .0))
 
 -- the parts of a chain with v before its last descriptor
 module _ (xs : List Descriptor) (v : Descriptor) (rest : List Descriptor) (some : 0 < length rest) where
@@ -128,22 +107,22 @@ module _ (s : List ℕ) (xs : List Descriptor) (v : Descriptor) (n : List ℕ) (
   grown : (zs : List Descriptor) → snapshotsOf (descriptorsOf t) ++ zs ≡ xs ++ (v ∷ (snapshotsOf rest ++ zs))
   grown zs = ap (λ (ys : List Descriptor). ys ++ zs) stands-snapshots ∙ append-assoc xs (v ∷ snapshotsOf rest) zs
 
-  active-name : activeOf (descriptorsOf t) .name ≡ n
-  active-name = ap (λ (x : Descriptor). x .name) stands-active ∙ h .active
+  active-called : activeOf (descriptorsOf t) .name ≡ n
+  active-called = ap (λ (x : Descriptor). x .name) stands-active ∙ h .active
 
   -- a write
   write-above : (l : ℕ) (block : List ℕ) → WritePassed t l block → (p : ℕ) → p < v .beta .0 → isStored (writeStores t l block) p ≡ false
   unfolding writeStores
   write-above l block e p q =
       let d = activeOf (descriptorsOf t) in
-      writing-above t d (link-low t (e .area) (e .sound) (snapshotsOf (descriptorsOf t)) d [] (active-last t (e .area) (e .sound))) l block p (omega (arith, active-above)) (foundThrough t d l)
+      writing-above t d (active-rise t (descriptorsOf t) (chain-is (chain t) (e .sound))) l block p (omega (arith, active-above)) (foundThrough t d l)
 
   pub stands-write : (l : ℕ) (block : List ℕ) → WritePassed t l block → Stands s xs v n (storeAll t (writeStores t l block))
   stands-write l block e =
       let d = activeOf (descriptorsOf t) in
       let x = extendedOf d (need (d .alpha .0) (foundThrough t d l)) in
       stands-by (writeStores t l block) (write-whole t l block e) (snapshotsOf rest ++ (x ∷ [])) (omega (arith, length-append (snapshotsOf rest) (x ∷ [])))
-      (written-chain t l block e ∙ ap Sound (grown (x ∷ []))) (ap (λ (y : Descriptor). y .name) (active-snoc (snapshotsOf rest) x) ∙ active-name) (write-above l block e)
+      (written-chain t l block e ∙ ap Sound (grown (x ∷ []))) (ap (λ (y : Descriptor). y .name) (active-snoc (snapshotsOf rest) x) ∙ active-called) (write-above l block e)
 
   -- a snap
   pub stands-snap : (name : List ℕ) → SnapPassed t name → Stands s xs v n (storeAll t (snapStores t name))
@@ -153,7 +132,7 @@ module _ (s : List ℕ) (xs : List Descriptor) (v : Descriptor) (n : List ℕ) (
       let new = reopenedOf d in
       stands-by (snapStores t name) (snap-whole t name e) (snapshotsOf rest ++ (old ∷ new ∷ [])) (omega (arith, length-append (snapshotsOf rest) (old ∷ new ∷ [])))
       (snapped-chain t name e ∙ ap Sound (grown (old ∷ new ∷ [])))
-      (ap (λ (ys : List Descriptor). activeOf ys .name) (sym (append-snoc (snapshotsOf rest) old (new ∷ []))) ∙ ap (λ (y : Descriptor). y .name) (active-snoc (snapshotsOf rest ++ (old ∷ [])) new) ∙ active-name)
+      (ap (λ (ys : List Descriptor). activeOf ys .name) (sym (append-snoc (snapshotsOf rest) old (new ∷ []))) ∙ ap (λ (y : Descriptor). y .name) (active-snoc (snapshotsOf rest ++ (old ∷ [])) new) ∙ active-called)
       (λ p q. snap-above t name e p (omega (arith, active-above)))
 
   -- a revert: to a later snapshot v stays, otherwise it is gone
@@ -192,7 +171,7 @@ module _ (s : List ℕ) (xs : List Descriptor) (v : Descriptor) (n : List ℕ) (
     stands-later i q =
         stands-by (revertStores t name) (revert-whole t name e) (take i zs ++ (w ∷ [])) (omega (arith, length-append (take i zs) (w ∷ [])))
         (reverted-chain t name e ∙ ap Sound (ap (λ (ys : List Descriptor). ys ++ (w ∷ [])) (later i q) ∙ append-assoc xs (v ∷ take i zs) (w ∷ [])))
-        (ap (λ (y : Descriptor). y .name) (active-snoc (take i zs) w) ∙ active-name) (revert-above i q)
+        (ap (λ (y : Descriptor). y .name) (active-snoc (take i zs) w) ∙ active-called) (revert-above i q)
 
     gone : indexOf ss name ≤ length xs → named (snapshotsOf (descriptorsOf (storeAll t (revertStores t name)))) (v .name) ≡ false
     gone q =

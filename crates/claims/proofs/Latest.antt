@@ -24,9 +24,6 @@ use Rattle.calls.specs.Step.{step, after, isAccepted}
 use Rattle.claims.specs.History.{isFormat, Standing, more, isSnapOf, Position, Nowhere, At, latestFrom, latestSnap, formats, snapsAs}
 use Rattle.claims.specs.Claims.{Unsnapped, end, then, LastSnap}
 use Rattle.blocks.proofs.ChangedLaws.{named-append, named-left}
-use Rattle.claims.proofs.ChainAfter.{before, reverted-chain}
-use Rattle.claims.proofs.SnappedChain.{snapped-chain}
-use Rattle.claims.proofs.WrittenChain.{written-chain}
 use Rattle.claims.proofs.Kept.{Stands, stands-step}
 use Rattle.claims.proofs.Runs.{standing-length, step-length}
 use Rattle.calls.proofs.Passed.{WritePassed, SnapPassed, RevertPassed}
@@ -34,6 +31,9 @@ use Rattle.claims.specs.Kinds.{Kind, Formats, Leaves, Writes, Snaps, Rev
 use Rattle.claims.proofs.Changes.{storesBy, Allowed, to-format, to-leave, to-write, to-snap, to-revert}
 use Rattle.claims.proofs.Steps.{step-cases}
 use Rattle.calls.proofs.CardLaws.{snapshots-snoc}
+use Rattle.changes.proofs.RevertedChain.{before, reverted-chain}
+use Rattle.changes.proofs.SnappedChain.{snapped-chain}
+use Rattle.changes.proofs.WrittenChain.{written-chain}
 
 -- a call that is no accepted snap of the name makes no snapshot of it
 module _ (n t : List ℕ) (gone : named (snapshotsOf (descriptorsOf t)) n ≡ false) where

@@ -2,141 +2,42 @@
 use mathlib.Core.Path.{_≡_, refl, sym, ap, _∙_}
 use mathlib.Core.Bool.{Bool, true, false, not, _&&_, _||_}
 use mathlib.Core.List.{List, [], _∷_, _++_, map}
-use Prim.Native.Nat.{ℕ, zero, suc, _+_, _-_, _/_, _%_, _≤_, _<_}
+use Prim.Native.Nat.{ℕ, suc, _+_, _≤_, _<_}
 use native.Mathlib.Omega.{arith}
 use lib.ListN.{length, drop, getD, length-append}
 use lib.Dec.{eqb, ltb, leb}
 use borrow.Author.Tests.{eqb-true, eqb-false, leb-false, le-ltb, not-true, not-false}
 use Rattle.blocks.specs.Pick.{pick, same}
 use Rattle.blocks.specs.Bytes.{blockCount}
-use Rattle.blocks.specs.Descriptor.{physical, noDescriptor, descriptorAt}
-use Rattle.blocks.specs.Chain.{chain, indexOf, named, activeOf}
+use Rattle.blocks.specs.Descriptor.{noDescriptor}
+use Rattle.blocks.specs.Chain.{chain, named, activeOf}
 use Rattle.blocks.specs.declared.descriptor.Descriptor.{Descriptor}
 use Rattle.blocks.proofs.Tests.{and-left, and-right}
-use Rattle.blocks.proofs.BoolLaws.{no}
-use Rattle.blocks.proofs.NamedLaws.{named-none, named-cons, named-one}
-use Rattle.blocks.proofs.ChainLaws.{region-volume}
-use Rattle.blocks.proofs.SoundLaws.{form-layout}
-use Rattle.blocks.proofs.LinkedLaws.{Linked, chain-linked, regionStart, linked-some, linked-end, linked-at, RegionAt, active-at, end-active}
-use Rattle.entries.specs.InPlace.{inPlace}
-use Rattle.entries.specs.Entry.{entryAt, tableOf, entryFound, find}
-use Rattle.entries.specs.Rules.{entryOf}
-use Rattle.entries.specs.declared.find.Found.the-variants.{Misplaced, Entry}
+use Rattle.blocks.proofs.NamedLaws.{named-one}
 use Rattle.calls.specs.declared.answer.Answer.{Answer}
 use Rattle.calls.specs.declared.answer.Target.{Target}
 use Rattle.calls.specs.declared.answer.Target.the-variants.{Active, Snapshot}
 use Rattle.calls.specs.declared.answer.Record.{Record}
 use Rattle.calls.specs.Call.{Call, Ream, Read, Write, Snap, Revert, Listing, Check, Block, Records, answer, accepted}
-use Rattle.calls.specs.Parts.{descriptorsOf, snapshotsOf, withName, isSnapshot, targetOf, foundThrough, isMisplaced, blockFound, areaBad}
+use Rattle.calls.specs.Parts.{descriptorsOf, snapshotsOf, isSnapshot, targetOf, foundThrough, isMisplaced, blockFound, areaBad}
 use Rattle.calls.specs.Check.{Passes}
 use Rattle.calls.specs.Ladder.{Row, row, firstRow, reamRows, readRows, writeRows, snapRows, revertRows, listRows, admission}
 use Rattle.calls.specs.Effect.{noRecord}
 use Rattle.calls.specs.Meaning.{rowsOf, answerOf, filledOf}
 use Rattle.calls.specs.Step.{step, isAccepted}
 use Rattle.claims.specs.History.{betaOf}
-use Rattle.claims.specs.Ledger.{Volume, hasVolume, volumeNamed, ledgerRows, volumeRead, cellRead, namesFrom, ledgerNames, cellsFrom, volumeOf, volumesOf, ledgerOf}
+use Rattle.claims.specs.Ledger.{Volume, ledgerRows, volumeRead, cellRead, namesFrom, ledgerNames, volumeOf, volumesOf, ledgerOf}
 use Rattle.claims.specs.Claims.{blocksNeeded, recordNames, CheckClaim, ListClaim}
 use Rattle.calls.proofs.CardLaws.{chain-is, active-split}
-use Rattle.claims.proofs.Agreement.{target-member, active-target}
 use Rattle.blocks.proofs.ChangedLaws.{named-append}
 use Rattle.claims.proofs.Lists.{list-claim}
 use Rattle.claims.proofs.CheckClaims.{check-claim}
-use Rattle.entries.proofs.TableLaws.{table-phi, own-set, group-below}
 use Rattle.calls.proofs.Passed.{read-passed, list-passed}
 use Rattle.calls.proofs.RowLaws.{admitted, admission-0}
 use Rattle.blocks.specs.declared.descriptor.Format.{Format}
-
--- what is followed is in place, by the tests of find
-placed-by : (ds : List Descriptor) (d : Descriptor) (m e : ℕ) (o i z : Bool) → (o ≡ true → z ≡ false) → (o ≡ false → i ≡ true) → inPlace ds d (pick z 0 e) ≡ true
-    → isMisplaced (pick o (entryFound ds d m e) (pick i (pick z (Entry (physical 0) (physical 0)) (entryFound ds d m e)) (Misplaced (d .alpha)))) ≡ false
-unfolding entryFound isMisplaced
-placed-by ds d m e true i true own phi h = no (sym (own refl))
-placed-by ds d m e true i false own phi h = rw h
-placed-by ds d m e false true true own phi h = refl
-placed-by ds d m e false true false own phi h = rw h
-placed-by ds d m e false false z own phi h = no (phi refl)
-
-second-layout : (a b : Bool) → (a || b) ≡ true → a ≡ false → b ≡ true
-second-layout true b h e = no (sym e)
-second-layout false b h e = h
-
--- a card that passes
-module _ (c : List ℕ) (p : Passes c) where
-  pub linked-of : Linked c [] 0 (descriptorsOf c)
-  linked-of = chain-linked c (descriptorsOf c) (chain-is (chain c) (p .sound))
-
-  pub some-of : 0 < length (descriptorsOf c)
-  some-of = linked-some linked-of
-
-  pub region-of : (k : ℕ) → k < length (descriptorsOf c) → RegionAt c (regionStart 0 (descriptorsOf c) k) (regionStart 0 (descriptorsOf c) (suc k)) (getD (descriptorsOf c) k noDescriptor)
-  region-of k h = linked-at linked-of k h
-
-  volume-of : (k : ℕ) → k < length (descriptorsOf c) → getD (descriptorsOf c) k noDescriptor .volume ≡ activeOf (descriptorsOf c) .volume
-  volume-of k h =
-      region-volume (descriptorAt c 0) (blockCount c) _ _ (region-of k h .region)
-      ∙ sym (region-volume (descriptorAt c 0) (blockCount c) _ _ (region-of (length (descriptorsOf c) - 1) (omega (arith, some-of)) .region))
-      ∙ ap (λ (d : Descriptor). d .volume) (sym (active-at (descriptorsOf c) some-of))
-
-  pub beta-upto : betaOf c ≤ blockCount c
-  unfolding betaOf
-  beta-upto = omega (arith, linked-end linked-of, end-active (descriptorsOf c) some-of)
-
-  phi-placed : (j : ℕ) → j < length (descriptorsOf c) → (l : ℕ) → l < getD (descriptorsOf c) j noDescriptor .volume → eqb (getD (descriptorsOf c) j noDescriptor .layout) 1 ≡ false
-      → inPlace (descriptorsOf c) (getD (descriptorsOf c) j noDescriptor) (tableOf c (getD (descriptorsOf c) j noDescriptor) (l / 128)) ≡ true
-  phi-placed j h l b e =
-      let d = getD (descriptorsOf c) j noDescriptor in
-      let two : d .layout ≡ 2 = eqb-true (d .layout) 2 (second-layout (eqb (d .layout) 1) (eqb (d .layout) 2) (form-layout c _ d (region-of j h .form)) e) in
-      rw (table-phi c d (l / 128) e) (p .rules j h .phi two .in-place (l / 128) (group-below l (d .volume) b))
-
--- entries followed on a card that passes are in place
-pub passing-found : (c : List ℕ) → Passes c → (j : ℕ) → j < length (descriptorsOf c) → (l : ℕ)
-    → let d = getD (descriptorsOf c) j noDescriptor in
-    l < d .volume → isMisplaced (foundThrough c d l) ≡ false
-unfolding find entryOf
-passing-found c p j h l b =
-    let ds = descriptorsOf c in
-    let d = getD (descriptorsOf c) j noDescriptor in
-    let m = tableOf c d (l / 128) in
-    placed-by ds d m (entryAt c m (l % 128)) (eqb (d .layout) 1) (inPlace ds d m) (eqb m 0)
-    (λ o. own-set c d (l / 128) o) (λ o. phi-placed c p j h l b o) (p .rules j h .tables .in-place l b)
-
--- the ledger's volumes
-cells-length : (c : List ℕ) (d : Descriptor) (n l : ℕ) → length (cellsFrom c d n l) ≡ n
-unfolding cellsFrom
-cells-length c d zero l = refl
-cells-length c d (suc n) l = ap suc (cells-length c d n (suc l))
-
-cells-at : (c : List ℕ) (d : Descriptor) (n l j : ℕ) → j < n → getD (cellsFrom c d n l) j [] ≡ blockFound c (foundThrough c d (l + j))
-unfolding cellsFrom
-cells-at c d zero l j h = absurd (omega arith)
-cells-at c d (suc n) l zero h = let e : l + 0 ≡ l = omega arith in rw e
-cells-at c d (suc n) l (suc j) h = let e : l + suc j ≡ suc l + j = omega arith in rw e (cells-at c d n (suc l) j (omega arith))
-
-cell-of : (c : List ℕ) (d : Descriptor) (l : ℕ) → l < d .volume → getD (volumeOf c d .cells) l [] ≡ blockFound c (foundThrough c d l)
-unfolding volumeOf
-cell-of c d l h = let e : 0 + l ≡ l = omega arith in cells-at c d (d .volume) 0 l h ∙ ap (λ (n : ℕ). blockFound c (foundThrough c d n)) e
-
-volumes-length : (c : List ℕ) (ds : List Descriptor) → length (volumesOf c ds) ≡ length ds
-unfolding volumesOf
-volumes-length c [] = refl
-volumes-length c (d ∷ ds) = ap suc (volumes-length c ds)
-
-has-volume : (c : List ℕ) (ds : List Descriptor) (name : List ℕ) → hasVolume (volumesOf c ds) name ≡ named ds name
-unfolding hasVolume volumesOf volumeOf
-has-volume c [] name = sym (named-none name)
-has-volume c (d ∷ ds) name = ap (λ (b : Bool). same (d .name) name || b) (has-volume c ds name) ∙ sym (named-cons d ds name)
-
-which-volume : (c : List ℕ) (d : Descriptor) (ds : List Descriptor) (i : ℕ) (v : Volume) (b : Bool) → (b ≡ false → v ≡ volumeOf c (getD ds i noDescriptor))
-    → pick b (volumeOf c d) v ≡ volumeOf c (getD (d ∷ ds) (pick b 0 (suc i)) noDescriptor)
-which-volume c d ds i v true h = refl
-which-volume c d ds i v false h = h refl
-
-pub volume-named : (c : List ℕ) (ds : List Descriptor) (name : List ℕ) → named ds name ≡ true → volumeNamed (volumesOf c ds) name ≡ volumeOf c (withName ds name)
-unfolding volumeNamed volumesOf indexOf volumeOf
-volume-named c [] name h = no (sym (named-none name) ∙ h)
-volume-named c (d ∷ ds) name h =
-    which-volume c d ds (indexOf ds name) (volumeNamed (volumesOf c ds) name) (same (d .name) name)
-    (λ e. volume-named c ds name (second-layout (same (d .name) name) (named ds name) (sym (named-cons d ds name) ∙ h) e))
+use Rattle.calls.proofs.ActiveLaws.{target-member, active-target, chain-some, volume-at, active-last, active-end}
+use Rattle.calls.proofs.CellLaws.{passing-found}
+use Rattle.claims.proofs.LedgerLaws.{cells-length, volume-named, volumes-length, cell-of, has-volume}
 
 volume-read : (c : List ℕ) (target : Target) (name : List ℕ) → (isSnapshot target && not (named (snapshotsOf (descriptorsOf c)) name)) ≡ false
     → volumeRead (ledgerOf c) target name ≡ volumeOf c (targetOf (descriptorsOf c) target name)
@@ -148,14 +49,14 @@ volume-read c Snapshot name h = volume-named c (snapshotsOf (descriptorsOf c)) n
 module _ (c : List ℕ) (p : Passes c) (target : Target) (name : List ℕ) (l : ℕ) (standing : (isSnapshot target && not (named (snapshotsOf (descriptorsOf c)) name)) ≡ false) (inside : l < activeOf (descriptorsOf c) .volume) where
   below-target : l < targetOf (descriptorsOf c) target name .volume
   below-target =
-      let m = target-member (descriptorsOf c) (some-of c p) target name standing in
-      omega (arith, inside, ap (λ (d : Descriptor). d .volume) (m .2), volume-of c p (m .0) (m .1))
+      let m = target-member (descriptorsOf c) (chain-some c (descriptorsOf c) (chain-is (chain c) (p .sound))) target name standing in
+      omega (arith, inside, ap (λ (d : Descriptor). d .volume) (m .2), volume-at c (descriptorsOf c) (chain-is (chain c) (p .sound)) (m .0) (m .1))
 
   target-found : isMisplaced (foundThrough c (targetOf (descriptorsOf c) target name) l) ≡ false
   target-found =
-      let m = target-member (descriptorsOf c) (some-of c p) target name standing in
+      let m = target-member (descriptorsOf c) (chain-some c (descriptorsOf c) (chain-is (chain c) (p .sound))) target name standing in
       rw (m .2)
-      (passing-found c p (m .0) (m .1) l (omega (arith, inside, volume-of c p (m .0) (m .1))))
+      (passing-found c p (m .0) (m .1) l (omega (arith, inside, volume-at c (descriptorsOf c) (chain-is (chain c) (p .sound)) (m .0) (m .1))))
 
   target-cell : cellRead (ledgerOf c) target name l ≡ blockFound c (foundThrough c (targetOf (descriptorsOf c) target name) l)
   unfolding cellRead
@@ -208,7 +109,7 @@ unfolding ListClaim
 ledger-lists c p records ok =
     let ds = descriptorsOf c in
     let listing = list-claim records c ok in
-    let names = ledger-names c (some-of c p) in
+    let names = ledger-names c (chain-some c (descriptorsOf c) (chain-is (chain c) (p .sound))) in
     let count : length (ledgerNames (ledgerOf c)) ≡ length ds = ap length names ∙ names-length ds in (
       listing .0,
       listing .1,
@@ -305,7 +206,8 @@ module _ (c : List ℕ) (p : Passes c) where
   passing-admitted rs = admitted c accepted (admission-0 c (areaBad c) refl (p .area)) rs refl
 
   no-need : ltb (blockCount c) (betaOf c + 0) ≡ false
-  no-need = le-ltb (blockCount c) (betaOf c + 0) (omega (arith, beta-upto c p))
+  unfolding betaOf
+  no-need = le-ltb (blockCount c) (betaOf c + 0) (omega (arith, active-end c (descriptorsOf c) (chain-is (chain c) (p .sound))))
 
   no-more : (l : Answer) → l ≡ pick (eqb (l .number) 0 && ltb (blockCount c) (betaOf c + 0)) (answer 11 0) l
   no-more l = roomy-by (eqb (l .number) 0) (ltb (blockCount c) (betaOf c + 0)) (answer 11 0) l no-need
@@ -332,7 +234,7 @@ module _ (c : List ℕ) (p : Passes c) where
 
   snap-named : (name : List ℕ) → named (descriptorsOf c) name ≡ (named (snapshotsOf (descriptorsOf c)) name || same (activeOf (descriptorsOf c) .name) name)
   snap-named name =
-      ap (λ (ds : List Descriptor). named ds name) (active-split (descriptorsOf c) (some-of c p))
+      ap (λ (ds : List Descriptor). named ds name) (active-last c (descriptorsOf c) (chain-is (chain c) (p .sound)))
       ∙ named-active (snapshotsOf (descriptorsOf c)) (activeOf (descriptorsOf c)) name
 
   pub snap-answer : (name : List ℕ) → answerOf (Snap name) c ≡ ledgerAnswer (Snap name) c
@@ -353,7 +255,7 @@ module _ (c : List ℕ) (p : Passes c) where
   chain-count : suc (length (snapshotsOf (descriptorsOf c))) ≡ length (descriptorsOf c)
   chain-count =
       let ds = descriptorsOf c in
-      omega (arith, ap length (active-split ds (some-of c p)), length-append (snapshotsOf ds) (activeOf ds ∷ []))
+      omega (arith, ap length (active-last c ds (chain-is (chain c) (p .sound))), length-append (snapshotsOf ds) (activeOf ds ∷ []))
 
   list-own : (records : List Record) → firstRow (listRows c records) ≡ firstRow (ledgerRows (Listing records) (ledgerOf c))
   unfolding listRows ledgerRows ledgerOf

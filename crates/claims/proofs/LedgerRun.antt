@@ -21,14 +21,15 @@ use Rattle.claims.proofs.Runs.{standing-length, step-length}
 use Rattle.claims.proofs.Format.{format-claim}
 use Rattle.claims.proofs.LedgerFacts.{ledger-reads, ledger-lists}
 use Rattle.claims.proofs.LedgerAnswers.{ledger-number, ledger-place, ledger-no-room}
-use Rattle.claims.proofs.PassesAfter.{passes-revert}
-use Rattle.claims.proofs.PassesSnapped.{passes-snap}
-use Rattle.claims.proofs.LedgerNext.{ledger-revert}
 use Rattle.claims.proofs.LedgerSnap.{ledger-snap}
-use Rattle.claims.proofs.LedgerWrite.{passes-write, ledger-write}
+use Rattle.claims.proofs.LedgerWrite.{ledger-write}
 use Rattle.claims.specs.Kinds.{Kind}
 use Rattle.claims.proofs.Changes.{storesBy, Allowed, to-format, to-leave, to-write, to-snap, to-revert}
 use Rattle.claims.proofs.Steps.{step-cases}
+use Rattle.claims.proofs.LedgerRevert.{ledger-revert}
+use Rattle.changes.proofs.RevertedRules.{passes-revert}
+use Rattle.changes.proofs.SnappedRules.{passes-snap}
+use Rattle.changes.proofs.WritePasses.{passes-write}
 
 -- one call on a card that passes
 module _ (c : List ℕ) (passing : Passes c) where

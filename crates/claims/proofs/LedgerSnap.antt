@@ -1,36 +1,31 @@
--- The ledger of the card after a snap is the ledger's own step.
+-- The ledger of the card after an accepted snap is the ledger's own step.
 use mathlib.Core.Path.{_≡_, refl, sym, ap, _∙_, subst}
 use mathlib.Core.Bool.{true, _||_}
 use mathlib.Core.List.{List, [], _∷_, _++_, append-assoc}
-use Prim.Native.Nat.{ℕ, suc, _+_, _≤_, _<_}
+use Prim.Native.Nat.{ℕ, _≤_, _<_}
 use native.Mathlib.Omega.{arith}
-use lib.ListN.{length, getD, List·getD-append}
+use lib.ListN.{length, getD}
 use lib.Dec.{eqb}
-use Rattle.blocks.specs.Bytes.{blockAt, storeAll}
-use Rattle.blocks.specs.Descriptor.{tableCount, noDescriptor, renamedOf, linkedOf, reopenedOf}
+use Rattle.blocks.specs.Bytes.{storeAll}
+use Rattle.blocks.specs.Descriptor.{noDescriptor, renamedOf, linkedOf, reopenedOf}
 use Rattle.blocks.specs.declared.descriptor.Descriptor.{Descriptor}
-use Rattle.blocks.specs.Chain.{activeOf}
-use Rattle.blocks.proofs.SoundLaws.{form-most, form-layout}
-use Rattle.blocks.proofs.ChainLaws.{cost-least, active-snoc, descriptors-are}
-use Rattle.blocks.proofs.LinkedLaws.{RegionAt, regionStart, linked-at, linked-rise, at-alpha, at-long}
-use Rattle.entries.specs.InPlace.{inPlace}
-use Rattle.entries.specs.Entry.{phiAt, tableOf, find}
+use Rattle.blocks.specs.Chain.{activeOf, chain}
+use Rattle.blocks.proofs.SoundLaws.{form-layout}
+use Rattle.blocks.proofs.ChainLaws.{active-snoc, descriptors-are}
+use Rattle.entries.specs.Entry.{find}
 use Rattle.entries.specs.Rules.{entryOf, Rules}
-use Rattle.entries.proofs.EntryLaws.{placed-below}
 use Rattle.calls.specs.Parts.{descriptorsOf, snapshotsOf, foundThrough, blockFound}
 use Rattle.calls.specs.Check.{Passes}
 use Rattle.calls.specs.Effect.{snapStores}
 use Rattle.claims.specs.Ledger.{Volume, volumeOf, volumesOf, ledgerOf, ledgerChange}
-use Rattle.claims.proofs.SnappedChain.{snapped-chain}
-use Rattle.claims.proofs.PassesAfter.{same-below}
-use Rattle.claims.proofs.PassesSnapped.{same-entry, placed-longer, cut, low, old-phi, new-phi, kept, copied}
-use Rattle.claims.proofs.PassesSnapped.{placed-entry, linked, counted, act-at, act-rules, rules-old, rules-new, rules-first, phi-shared}
-use Rattle.claims.proofs.LedgerNext.{cells-same, volumes-same, volumes-append, ledger-parts}
-use Rattle.claims.proofs.CellEntry.{blockNamed, named-same, cell-rules}
-use Rattle.entries.proofs.TableLaws.{placed-apart, own-inside, few-tables, under, block-entry}
 use Rattle.calls.proofs.Passed.{SnapPassed}
 use Rattle.claims.specs.Kinds.{Snaps}
-use Rattle.calls.proofs.CardLaws.{snapshots-snoc}
+use Rattle.calls.proofs.CardLaws.{snapshots-snoc, chain-is}
+use Rattle.calls.proofs.CellLaws.{cell-as}
+use Rattle.claims.proofs.LedgerLaws.{cells-same, volumes-same, volumes-append, ledger-parts}
+use Rattle.calls.proofs.ActiveLaws.{region-at, region-below}
+use Rattle.changes.proofs.SnappedChain.{snapped-chain}
+use Rattle.changes.proofs.SnappedRules.{counted, act-rules, blocks-kept, old-kept, new-kept, first-is, first-kept, act-layout}
 
 module _ (c name : List ℕ) (pass : Passes c) (e : SnapPassed c name) where
   abbrev ds : List Descriptor
@@ -60,75 +55,28 @@ module _ (c name : List ℕ) (pass : Passes c) (e : SnapPassed c name) where
   after-snoc : descriptorsOf t ≡ (snaps ++ (old ∷ [])) ++ (opened ∷ [])
   after-snoc = after ∙ sym (append-assoc snaps (old ∷ []) (opened ∷ []))
 
-  -- blocks in place of a region that stood before are those of the card before
-  block-same : (d : Descriptor) → d .beta .0 ≤ act .beta .0 → (p : ℕ) → inPlace ds d p ≡ true → (p ≡ 0 → ⊥) → blockAt t p ≡ blockAt c p
-  block-same d b p h set =
-      kept c name pass e p (placed-apart snaps act [] d p (subst (λ (zs : List Descriptor). inPlace zs d p ≡ true) (cut c name pass e) h) set)
-      (omega (arith, placed-below ds d p h set, b))
-
-  -- the same entry before and after gives the same cell
-  cell-as : (d y : Descriptor) → (eqb (d .layout) 1 || eqb (d .layout) 2) ≡ true → y .layout ≡ d .layout → y .volume ≡ d .volume → Rules c ds d → Rules t es y → d .beta .0 ≤ act .beta .0
-      → (l : ℕ) → l < d .volume → entryOf t y l ≡ entryOf c d l → blockFound t (foundThrough t y l) ≡ blockFound c (foundThrough c d l)
-  cell-as d y layout a v r s b l h same =
+  -- a descriptor of the chain before whose region ends at or below the active beta, and one of its layout and L in the chain after
+  cell-at : (d y : Descriptor) → (eqb (d .layout) 1 || eqb (d .layout) 2) ≡ true → y .layout ≡ d .layout → y .volume ≡ d .volume → Rules c ds d → d .beta .0 ≤ act .beta .0
+      → Rules t es y × ((l : ℕ) → l < d .volume → entryOf t y l ≡ entryOf c d l) → (l : ℕ) → l < d .volume → blockFound t (foundThrough t y l) ≡ blockFound c (foundThrough c d l)
+  cell-at d y layout a v rule b kept l h =
       ap (λ (zs : List Descriptor). blockFound t (find t zs y l)) after
-      ∙ cell-rules t es y (ap (λ (x : ℕ). eqb x 1 || eqb x 2) a ∙ layout) s l (omega (arith, h, v))
-      ∙ ap (blockNamed t) same
-      ∙ named-same c t (entryOf c d l) (block-same d b (entryOf c d l) (r .tables .in-place l h))
-      ∙ sym (cell-rules c ds d layout r l h)
+      ∙ cell-as c t ds es d y layout a v rule (kept .0) l h (kept .1 l h) (blocks-kept c name pass e d b (entryOf c d l) (rule .tables .in-place l h))
 
-  -- the entries of a descriptor that stays where it is
-  entry-moved : (d : Descriptor) (p end : ℕ) → RegionAt c p end d → end ≤ act .beta .0 → Rules c ds d → ((i : ℕ) → i < 112 → phiAt t d i ≡ phiAt c d i)
-      → (d .layout ≡ 1 → (i : ℕ) → i < tableCount (d .volume) → act .alpha .0 ≡ d .alpha .0 + 1 + i → ⊥) → (l : ℕ) → l < d .volume → entryOf t d l ≡ entryOf c d l
-  entry-moved d p end r b rule phi apart =
-      same-below c t ds d (form-layout c p d (r .form)) (few-tables (d .volume) (form-most c p d (r .form))) rule phi
-      (λ one i h j l. block-entry t c (d .alpha .0 + 1 + i) (d .alpha .0 + 1 + i) j
-      (kept c name pass e (d .alpha .0 + 1 + i) (apart one i h) (omega (arith, own-inside d p end one (at-long c p end d r), at-alpha c p end d r, b))) l)
-      (placed-entry c name pass e d (omega (arith, b, r .beta)))
-
-  -- the snapshots that stood before
+  -- the snapshots that stood before, the snapshot made and the region opened
   cell-first : (k : ℕ) → k < length snaps → (l : ℕ) → l < getD snaps k noDescriptor .volume
       → blockFound t (foundThrough t (getD snaps k noDescriptor) l) ≡ blockFound c (foundThrough c (getD snaps k noDescriptor) l)
-  cell-first k h l b =
-      let d = getD snaps k noDescriptor in
-      let p = regionStart 0 ds k in
-      let end = regionStart 0 ds (suc k) in
+  cell-first k h =
+      let d = getD ds k noDescriptor in
       let in-chain : k < length ds = omega (arith, counted c name pass e) in
-      let is = ap (λ (zs : List Descriptor). getD zs k noDescriptor) (cut c name pass e) ∙ List·getD-append snaps (act ∷ []) noDescriptor k h in
-      let r : RegionAt c p end d = subst (λ (x : Descriptor). RegionAt c p end x) is (linked-at (linked c name pass e) k in-chain) in
-      let rule : Rules c ds d = subst (λ (x : Descriptor). Rules c ds x) is (pass .rules k in-chain) in
-      let below : end ≤ act .alpha .0 =
-      omega (arith, linked-rise (linked c name pass e) (suc k) (length snaps) h (omega (arith, counted c name pass e)), at-alpha c _ _ act (act-at c name pass e)) in
-      let starts : d .alpha .0 < end = omega (arith, at-alpha c p end d r, at-long c p end d r, cost-least (d .layout) (d .volume)) in
-      let upto : end ≤ act .beta .0 = omega (arith, below, low c name pass e) in
-      cell-as d d (form-layout c p d (r .form)) refl refl rule (rules-first c name pass e k h) (omega (arith, upto, r .beta)) l b
-      (entry-moved d p end r upto rule
-      (phi-shared c name pass e d (λ q. omega (arith, q, below, starts)) (omega (arith, starts, upto)))
-      (λ one i g q. omega (arith, q, below, own-inside d p end one (at-long c p end d r), at-alpha c p end d r)) l b)
-
-  act-layout : (eqb (act .layout) 1 || eqb (act .layout) 2) ≡ true
-  act-layout = form-layout c _ act (act-at c name pass e .form)
-
-  -- the snapshot made
-  entry-old : (l : ℕ) → l < act .volume → entryOf t old l ≡ entryOf c act l
-  unfolding entryOf tableOf phiAt
-  entry-old =
-      entry-moved act (regionStart 0 ds (length snaps)) (regionStart 0 ds (suc (length snaps))) (act-at c name pass e) (omega (arith, act-at c name pass e .beta)) (act-rules c name pass e)
-      (old-phi c name pass e) (λ one i h q. omega (arith, q))
+      let sound-c = chain-is (chain c) (pass .sound) in
+      subst (λ (x : Descriptor). (l : ℕ) → l < x .volume → blockFound t (foundThrough t x l) ≡ blockFound c (foundThrough c x l)) (first-is c name pass e k h)
+      (cell-at d d (form-layout c _ d (region-at c ds sound-c k in-chain .form)) refl refl (pass .rules k in-chain) (region-below c ds sound-c k in-chain .upto) (first-kept c name pass e k h))
 
   cell-old : (l : ℕ) → l < act .volume → blockFound t (foundThrough t old l) ≡ blockFound c (foundThrough c act l)
-  cell-old l h = cell-as act old act-layout refl refl (act-rules c name pass e) (rules-old c name pass e) (omega arith) l h (entry-old l h)
-
-  -- the region opened
-  entry-opened : (l : ℕ) → l < act .volume → entryOf t opened l ≡ entryOf c act l
-  entry-opened l h =
-      same-entry c t ds es act act-layout (few-tables (act .volume) (form-most c _ act (act-at c name pass e .form))) (act-rules c name pass e) (new-phi c name pass e)
-      (λ one i g j k. block-entry t c (act .beta .0 + 1 + i) (act .alpha .0 + 1 + i) j (copied c name pass e one i g) k)
-      (placed-entry c name pass e act (omega arith))
-      (λ q g. placed-longer act name (act .beta) opened q snaps act opened (omega arith) (omega arith) (subst (λ (zs : List Descriptor). inPlace zs act q ≡ true) (cut c name pass e) g))
-      l (under l (act .volume) h)
+  cell-old = cell-at act old (act-layout c name pass e) refl refl (act-rules c name pass e) (omega arith) (old-kept c name pass e)
 
   cell-opened : (l : ℕ) → l < act .volume → blockFound t (foundThrough t opened l) ≡ blockFound c (foundThrough c act l)
-  cell-opened l h = cell-as act opened act-layout refl refl (act-rules c name pass e) (rules-new c name pass e) (omega arith) l h (entry-opened l h)
+  cell-opened = cell-at act opened (act-layout c name pass e) refl refl (act-rules c name pass e) (omega arith) (new-kept c name pass e)
 
   -- the ledger
   volume-old : volumeOf t old ≡ record { name = name; cells = volumeOf c act .cells }

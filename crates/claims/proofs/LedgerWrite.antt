@@ -1,43 +1,38 @@
--- The ledger of the card after an accepted write is the ledger's own step, and that card passes.
+-- The ledger of the card after an accepted write is the ledger's own step.
 use mathlib.Core.Path.{_≡_, refl, sym, ap, _∙_, subst}
-use mathlib.Core.Bool.{Bool, true, false, not, _&&_}
+use mathlib.Core.Bool.{Bool}
 use mathlib.Core.List.{List, [], _∷_, _++_}
 use Prim.Native.Nat.{ℕ, zero, suc, _+_, _-_, _≤_, _<_}
 use native.Mathlib.Omega.{arith}
 use lib.ListN.{length, getD, set, length-append, List·getD-append}
-use lib.Dec.{eqb, leb}
-use borrow.Author.Tests.{ne-eqb, eqb-true, eqb-false}
+use borrow.Author.Tests.{ne-eqb}
 use Rattle.blocks.specs.Pick.{pick}
 use Rattle.blocks.specs.Bytes.{blockAt, zeroBlock, storeAll}
 use Rattle.blocks.specs.Descriptor.{noDescriptor, extendedOf}
-use Rattle.blocks.specs.declared.numbers.Physical.{Physical}
 use Rattle.blocks.specs.declared.descriptor.Descriptor.{Descriptor}
-use Rattle.blocks.specs.Chain.{activeOf}
-use Rattle.blocks.proofs.BoolLaws.{no}
+use Rattle.blocks.specs.Chain.{activeOf, chain}
 use Rattle.blocks.proofs.SoundLaws.{form-layout}
-use Rattle.blocks.proofs.LinkedLaws.{linked-at, active-at}
+use Rattle.blocks.proofs.LinkedLaws.{active-at}
 use Rattle.blocks.proofs.ChainLaws.{active-snoc, descriptors-are}
-use Rattle.entries.specs.Entry.{tableIsNew, need}
-use Rattle.entries.specs.declared.find.Found.{Found}
-use Rattle.entries.specs.declared.find.Found.the-variants.{Misplaced, Entry}
+use Rattle.entries.specs.Entry.{need}
 use Rattle.entries.specs.Rules.{entryOf}
 use Rattle.entries.proofs.EntryLaws.{placed-below}
-use Rattle.calls.specs.Parts.{descriptorsOf, snapshotsOf, foundThrough, isMisplaced, blockFound}
+use Rattle.calls.specs.Parts.{descriptorsOf, snapshotsOf, foundThrough, blockFound}
 use Rattle.claims.specs.Ledger.{Volume, cellsFrom, volumeOf, volumesOf, ledgerOf, ledgerChange}
 use Rattle.calls.specs.Check.{Passes}
 use Rattle.calls.specs.Effect.{writeStores}
-use Rattle.claims.proofs.WrittenChain.{written-chain}
-use Rattle.claims.proofs.LedgerFacts.{linked-of, some-of}
-use Rattle.claims.proofs.PassesWrite.{shared-entry, snapshot-region, write-below, passes-write-by}
-use Rattle.claims.proofs.WriteFacts.{WriteFacts}
-use Rattle.claims.proofs.WriteOwn.{own-none, own-one}
-use Rattle.claims.proofs.WriteNew.{new-two}
-use Rattle.claims.proofs.LedgerNext.{cells-same, volumes-same, ledger-parts}
-use Rattle.claims.proofs.CellEntry.{blockNamed, named-same, cell-entry}
 use Rattle.calls.proofs.Passed.{WritePassed}
 use Rattle.claims.specs.Kinds.{Writes}
 use Rattle.entries.proofs.TableLaws.{group-below}
-use Rattle.calls.proofs.CardLaws.{active-split, snapshots-snoc}
+use Rattle.calls.proofs.CardLaws.{active-split, snapshots-snoc, chain-is}
+use Rattle.entries.proofs.RulesLaws.{shared-entry}
+use Rattle.calls.proofs.CellLaws.{blockNamed, named-same, cell-entry}
+use Rattle.claims.proofs.LedgerLaws.{cells-same, volumes-same, ledger-parts}
+use Rattle.calls.proofs.ActiveLaws.{chain-some, region-at}
+use Rattle.changes.proofs.WrittenChain.{written-chain}
+use Rattle.changes.proofs.WrittenRules.{snapshot-region, write-below, passes-write-by}
+use Rattle.changes.proofs.WriteFacts.{WriteFacts}
+use Rattle.changes.proofs.WritePasses.{write-facts}
 
 -- what a read gives through a descriptor that stands at k
 cell-at : (c : List ℕ) → Passes c → (k : ℕ) → k < length (descriptorsOf c) → (d : Descriptor) → getD (descriptorsOf c) k noDescriptor ≡ d → (j : ℕ) → j < d .volume
@@ -49,7 +44,7 @@ cell-at c p k h d is j b =
 pub cell-active : (c : List ℕ) → Passes c → (d : Descriptor) → activeOf (descriptorsOf c) ≡ d → (j : ℕ) → j < d .volume → blockFound c (foundThrough c d j) ≡ blockNamed c (entryOf c d j)
 cell-active c p d is j b =
     let ds = descriptorsOf c in
-    cell-at c p (length ds - 1) (omega (arith, some-of c p)) d (sym (active-at ds (some-of c p)) ∙ is) j b
+    cell-at c p (length ds - 1) (omega (arith, chain-some c ds (chain-is (chain c) (p .sound)))) d (sym (active-at ds (chain-some c ds (chain-is (chain c) (p .sound)))) ∙ is) j b
 
 -- the cells of two cards, of which cell i alone differs
 cells-set : (s t : List ℕ) (d e : Descriptor) (block : List ℕ) (n k i : ℕ) → i < n
@@ -84,7 +79,7 @@ module _ (c : List ℕ) (passes : Passes c) (l : ℕ) (block : List ℕ) (ok : W
   t = storeAll c (writeStores c l block)
 
   split : ds ≡ xs ++ (d ∷ [])
-  split = active-split ds (some-of c passes)
+  split = active-split ds (chain-some c ds (chain-is (chain c) (passes .sound)))
 
   after : descriptorsOf t ≡ xs ++ (x ∷ [])
   after = descriptors-are t (xs ++ (x ∷ [])) (written-chain c l block ok)
@@ -117,7 +112,7 @@ module _ (c : List ℕ) (passes : Passes c) (l : ℕ) (block : List ℕ) (ok : W
         let below = write-below c passes l block ok (omega (arith, r .some, r .upto)) in
         let in-c : k < length ds = omega (arith, count) in
         let entry : entryOf c e j ≡ entryOf t e j =
-        shared-entry c t (d .alpha .0) below e r ds (xs ++ (x ∷ [])) (form-layout c _ e (linked-at (linked-of c passes) k in-c .form)) (passes .rules k in-c) j (omega (arith, group-below j (e .volume) b)) in
+        shared-entry c t (d .alpha .0) below e r ds (xs ++ (x ∷ [])) (form-layout c _ e (region-at c ds (chain-is (chain c) (passes .sound)) k in-c .form)) (passes .rules k in-c) j (omega (arith, group-below j (e .volume) b)) in
         cell-at t passes-after k (omega (arith, count-after)) e (at-after k h) j b
         ∙ ap (blockNamed t) (sym entry)
         ∙ named-same c t (entryOf c e j)
@@ -158,51 +153,6 @@ module _ (c : List ℕ) (passes : Passes c) (l : ℕ) (block : List ℕ) (ok : W
         ledger-parts t xs x (ap snapshotsOf after ∙ snapshots-snoc xs x) active-after
         ∙ ap (λ (vs : List Volume). record { snapshots = vs; active = record { name = d .name; cells = cellsFrom t x (x .volume) 0 } }) (volumes-same c t xs snapshot-cell)
         ∙ ap (λ (bs : List (List ℕ)). record { snapshots = volumesOf c xs; active = record { name = d .name; cells = bs } }) cells-after
-
--- a write takes no block, one or two
-need-by : (s new : Bool) (n : ℕ) → n ≡ pick s 0 (pick new 2 1) → (n ≡ 0 → ⊥) → (n ≡ 1 → ⊥) → n ≡ 2
-need-by true new n e z o = absurd (z e)
-need-by false true n e z o = e
-need-by false false n e z o = absurd (o e)
-
-need-two : (alpha : ℕ) (m p : Physical) → (need alpha (Entry m p) ≡ 0 → ⊥) → (need alpha (Entry m p) ≡ 1 → ⊥) → need alpha (Entry m p) ≡ 2
-unfolding need
-need-two alpha m p z o = need-by (not (eqb (p .0) 0) && leb alpha (p .0)) (tableIsNew alpha (m .0)) (need alpha (Entry m p)) refl z o
-
-taken : (c : List ℕ) (l : ℕ) (block : List ℕ) {n k : ℕ} → n ≡ k
-    → let d = activeOf (descriptorsOf c) in
-    let t = storeAll c (writeStores c l block) in
-    let xs = snapshotsOf (descriptorsOf c) in
-    WriteFacts c t (xs ++ (extendedOf d k ∷ [])) d (extendedOf d k) l block → WriteFacts c t (xs ++ (extendedOf d n ∷ [])) d (extendedOf d n) l block
-taken c l block e facts =
-    let d = activeOf (descriptorsOf c) in
-    subst (λ (n : ℕ). WriteFacts c (storeAll c (writeStores c l block)) (snapshotsOf (descriptorsOf c) ++ (extendedOf d n ∷ [])) d (extendedOf d n) l block) (sym e) facts
-
--- what the write leaves, by the blocks that it takes
-facts-by : (c : List ℕ) → Passes c → (l : ℕ) (block : List ℕ) → WritePassed c l block
-    → let d = activeOf (descriptorsOf c) in
-    (f : Found) → foundThrough c d l ≡ f → isMisplaced f ≡ false → (z o : Bool) → eqb (need (d .alpha .0) f) 0 ≡ z → eqb (need (d .alpha .0) f) 1 ≡ o
-    → WriteFacts c (storeAll c (writeStores c l block)) (snapshotsOf (descriptorsOf c) ++ (extendedOf d (need (d .alpha .0) f) ∷ [])) d (extendedOf d (need (d .alpha .0) f)) l block
-unfolding isMisplaced
-facts-by c p l block ok (Misplaced h) e m z o u v = no (sym m)
-facts-by c p l block ok (Entry a b) e m true o u v = taken c l block (eqb-true _ 0 u) (own-none c p l block ok a b e (eqb-true _ 0 u))
-facts-by c p l block ok (Entry a b) e m false true u v = taken c l block (eqb-true _ 1 v) (own-one c p l block ok a b e (eqb-true _ 1 v))
-facts-by c p l block ok (Entry a b) e m false false u v =
-    let two = need-two (activeOf (descriptorsOf c) .alpha .0) a b (eqb-false _ 0 u) (eqb-false _ 1 v) in
-    taken c l block two (new-two c p l block ok a b e two)
-
-pub write-facts : (c : List ℕ) → Passes c → (l : ℕ) (block : List ℕ) → WritePassed c l block
-    → let d = activeOf (descriptorsOf c) in
-    let x = extendedOf d (need (d .alpha .0) (foundThrough c d l)) in
-    WriteFacts c (storeAll c (writeStores c l block)) (snapshotsOf (descriptorsOf c) ++ (x ∷ [])) d x l block
-write-facts c p l block ok =
-    let d = activeOf (descriptorsOf c) in
-    let f = foundThrough c d l in
-    facts-by c p l block ok f refl (ok .in-place) (eqb (need (d .alpha .0) f) 0) (eqb (need (d .alpha .0) f) 1) refl refl
-
--- the card after an accepted write passes
-pub passes-write : (c : List ℕ) (l : ℕ) (block : List ℕ) → Passes c → WritePassed c l block → Passes (storeAll c (writeStores c l block))
-passes-write c l block p ok = passes-write-by c p l block ok (write-facts c p l block ok .rules)
 
 -- and its ledger is the ledger's step
 pub ledger-write : (c : List ℕ) (l : ℕ) (block : List ℕ) → Passes c → WritePassed c l block → ledgerOf (storeAll c (writeStores c l block)) ≡ ledgerChange (Writes l block) (ledgerOf c)

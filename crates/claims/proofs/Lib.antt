@@ -5,7 +5,6 @@ pub mod Example
 pub mod Areas
 pub mod Rows
 pub mod Agreement
-pub mod Inside
 pub mod Changes
 pub mod Lists
 pub mod LedgerFacts
@@ -14,10 +13,7 @@ pub mod Refusals
 pub mod Steps
 pub mod Frame
 pub mod AgreeAnswer
-pub mod ChainAfter
-pub mod SnappedChain
 pub mod SameStores
-pub mod WrittenChain
 pub mod AgreeStep
 pub mod Format
 pub mod Kept
@@ -33,15 +29,9 @@ pub mod Rollback
 pub mod Demand
 pub mod NotEmpty
 pub mod LedgerAnswers
-pub mod PassesAfter
-pub mod PassesSnapped
-pub mod PassesWrite
-pub mod WriteFacts
-pub mod LedgerNext
-pub mod WriteOwn
-pub mod WriteNew
-pub mod CellEntry
 pub mod LedgerSnap
 pub mod LedgerWrite
 pub mod LedgerRun
 pub mod Places
+pub mod LedgerLaws
+pub mod LedgerRevert

@@ -17,7 +17,6 @@ use Rattle.blocks.specs.declared.descriptor.Descriptor.{Descriptor}
 use Rattle.blocks.proofs.Tests.{and-left, and-right}
 use Rattle.blocks.proofs.BoolLaws.{no}
 use Rattle.blocks.proofs.SoundLaws.{form-layout}
-use Rattle.blocks.proofs.LinkedLaws.{chain-linked, linked-some, linked-at}
 use Rattle.entries.specs.InPlace.{inPlace}
 use Rattle.entries.specs.Entry.{entryAt, phiAt, tableOf, entryFound, find}
 use Rattle.entries.specs.declared.find.Found.the-variants.{Misplaced, Entry}
@@ -31,10 +30,10 @@ use Rattle.calls.specs.Meaning.{rowsOf, answerOf}
 use Rattle.claims.specs.Claims.{FirstUnsound, here, past, on, Chained, last, link, comesToChain, NotInPlace, phi, named-table, own-table, PlaceClaim}
 use Rattle.calls.proofs.RowLaws.{fresh, fresh-never}
 use Rattle.calls.proofs.CardLaws.{chain-is}
-use Rattle.claims.proofs.Agreement.{target-member}
 use Rattle.entries.proofs.TableLaws.{layout-two}
 use Rattle.calls.specs.declared.answer.Record.{Record}
 use Rattle.blocks.specs.declared.descriptor.Format.{Format}
+use Rattle.calls.proofs.ActiveLaws.{target-member, chain-some, region-at}
 
 -- no row of a list holds
 unfoldable clear : List Row → Bool
@@ -282,9 +281,9 @@ module _ (c : List ℕ) (d : Descriptor) (l : ℕ) where
 target-layout : (c : List ℕ) → chainSound (chain c) ≡ true → (target : Target) (name : List ℕ) → (isSnapshot target && not (named (snapshotsOf (descriptorsOf c)) name)) ≡ false
     → (eqb (targetOf (descriptorsOf c) target name .layout) 1 || eqb (targetOf (descriptorsOf c) target name .layout) 2) ≡ true
 target-layout c ok target name h =
-    let linked = chain-linked c (descriptorsOf c) (chain-is (chain c) ok) in
-    let m = target-member (descriptorsOf c) (linked-some linked) target name h in
-    subst (λ (d : Descriptor). (eqb (d .layout) 1 || eqb (d .layout) 2) ≡ true) (sym (m .2)) (form-layout c _ _ (linked-at linked (m .0) (m .1) .form))
+    let sound-c = chain-is (chain c) ok in
+    let m = target-member (descriptorsOf c) (chain-some c (descriptorsOf c) sound-c) target name h in
+    subst (λ (d : Descriptor). (eqb (d .layout) 1 || eqb (d .layout) 2) ≡ true) (sym (m .2)) (form-layout c _ _ (region-at c (descriptorsOf c) sound-c (m .0) (m .1) .form))
 
 -- the rows before 10
 clear-read : (a s n b u t v : Bool)

@@ -25,21 +25,22 @@ use Rattle.claims.specs.History.{betaOf, Agree, AreBytes, Standing, with
 use Rattle.claims.specs.Claims.{Unsnapped, LastSnap, Matched, RevertedAt}
 use Rattle.blocks.proofs.SharedLaws.{shared-bytes}
 use Rattle.calls.proofs.CardLaws.{chain-is}
-use Rattle.calls.proofs.StepLaws.{accepted-card}
-use Rattle.blocks.proofs.ChangedLaws.{member-fresh, member-inside}
+use Rattle.calls.proofs.StepLaws.{accepted-card, after-append}
 use Rattle.blocks.proofs.StoreLists.{Whole, stored-length, stored-both, blocks-taken}
-use Rattle.claims.proofs.Inside.{revert-whole}
-use Rattle.claims.proofs.ChainAfter.{before, behind, link-low, revert-split, reverted-chain}
-use Rattle.claims.proofs.SnappedChain.{snapped-chain}
 use Rattle.claims.proofs.Kept.{Stands, stands-snapshots, stands-active}
 use Rattle.claims.proofs.AgreeStep.{agree-step}
 use Rattle.claims.proofs.Latest.{gone-run, stands-run, snap-kind}
-use Rattle.claims.proofs.Runs.{standing-length, standing-take, standing-drop, after-append, after-length, matched-from, without-drop, without-take}
-use Rattle.claims.proofs.Undone.{area-kept, undone, undone-passed}
+use Rattle.claims.proofs.Runs.{standing-length, standing-take, standing-drop, after-length, matched-from, without-drop, without-take}
+use Rattle.claims.proofs.Undone.{undone, undone-passed}
 use Rattle.calls.proofs.Passed.{SnapPassed, RevertPassed, revert-passed, revert-accepted}
 use Rattle.claims.specs.Kinds.{Kind, Snaps, kindOf}
 use Rattle.claims.proofs.Changes.{storesBy, Allowed, to-snap}
 use Rattle.claims.proofs.Owed.{owed}
+use Rattle.blocks.proofs.MemberLaws.{member-fresh, member-inside, member-rise}
+use Rattle.calls.proofs.ActiveLaws.{area-kept}
+use Rattle.changes.proofs.WholeLaws.{revert-whole}
+use Rattle.changes.proofs.RevertedChain.{before, behind, revert-split, reverted-chain}
+use Rattle.changes.proofs.SnappedChain.{snapped-chain}
 
 -- v stands on t: a revert to it leaves the descriptors before it, then v with the active name and a nil next
 module _ (s : List ℕ) (xs : List Descriptor) (v : Descriptor) (n t : List ℕ) (h : Stands s xs v n t) (e : RevertPassed t (v .name)) where
@@ -87,7 +88,7 @@ module _ (s : List ℕ) (xs : List Descriptor) (v : Descriptor) (n t : List ℕ)
 
   pub back-low : v .alpha .0 < v .beta .0
   back-low =
-      link-low t (e .area) (e .sound) xs v (h .rest) (descriptors-are t (xs ++ (v ∷ h .rest)) (h .is))
+      member-rise t (xs ++ (v ∷ h .rest)) xs v (h .rest) (h .is) refl
 
 -- two cards on which v stands agree after a revert to it
 beta-of : (c : List ℕ) (ds : List Descriptor) → chain c ≡ Sound ds → betaOf c ≡ activeOf ds .beta .0

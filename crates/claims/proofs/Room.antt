@@ -13,10 +13,10 @@ use Rattle.calls.specs.Meaning.{answerOf, storesOf}
 use Rattle.calls.specs.Step.{step, isAccepted}
 use Rattle.calls.proofs.StepLaws.{accepted-card}
 use Rattle.claims.specs.Claims.{blocksNeeded, RoomClaim}
-use Rattle.claims.proofs.ChainAfter.{reverted-chain}
-use Rattle.claims.proofs.SnappedChain.{snapped-chain}
-use Rattle.claims.proofs.WrittenChain.{written-chain}
 use Rattle.calls.proofs.Passed.{write-passed, snap-passed, revert-passed}
+use Rattle.changes.proofs.RevertedChain.{reverted-chain}
+use Rattle.changes.proofs.SnappedChain.{snapped-chain}
+use Rattle.changes.proofs.WrittenChain.{written-chain}
 
 -- the chain after an accepted call
 after-is : (k : Call) (c : List ℕ) → isAccepted (answerOf k c) ≡ true → (ds : List Descriptor) → chain (storeAll c (storesOf k c)) ≡ Sound ds → descriptorsOf (step k c .card) ≡ ds

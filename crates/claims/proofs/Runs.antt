@@ -1,11 +1,11 @@
 -- Runs of lists of calls: a run of an append, runs from two cards that agree, and two lists that end alike.
 use mathlib.Core.Path.{_≡_, refl, sym, ap, _∙_}
 use mathlib.Core.Bool.{false}
-use mathlib.Core.List.{List, [], _∷_, _++_}
-use Prim.Native.Nat.{ℕ, zero, suc, _+_, _≤_, _<_}
+use mathlib.Core.List.{List, [], _∷_}
+use Prim.Native.Nat.{ℕ, zero, suc, _≤_, _<_}
 use native.Mathlib.Omega.{arith}
-use lib.ListN.{length, take, drop, take-append-drop}
-use lib.Seq.{length-take-le, take-add, take-at, drop-at}
+use lib.ListN.{length, take, drop}
+use lib.Seq.{length-take-le, take-at, drop-at}
 use Rattle.calls.specs.Call.{Call, Outcome}
 use Rattle.calls.specs.Step.{step, after, outcomes}
 use Rattle.claims.specs.History.{Agree, isFormat, Standing, none, more, without}
@@ -13,6 +13,7 @@ use Rattle.claims.specs.Claims.{FrameClaim, Matched}
 use Rattle.claims.proofs.AgreeAnswer.{agree-outcome}
 use Rattle.claims.proofs.Owed.{owed}
 use Rattle.claims.proofs.Frame.{frame-claim}
+use Rattle.calls.proofs.StepLaws.{after-split, outcomes-drop}
 
 -- whether a call is an accepted format depends on the card's length alone
 pub format-length : (k : Call) (s t : List ℕ) → length s ≡ length t → isFormat k s ≡ isFormat k t
@@ -33,22 +34,6 @@ standing-take c ks zero h = none
 standing-take c [] (suc n) none = none
 standing-take c (k ∷ ks) (suc n) (more f w r) = more f w (standing-take c ks n r)
 
--- a run of an append
-pub after-append : (xs ys : List Call) (c : List ℕ) → after (xs ++ ys) c ≡ after ys (after xs c)
-unfolding after
-after-append [] ys c = refl
-after-append (k ∷ xs) ys c = after-append xs ys (step k c .card)
-
-pub outcomes-append : (xs ys : List Call) (c : List ℕ) → outcomes (xs ++ ys) c ≡ outcomes xs c ++ outcomes ys (after xs c)
-unfolding after outcomes
-outcomes-append [] ys c = refl
-outcomes-append (k ∷ xs) ys c = ap (λ (os : List Outcome). step k c .outcome ∷ os) (outcomes-append xs ys (step k c .card))
-
-pub outcomes-length : (ks : List Call) (c : List ℕ) → length (outcomes ks c) ≡ length ks
-unfolding outcomes
-outcomes-length [] c = refl
-outcomes-length (k ∷ ks) c = ap suc (outcomes-length ks (step k c .card))
-
 -- no run alters the card's length
 pub step-length : (k : Call) (c : List ℕ) → length (step k c .card) ≡ length c
 unfolding FrameClaim
@@ -58,16 +43,6 @@ pub after-length : (ks : List Call) (c : List ℕ) → length (after ks c) ≡ l
 unfolding after
 after-length [] c = refl
 after-length (k ∷ ks) c = after-length ks (step k c .card) ∙ step-length k c
-
--- a run up to n calls and on from there
-pub after-split : (ks : List Call) (n m : ℕ) (c : List ℕ) → after (take (n + m) ks) c ≡ after (take m (drop n ks)) (after (take n ks) c)
-after-split ks n m c = ap (λ (xs : List Call). after xs c) (take-add n m ks) ∙ after-append (take n ks) (take m (drop n ks)) c
-
-pub outcomes-drop : (ks : List Call) (n : ℕ) (c : List ℕ) → n ≤ length ks → drop n (outcomes ks c) ≡ outcomes (drop n ks) (after (take n ks) c)
-outcomes-drop ks n c h =
-    ap (λ (xs : List Call). drop n (outcomes xs c)) (sym (take-append-drop n ks))
-    ∙ ap (λ (os : List Outcome). drop n os) (outcomes-append (take n ks) (drop n ks) c)
-    ∙ drop-at (outcomes (take n ks) c) (outcomes (drop n ks) (after (take n ks) c)) n (outcomes-length (take n ks) c ∙ length-take-le n ks h)
 
 -- what stays of a list without its calls from i up to and including k
 pub without-drop : (ks : List Call) (i k : ℕ) → i ≤ k → k < length ks → drop i (without ks i k) ≡ drop (suc k) ks

@@ -1,34 +1,36 @@
 -- On two cards that agree, a write, a snap and a revert make the same stores, and store every block that they take.
-use mathlib.Core.Path.{_≡_, refl, sym}
+use mathlib.Core.Path.{_≡_, refl}
 use mathlib.Core.Logic.{_⊎_, inl, inr}
-use mathlib.Core.Bool.{Bool, true, false, not, _&&_, _||_}
+use mathlib.Core.Bool.{Bool, true, false, _||_}
 use mathlib.Core.List.{List, [], _∷_, _++_}
 use Prim.Native.Nat.{ℕ, zero, suc, _+_, _-_, _≤_, _<_}
 use native.Mathlib.Omega.{arith}
-use lib.Dec.{eqb, ltb, leb}
-use borrow.Author.Tests.{eq-eqb, eqb-false, ltb-true, ltb-false}
-use Rattle.blocks.specs.Pick.{pick}
-use Rattle.blocks.specs.Bytes.{blockAt, Store, store}
+use lib.Dec.{eqb, ltb}
+use borrow.Author.Tests.{eqb-false, ltb-true, ltb-false}
+use Rattle.blocks.specs.Bytes.{blockAt, store}
 use Rattle.blocks.specs.Descriptor.{costOf, tailAt, descriptorBlock, renamedOf, linkedOf, reopenedOf, copying}
-use Rattle.blocks.specs.Chain.{activeOf}
+use Rattle.blocks.specs.Chain.{activeOf, chain}
 use Rattle.blocks.specs.declared.numbers.Physical.{Physical}
 use Rattle.blocks.specs.declared.descriptor.Descriptor.{Descriptor}
 use Rattle.blocks.proofs.BoolLaws.{or-true}
 use Rattle.blocks.proofs.ChainLaws.{cost-least}
-use Rattle.entries.specs.Entry.{find, tableIsNew, need, setInTable, setInNewTable, writing}
-use Rattle.entries.specs.declared.find.Found.{Found}
-use Rattle.entries.specs.declared.find.Found.the-variants.{Misplaced, Entry}
+use Rattle.entries.specs.Entry.{find, need}
+use Rattle.entries.specs.declared.find.Found.the-variants.{Entry}
 use Rattle.entries.proofs.EntryLaws.{found-table}
 use Rattle.calls.specs.declared.answer.Target.the-variants.{Active}
 use Rattle.calls.specs.Parts.{descriptorsOf, snapshotsOf, withName, foundThrough}
 use Rattle.calls.specs.Effect.{snapping, reverting, writeStores, snapStores, revertStores}
 use Rattle.claims.specs.History.{betaOf, Agree}
 use Rattle.blocks.proofs.SharedLaws.{shared-bytes}
-use Rattle.claims.proofs.Agreement.{agree-below, agree-chain, found-same, active-target}
+use Rattle.claims.proofs.Agreement.{agree-below, agree-chain, found-same}
 use Rattle.blocks.proofs.StoreLists.{isStored, stored-join}
-use Rattle.claims.proofs.Inside.{active-through}
-use Rattle.claims.proofs.ChainAfter.{before, behind, active-last, link-low, link-long, revert-split, end-below}
 use Rattle.calls.proofs.Passed.{WritePassed, SnapPassed, RevertPassed}
+use Rattle.calls.proofs.ActiveLaws.{active-last, active-target, active-rise}
+use Rattle.blocks.proofs.MemberLaws.{member-long, member-rise, member-upto}
+use Rattle.calls.proofs.CardLaws.{chain-is}
+use Rattle.entries.proofs.PutLaws.{writing-covers, writing-same}
+use Rattle.changes.proofs.WholeLaws.{active-through}
+use Rattle.changes.proofs.RevertedChain.{before, behind, revert-split}
 
 -- copies that take the n blocks from p on
 pub copies-cover : (c : List ℕ) (from p n q : ℕ) → p ≤ q → q < p + n → isStored (copying c from p n) q ≡ true
@@ -75,7 +77,7 @@ module _ (s t : List ℕ) (agree : Agree s t) where
 
     pub v-below : (v .alpha .0 < v .beta .0) × (v .beta .0 ≤ d .beta .0)
     v-below =
-        (link-low s (e .area) (e .sound) (before ss name) v (behind ss name ++ (d ∷ [])) (revert-split s name e), end-below s (e .area) (e .sound) (before ss name) v (behind ss name ++ (d ∷ [])) (revert-split s name e))
+        (member-rise s (descriptorsOf s) (before ss name) v (behind ss name ++ (d ∷ [])) (chain-is (chain s) (e .sound)) (revert-split s name e), member-upto s (descriptorsOf s) (before ss name) v (behind ss name ++ (d ∷ [])) (chain-is (chain s) (e .sound)) (revert-split s name e))
 
     pub same-revert : revertStores s name ≡ revertStores t name
     unfolding revertStores reverting
@@ -84,7 +86,7 @@ module _ (s t : List ℕ) (agree : Agree s t) where
   -- a snap
   module _ (name : List ℕ) (e : SnapPassed s name) where
     d-long : d .alpha .0 + costOf d ≤ d .beta .0
-    d-long = link-long s (e .area) (e .sound) (snapshotsOf ds) d [] (active-last s (e .area) (e .sound))
+    d-long = member-long s (descriptorsOf s) (snapshotsOf ds) d [] (chain-is (chain s) (e .sound)) (active-last s (descriptorsOf s) (chain-is (chain s) (e .sound)))
 
     d-least : 1 ≤ costOf d
     d-least = cost-least (d .layout) (d .volume)
@@ -120,50 +122,12 @@ module _ (s t : List ℕ) (agree : Agree s t) where
     table-below m p q = found-table s _ _ d (active-through s (e .area) (e .sound)) l (e .below) (find s ds d l) refl m p q
 
     d-low : d .alpha .0 < d .beta .0
-    d-low = link-low s (e .area) (e .sound) (snapshotsOf ds) d [] (active-last s (e .area) (e .sound))
-
-    same-set : (m : ℕ) → m < d .beta .0 → setInTable s d m l ≡ setInTable t d m l
-    unfolding setInTable
-    same-set m h = rw (below-tail (d .alpha .0) d-low, below-block m h)
-
-    same-new : (m : ℕ) → m < d .beta .0 → setInNewTable s d m l ≡ setInNewTable t d m l
-    unfolding setInNewTable
-    same-new m h = rw (below-tail (d .alpha .0) d-low, below-block m h)
-
-    same-writing : (f : Found) → f ≡ find s ds d l → writing s d f l block ≡ writing t d f l block
-    unfolding writing
-    same-writing (Misplaced h) q = refl
-    same-writing (Entry m p) q = let b = table-below m p (sym q) in rw (same-set (m .0) b, same-new (m .0) b)
+    d-low = active-rise s (descriptorsOf s) (chain-is (chain s) (e .sound))
 
     pub same-write : writeStores s l block ≡ writeStores t l block
     unfolding writeStores
-    same-write = rw (← (agree-chain s t agree), ← found-is) (same-writing (find s ds d l) refl)
-
-    -- the blocks that it takes
-    one-more : (x : List ℕ) (rest : List Store) (p : ℕ) → p < d .beta .0 + 1 → (z : Bool) → ltb p (d .beta .0) ≡ z → (p < d .beta .0) ⊎ (isStored (store (d .beta .0) x ∷ rest) p ≡ true)
-    unfolding isStored
-    one-more x rest p h true q = inl (ltb-true p (d .beta .0) q)
-    one-more x rest p h false q = inr (rw (eq-eqb (d .beta .0) p (omega (arith, ltb-false p (d .beta .0) q))))
-
-    two-more : (x y : List ℕ) (rest : List Store) (p : ℕ) → p < d .beta .0 + 2 → (z o : Bool) → ltb p (d .beta .0) ≡ z → eqb (d .beta .0 + 1) p ≡ o
-        → (p < d .beta .0) ⊎ (isStored (store (d .beta .0 + 1) x ∷ store (d .beta .0) y ∷ rest) p ≡ true)
-    unfolding isStored
-    two-more x y rest p h true o q r = inl (ltb-true p (d .beta .0) q)
-    two-more x y rest p h false true q r = inr (rw r)
-    two-more x y rest p h false false q r = inr (rw (r, eq-eqb (d .beta .0) p (omega (arith, ltb-false p (d .beta .0) q, eqb-false (d .beta .0 + 1) p r))))
-
-    taken-by : (m o p : ℕ) (a n : Bool) → p < d .beta .0 + pick a 0 (pick n 2 1)
-        → (p < d .beta .0) ⊎ (isStored (pick (eqb (pick a 0 (pick n 2 1)) 0) (store o block ∷ []) (pick n (store (d .beta .0 + 1) block ∷ setInNewTable s d m l) (store (d .beta .0) block ∷ setInTable s d m l))) p ≡ true)
-    unfolding setInNewTable
-    taken-by m o p true n h = inl (omega arith)
-    taken-by m o p false true h = two-more block _ _ p h (ltb p (d .beta .0)) (eqb (d .beta .0 + 1) p) refl refl
-    taken-by m o p false false h = one-more block _ p h (ltb p (d .beta .0)) refl
-
-    covered-by : (f : Found) (p : ℕ) → p < d .beta .0 + need (d .alpha .0) f → (p < d .beta .0) ⊎ (isStored (writing s d f l block) p ≡ true)
-    unfolding writing need
-    covered-by (Misplaced h) p b = inl (omega arith)
-    covered-by (Entry m o) p b = taken-by (m .0) (o .0) p (not (eqb (o .0) 0) && leb (d .alpha .0) (o .0)) (tableIsNew (d .alpha .0) (m .0)) b
+    same-write = rw (← (agree-chain s t agree), ← found-is) (writing-same s t d l block (below-tail (d .alpha .0) d-low) (find s ds d l) (λ m p q. below-block (m .0) (table-below m p q)))
 
     pub write-covered : (p : ℕ) → p < d .beta .0 + need (d .alpha .0) (foundThrough s d l) → (p < d .beta .0) ⊎ (isStored (writeStores s l block) p ≡ true)
     unfolding writeStores
-    write-covered p b = covered-by (foundThrough s d l) p b
+    write-covered p b = writing-covers s d l block (foundThrough s d l) p b

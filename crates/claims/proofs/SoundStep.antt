@@ -14,14 +14,17 @@ use Rattle.calls.specs.Parts.{descriptorsOf, snapshotsOf, withName}
 use Rattle.calls.specs.Effect.{writeStores, snapStores, revertStores}
 use Rattle.claims.specs.History.{Agree, formats}
 use Rattle.claims.specs.Claims.{SoundClaim}
-use Rattle.claims.proofs.ChainAfter.{before, behind, active-last, link-region, revert-split, reverted-chain}
 use Rattle.claims.proofs.AgreeStep.{agree-step}
 use Rattle.calls.proofs.Passed.{SnapPassed, RevertPassed}
 use Rattle.claims.specs.Kinds.{Kind}
 use Rattle.claims.proofs.Changes.{storesBy, Allowed, to-format, to-leave, to-write, to-snap, to-revert}
-use Rattle.claims.proofs.SnappedChain.{snapped-chain}
-use Rattle.claims.proofs.WrittenChain.{written-chain}
 use Rattle.claims.proofs.Steps.{step-cases}
+use Rattle.calls.proofs.ActiveLaws.{active-last}
+use Rattle.blocks.proofs.MemberLaws.{member-region}
+use Rattle.calls.proofs.CardLaws.{chain-is}
+use Rattle.changes.proofs.RevertedChain.{before, behind, revert-split, reverted-chain}
+use Rattle.changes.proofs.SnappedChain.{snapped-chain}
+use Rattle.changes.proofs.WrittenChain.{written-chain}
 
 -- a card with a sound chain agrees with itself
 pub agree-self : (c : List ℕ) → chainSound (chain c) ≡ true → Agree c c
@@ -53,8 +56,8 @@ module _ (c : List ℕ) where
   kept-revert name e =
       let ss = snapshotsOf (descriptorsOf c) in
       let v = withName ss name in
-      let one = link-region c (e .area) (e .sound) (before ss name) v (behind ss name ++ (d ∷ [])) (revert-split c name e) in
-      let other = link-region c (e .area) (e .sound) ss d [] (active-last c (e .area) (e .sound)) in
+      let one = member-region c (descriptorsOf c) (before ss name) v (behind ss name ++ (d ∷ [])) (chain-is (chain c) (e .sound)) (revert-split c name e) in
+      let other = member-region c (descriptorsOf c) ss d [] (chain-is (chain c) (e .sound)) (active-last c (descriptorsOf c) (chain-is (chain c) (e .sound))) in
       kept-chain (storeAll c (revertStores c name)) (before ss name) _ (reverted-chain c name e) (
         region-layout (descriptorAt c 0) (blockCount c) _ v one ∙ sym (region-layout (descriptorAt c 0) (blockCount c) _ d other),
         region-volume (descriptorAt c 0) (blockCount c) _ v one ∙ sym (region-volume (descriptorAt c 0) (blockCount c) _ d other),

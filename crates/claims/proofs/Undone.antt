@@ -7,7 +7,7 @@ use native.Mathlib.Omega.{arith}
 use lib.ListN.{length, take}
 use lib.Seq.{take-append-seam, getD-append-seam, take-all, drop-at}
 use lib.Dec.{eqb}
-use borrow.Author.Tests.{eqb-true, eqb-false, ne-eqb}
+use borrow.Author.Tests.{eqb-true, eqb-false}
 use Rattle.blocks.specs.Pick.{same}
 use Rattle.blocks.specs.Bytes.{part, blockCount, blockAt, Store, store, storeAll}
 use Rattle.blocks.specs.Descriptor.{physical, noDescriptor, costOf, headBytes, tailAt, descriptorBlock, renamedOf, linkedOf, reopenedOf, copying}
@@ -24,13 +24,15 @@ use Rattle.blocks.proofs.SoundLaws.{form-mark}
 use Rattle.calls.specs.Parts.{areaBad, descriptorsOf, snapshotsOf, withName}
 use Rattle.calls.specs.Effect.{reverting, snapping, snapStores, revertStores}
 use Rattle.claims.specs.History.{betaOf, Agree, AreBytes}
-use Rattle.blocks.proofs.ChangedLaws.{named-append, named-left, member-is}
-use Rattle.blocks.proofs.StoreLists.{Whole, none, isStored, stored-join, stored-length, stored-other, stored-last, blocks-taken, none-stored, one-stored, copies-stored}
-use Rattle.claims.proofs.Inside.{snap-whole, revert-whole}
-use Rattle.claims.proofs.ChainAfter.{before, sound-is, active-last, link-form, link-inside, reverted-chain}
-use Rattle.claims.proofs.SnappedChain.{snapped-chain, next-nil, old-fits, tail-whole, old-block}
+use Rattle.blocks.proofs.ChangedLaws.{named-append, named-left}
+use Rattle.blocks.proofs.StoreLists.{Whole, none, isStored, stored-join, stored-length, stored-other, stored-last, blocks-taken, none-stored, one-stored, copies-stored, pair-stored}
 use Rattle.calls.proofs.Passed.{SnapPassed, RevertPassed}
-use Rattle.calls.proofs.CardLaws.{snapshots-snoc}
+use Rattle.calls.proofs.CardLaws.{snapshots-snoc, chain-is}
+use Rattle.blocks.proofs.MemberLaws.{member-is}
+use Rattle.calls.proofs.ActiveLaws.{active-last, area-kept, active-form, active-inside}
+use Rattle.changes.proofs.WholeLaws.{snap-whole, revert-whole}
+use Rattle.changes.proofs.RevertedChain.{before, reverted-chain}
+use Rattle.changes.proofs.SnappedChain.{snapped-chain, next-nil, old-fits, tail-whole, old-block}
 
 -- the last of a list under a name that the others do not have
 module _ (o : Descriptor) (n : List ℕ) (here : same (o .name) n ≡ true) where
@@ -42,10 +44,6 @@ module _ (o : Descriptor) (n : List ℕ) (here : same (o .name) n ≡ true) wher
 
   with-snoc : (xs : List Descriptor) → named xs n ≡ false → withName (xs ++ (o ∷ [])) n ≡ o
   with-snoc xs h = rw (index-at xs o [] n h here) (getD-append-seam xs o [] noDescriptor)
-
-pub area-kept : (s t : List ℕ) → length s ≡ length t → areaBad s ≡ areaBad t
-unfolding areaBad blockCount
-area-kept s t e = rw e
 
 beta-by : (c : List ℕ) (ds : List Descriptor) → descriptorsOf c ≡ ds → betaOf c ≡ activeOf ds .beta .0
 unfolding betaOf
@@ -86,7 +84,7 @@ module _ (c name : List ℕ) (e : SnapPassed c name) where
   room = e .room
 
   split : descriptorsOf c ≡ xs ++ (d ∷ [])
-  split = active-last c area ok
+  split = active-last c (descriptorsOf c) (chain-is (chain c) ok)
 
   name-new : named xs name ≡ false
   name-new = named-left xs (d ∷ []) name (rw split at unused)
@@ -149,7 +147,7 @@ module _ (c name : List ℕ) (e : SnapPassed c name) where
   u-long = stored-length (length t) t refl u-whole ∙ t-long
 
   inside : 512 * d .alpha .0 + 512 ≤ length c
-  inside = link-inside c area ok xs d [] split
+  inside = active-inside c (descriptorsOf c) (chain-is (chain c) ok)
 
   -- the block of the active descriptor
   t-tail : tailAt t (d .alpha .0) ≡ tail
@@ -164,8 +162,8 @@ module _ (c name : List ℕ) (e : SnapPassed c name) where
 
   block-again : AreBytes c → descriptorBlock d tail ≡ blockAt c (d .alpha .0)
   block-again bytes =
-      ap (λ (x : Descriptor). descriptorBlock x tail) (member-is c (descriptorsOf c) xs d [] (sound-is c area ok) split)
-      ∙ block-back c (d .alpha .0) bytes inside (form-mark c (d .alpha .0) d (link-form c area ok xs d [] split))
+      ap (λ (x : Descriptor). descriptorBlock x tail) (member-is c (descriptorsOf c) xs d [] (chain-is (chain c) ok) split)
+      ∙ block-back c (d .alpha .0) bytes inside (form-mark c (d .alpha .0) d (active-form c (descriptorsOf c) (chain-is (chain c) ok)))
 
   block-stored : AreBytes c → length (descriptorBlock d (tailAt t (d .alpha .0))) ≡ 512
   block-stored bytes =
@@ -179,15 +177,11 @@ module _ (c name : List ℕ) (e : SnapPassed c name) where
       ∙ block-again bytes
 
   -- the other blocks below beta
-  pair-kept : (q : ℕ) → (d .alpha .0 ≡ q → ⊥) → q < d .beta .0 → isStored (store (d .beta .0) (descriptorBlock new tail) ∷ store (d .alpha .0) (descriptorBlock old tail) ∷ []) q ≡ false
-  unfolding isStored
-  pair-kept q n h = rw (ne-eqb (d .beta .0) q (omega arith), ne-eqb (d .alpha .0) q n)
-
   snap-kept : (q : ℕ) → (d .alpha .0 ≡ q → ⊥) → q < d .beta .0 → isStored (snapStores c name) q ≡ false
   unfolding snapStores snapping
   snap-kept q n h =
       rw (stored-join (copying c (d .alpha .0 + 1) (d .beta .0 + 1) (costOf d - 1)) (store (d .beta .0) (descriptorBlock new tail) ∷ store (d .alpha .0) (descriptorBlock old tail) ∷ []) q, copies-stored c (d .alpha .0 + 1) (d .beta .0 + 1) (costOf d - 1) q (omega arith))
-      (pair-kept q n h)
+      (pair-stored (d .beta .0) (d .alpha .0) (descriptorBlock new tail) (descriptorBlock old tail) q (λ k. omega arith) n)
 
   other-kept : (q : ℕ) → (d .alpha .0 ≡ q → ⊥) → q < d .beta .0 → blockAt u q ≡ blockAt c q
   other-kept q n h =

@@ -1,8 +1,8 @@
 -- What find gives of a logical block is its entry, and the table block that holds it.
 use mathlib.Core.Path.{_≡_, refl, sym, ap, subst, _∙_}
-use mathlib.Core.Bool.{Bool, true, false}
+use mathlib.Core.Bool.{Bool, true, false, _||_}
 use mathlib.Core.List.{List}
-use Prim.Native.Nat.{ℕ, _+_, _/_, _%_}
+use Prim.Native.Nat.{ℕ, _+_, _/_, _%_, _<_}
 use native.Mathlib.Omega.{arith}
 use lib.Dec.{eqb}
 use borrow.Author.Tests.{eqb-true}
@@ -13,9 +13,9 @@ use Rattle.blocks.specs.declared.descriptor.Descriptor.{Descriptor}
 use Rattle.blocks.proofs.BoolLaws.{no}
 use Rattle.entries.specs.InPlace.{inPlace}
 use Rattle.entries.specs.Entry.{tableOf, entryAt, entryFound, find}
-use Rattle.entries.specs.Rules.{entryOf}
+use Rattle.entries.specs.Rules.{entryOf, Rules}
 use Rattle.entries.specs.declared.find.Found.the-variants.{Misplaced, Entry}
-use Rattle.entries.proofs.TableLaws.{own-set, table-own}
+use Rattle.entries.proofs.TableLaws.{own-set, table-own, table-phi, layout-two, group-below}
 
 -- the parts of an entry that was found
 parts-of : (m′ p : Physical) (m q : ℕ) → Entry (physical m) (physical q) ≡ Entry m′ p → (m′ .0 ≡ m) × (q ≡ p .0)
@@ -77,3 +77,24 @@ module _ (c : List ℕ) (ds : List Descriptor) (d : Descriptor) (l : ℕ) (m p :
   found-placed =
       let n : ℕ = tableOf c d (l / 128) in
       table-by ds d n (entryAt c n (l % 128)) m p (eqb (d .layout) 1) (inPlace ds d n) (eqb n 0) refl is
+
+-- through a descriptor that keeps the rules: what is followed is in place, so the table block and the entry are found
+rules-by : (ds : List Descriptor) (d : Descriptor) (m e : ℕ) (o i z : Bool) → (o ≡ true → z ≡ false) → (o ≡ false → i ≡ true) → eqb m 0 ≡ z → inPlace ds d (pick z 0 e) ≡ true
+    → pick o (entryFound ds d m e) (pick i (pick z (Entry (physical 0) (physical 0)) (entryFound ds d m e)) (Misplaced (d .alpha))) ≡ Entry (physical m) (physical (pick z 0 e))
+unfolding entryFound
+rules-by ds d m e true i true own phi n h = no (sym (own refl))
+rules-by ds d m e true i false own phi n h = rw h
+rules-by ds d m e false true true own phi n h = ap (λ (x : ℕ). Entry (physical x) (physical 0)) (sym (eqb-true m 0 n))
+rules-by ds d m e false true false own phi n h = rw h
+rules-by ds d m e false false z own phi n h = no (phi refl)
+
+pub rules-find : (c : List ℕ) (ds : List Descriptor) (d : Descriptor) → (eqb (d .layout) 1 || eqb (d .layout) 2) ≡ true → Rules c ds d → (l : ℕ) → l < d .volume
+    → find c ds d l ≡ Entry (physical (tableOf c d (l / 128))) (physical (entryOf c d l))
+unfolding find entryOf
+rules-find c ds d layout r l h =
+    let i = l / 128 in
+    let m = tableOf c d (l / 128) in
+    rules-by ds d m (entryAt c m (l % 128)) (eqb (d .layout) 1) (inPlace ds d m) (eqb m 0)
+    (λ o. own-set c d i o)
+    (λ o. rw (table-phi c d i o) (r .phi (layout-two (d .layout) layout o) .in-place i (group-below l (d .volume) h)))
+    refl (r .tables .in-place l h)

@@ -10,3 +10,5 @@ pub mod OpeningLaws
 pub mod TableLaws
 pub mod LocalLaws
 pub mod FoundLaws
+pub mod ExtendedLaws
+pub mod RulesLaws

@@ -1,14 +1,14 @@
 -- Laws of a write through an entry that was found. The data goes to beta or after it, so what is set afterwards is that of the card at entry.
 use mathlib.Core.Path.{_≡_, refl, sym, ap, _∙_}
 use mathlib.Core.Bool.{Bool, true, false, not, _&&_}
-use mathlib.Core.List.{List}
+use mathlib.Core.List.{List, [], _∷_}
 use Prim.Native.Nat.{ℕ, _+_, _*_, _/_, _≤_, _<_}
 use native.Mathlib.Omega.{arith}
 use lib.ListN.{length}
-use lib.Dec.{eqb, leb}
-use borrow.Author.Tests.{eq-eqb, ne-eqb, eqb-false}
+use lib.Dec.{eqb, leb, ltb}
+use borrow.Author.Tests.{eq-eqb, ne-eqb, eqb-false, leb-true, ltb-false, ltb-true}
 use Rattle.blocks.specs.Pick.{pick}
-use Rattle.blocks.specs.Bytes.{blockAt, storeBlock, storeAll}
+use Rattle.blocks.specs.Bytes.{blockAt, storeBlock, storeAll, store, Store}
 use Rattle.blocks.specs.Descriptor.{tailAt}
 use Rattle.blocks.specs.declared.numbers.Physical.{Physical}
 use Rattle.blocks.specs.declared.descriptor.Descriptor.{Descriptor}
@@ -16,11 +16,15 @@ use Rattle.blocks.proofs.ByteLaws.{store-other}
 use Rattle.blocks.proofs.DescriptorLaws.{store-tail}
 use Rattle.entries.specs.Through.{WriteReady, Through}
 use Rattle.entries.specs.Entry.{tableIsNew, need, setInTable, setInNewTable, writing, find}
-use Rattle.entries.specs.declared.find.Found.the-variants.{Entry}
+use Rattle.entries.specs.declared.find.Found.the-variants.{Entry, Misplaced}
 use Rattle.blocks.specs.Chain.{chain, descriptors}
 use Rattle.blocks.proofs.ChainLaws.{cost-least}
 use Rattle.entries.specs.declared.find.Found.{Found}
 use Rattle.entries.proofs.EntryLaws.{through-beta, through-end, through-volume, found-table, found-entry}
+use Rattle.blocks.proofs.Tests.{and-right}
+use Rattle.blocks.proofs.BoolLaws.{or-false-right}
+use Rattle.blocks.proofs.StoreLists.{isStored}
+use mathlib.Core.Logic.{_⊎_, inl, inr}
 
 -- need, where a set entry is not overwritten, says whether the table block is new
 new-by : (s t : Bool) (n : ℕ) → n ≡ pick s 0 (pick t 2 1) → (n ≡ 0 → ⊥) → t ≡ eqb n 2
@@ -101,3 +105,56 @@ write-ready c starts count d t l block long below f found-is m p e =
       number = omega (arith, through-volume c starts count d t);
       whole = long;
     }
+
+-- a write stores no block below the active alpha
+module _ (c : List ℕ) (d : Descriptor) (low : d .alpha .0 < d .beta .0) (l : ℕ) (block : List ℕ) (q : ℕ) (h : q < d .alpha .0) where
+  above-by : (m o : ℕ) (a n : Bool) → (a ≡ true → d .alpha .0 ≤ o) → (n ≡ false → d .alpha .0 ≤ m)
+      → isStored (pick (eqb (pick a 0 (pick n 2 1)) 0) (store o block ∷ []) (pick n (store (d .beta .0 + 1) block ∷ setInNewTable c d m l) (store (d .beta .0) block ∷ setInTable c d m l))) q ≡ false
+  unfolding isStored setInNewTable setInTable
+  above-by m o true n f g = rw (ne-eqb o q (omega (arith, f refl)))
+  above-by m o false true f g = rw (ne-eqb (d .beta .0 + 1) q (omega arith), ne-eqb (d .beta .0) q (omega arith), ne-eqb (d .alpha .0) q (omega arith))
+  above-by m o false false f g = rw (ne-eqb (d .beta .0) q (omega arith), ne-eqb (d .alpha .0) q (omega arith), ne-eqb m q (omega (arith, g refl)))
+
+  not-new : (m : ℕ) → tableIsNew (d .alpha .0) m ≡ false → d .alpha .0 ≤ m
+  unfolding tableIsNew
+  not-new m e = ltb-false m (d .alpha .0) (or-false-right (eqb m 0) (ltb m (d .alpha .0)) e)
+
+  pub writing-above : (f : Found) → isStored (writing c d f l block) q ≡ false
+  unfolding writing need isStored
+  writing-above (Misplaced x) = refl
+  writing-above (Entry m o) =
+      above-by (m .0) (o .0) (not (eqb (o .0) 0) && leb (d .alpha .0) (o .0)) (tableIsNew (d .alpha .0) (m .0))
+      (λ e. leb-true (d .alpha .0) (o .0) (and-right (not (eqb (o .0) 0)) (leb (d .alpha .0) (o .0)) e)) (not-new (m .0))
+
+-- each block that it takes is stored
+module _ (c : List ℕ) (d : Descriptor) (l : ℕ) (block : List ℕ) where
+  one-more : (x : List ℕ) (rest : List Store) (p : ℕ) → p < d .beta .0 + 1 → (z : Bool) → ltb p (d .beta .0) ≡ z → (p < d .beta .0) ⊎ (isStored (store (d .beta .0) x ∷ rest) p ≡ true)
+  unfolding isStored
+  one-more x rest p h true q = inl (ltb-true p (d .beta .0) q)
+  one-more x rest p h false q = inr (rw (eq-eqb (d .beta .0) p (omega (arith, ltb-false p (d .beta .0) q))))
+
+  two-more : (x y : List ℕ) (rest : List Store) (p : ℕ) → p < d .beta .0 + 2 → (z o : Bool) → ltb p (d .beta .0) ≡ z → eqb (d .beta .0 + 1) p ≡ o
+      → (p < d .beta .0) ⊎ (isStored (store (d .beta .0 + 1) x ∷ store (d .beta .0) y ∷ rest) p ≡ true)
+  unfolding isStored
+  two-more x y rest p h true o q r = inl (ltb-true p (d .beta .0) q)
+  two-more x y rest p h false true q r = inr (rw r)
+  two-more x y rest p h false false q r = inr (rw (r, eq-eqb (d .beta .0) p (omega (arith, ltb-false p (d .beta .0) q, eqb-false (d .beta .0 + 1) p r))))
+
+  taken-by : (m o p : ℕ) (a n : Bool) → p < d .beta .0 + pick a 0 (pick n 2 1)
+      → (p < d .beta .0) ⊎ (isStored (pick (eqb (pick a 0 (pick n 2 1)) 0) (store o block ∷ []) (pick n (store (d .beta .0 + 1) block ∷ setInNewTable c d m l) (store (d .beta .0) block ∷ setInTable c d m l))) p ≡ true)
+  unfolding setInNewTable
+  taken-by m o p true n h = inl (omega arith)
+  taken-by m o p false true h = two-more block _ _ p h (ltb p (d .beta .0)) (eqb (d .beta .0 + 1) p) refl refl
+  taken-by m o p false false h = one-more block _ p h (ltb p (d .beta .0)) refl
+
+  pub writing-covers : (f : Found) (p : ℕ) → p < d .beta .0 + need (d .alpha .0) f → (p < d .beta .0) ⊎ (isStored (writing c d f l block) p ≡ true)
+  unfolding writing need
+  writing-covers (Misplaced h) p b = inl (omega arith)
+  writing-covers (Entry m o) p b = taken-by (m .0) (o .0) p (not (eqb (o .0) 0) && leb (d .alpha .0) (o .0)) (tableIsNew (d .alpha .0) (m .0)) b
+
+-- on two cards with the same tail of the descriptor's block and the same table block it stores the same
+pub writing-same : (s t : List ℕ) (d : Descriptor) (l : ℕ) (block : List ℕ) → tailAt s (d .alpha .0) ≡ tailAt t (d .alpha .0) → (f : Found) → ((m p : Physical) → f ≡ Entry m p → blockAt s (m .0) ≡ blockAt t (m .0))
+    → writing s d f l block ≡ writing t d f l block
+unfolding writing setInTable setInNewTable
+writing-same s t d l block tail (Misplaced h) table = refl
+writing-same s t d l block tail (Entry m p) table = rw (tail, table m p refl)

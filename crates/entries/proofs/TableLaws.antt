@@ -14,8 +14,8 @@ use Rattle.entries.specs.InPlace.{isDescriptor, isTable, inPlace}
 use Rattle.entries.specs.Entry.{phiAt, tableOf, entryAt}
 use Rattle.entries.proofs.EntryLaws.{placed-other}
 use lib.ListN.{length}
-use Rattle.blocks.specs.Bytes.{part, u32At, blockAt}
-use Rattle.blocks.proofs.ByteLaws.{u32-part}
+use Rattle.blocks.specs.Bytes.{u32At, blockAt}
+use Rattle.blocks.proofs.ByteLaws.{u32-part, number-of}
 use Rattle.blocks.proofs.DescriptorLaws.{Fits, tail-length}
 use Rattle.blocks.proofs.StoredLaws.{stored-bytes, block-tail, tail-part}
 use Rattle.blocks.specs.Pick.{pick}
@@ -115,23 +115,22 @@ phi-in c d i h =
     let e : 512 * d .alpha .0 + (64 + 4 * i) ≡ 512 * d .alpha .0 + 64 + 4 * i = omega arith in
     u32-part c (512 * d .alpha .0) 512 (64 + 4 * i) (omega arith) ∙ ap (u32At c) e
 
--- Phi of a descriptor block stored with its own tail
-pub phi-stored : (c t : List ℕ) (w v : Descriptor) → w .alpha ≡ v .alpha → 512 * v .alpha .0 + 512 ≤ length c → length c ≡ length t → blockAt t (v .alpha .0) ≡ descriptorBlock w (tailAt c (v .alpha .0)) → Fits w
+-- Phi of a descriptor block that was stored with the tail of another
+pub phi-stored : (c t : List ℕ) (w v : Descriptor) → 512 * v .alpha .0 + 512 ≤ length c → 512 * w .alpha .0 + 512 ≤ length t → blockAt t (w .alpha .0) ≡ descriptorBlock w (tailAt c (v .alpha .0)) → Fits w
     → (i : ℕ) → i < 112 → phiAt t w i ≡ phiAt c v i
 unfolding phiAt
-phi-stored c t w v q inside long is f i h =
+phi-stored c t w v in-c in-t is f i h =
     let a = v .alpha .0 in
-    let whole = tail-length c a inside in
-    let n : 512 * a + 64 + 4 * i + 0 ≡ 512 * a + 64 + 4 * i = omega arith in
-    let k : 512 * a + (64 + 4 * i) ≡ 512 * a + 64 + 4 * i = omega arith in
-    let m : 512 * a + 40 + (24 + 4 * i) ≡ 512 * a + 64 + 4 * i = omega arith in
-    let j : 40 + (24 + 4 * i) ≡ 64 + 4 * i = omega arith in
-    let bytes : part t (512 * a + 64 + 4 * i) 4 ≡ part c (512 * a + 64 + 4 * i) 4 =
-    ap (λ (x : ℕ). part t x 4) (sym k) ∙ stored-bytes t a (omega arith) w (tailAt c a) is f whole (64 + 4 * i) 4 (omega arith)
-    ∙ ap (λ (x : ℕ). part (descriptorBlock w (tailAt c a)) x 4) (sym j) ∙ block-tail w (tailAt c a) f whole (24 + 4 * i) 4
-    ∙ tail-part c a (24 + 4 * i) 4 inside (omega arith) ∙ ap (λ (x : ℕ). part c x 4) m in
-    ap (λ (x : Physical). u32At t (512 * x .0 + 64 + 4 * i)) q
-    ∙ ap (u32At t) (sym n) ∙ sym (u32-part t (512 * a + 64 + 4 * i) 4 0 (omega arith)) ∙ ap (λ (b : List ℕ). u32At b 0) bytes ∙ u32-part c (512 * a + 64 + 4 * i) 4 0 (omega arith) ∙ ap (u32At c) n
+    let b = w .alpha .0 in
+    let l = tail-length c a in-c in
+    let q : 512 * b + 64 + 4 * i ≡ 512 * b + (40 + (24 + 4 * i)) = omega arith in
+    let r : 512 * a + 40 + (24 + 4 * i) ≡ 512 * a + 64 + 4 * i = omega arith in
+    ap (u32At t) q
+    ∙ sym (number-of t (512 * b + (40 + (24 + 4 * i))))
+    ∙ ap (λ (y : List ℕ). u32At y 0)
+    (stored-bytes t b in-t w (tailAt c a) is f l (40 + (24 + 4 * i)) 4 (omega arith) ∙ block-tail w (tailAt c a) f l (24 + 4 * i) 4 ∙ tail-part c a (24 + 4 * i) 4 in-c (omega arith))
+    ∙ number-of c (512 * a + 40 + (24 + 4 * i))
+    ∙ ap (u32At c) r
 
 -- the same number of Phi is the same table
 pub table-as : (s t : List ℕ) (d e : Descriptor) (i : ℕ) → e .layout ≡ d .layout → e .alpha ≡ d .alpha → phiAt t e i ≡ phiAt s d i → tableOf t e i ≡ tableOf s d i

@@ -32,15 +32,17 @@ use Rattle.calls.specs.Check.{Passes}
 use Rattle.calls.specs.Effect.{writeStores}
 use Rattle.calls.proofs.CardLaws.{card-most, chain-is, active-split}
 use Rattle.blocks.proofs.StoredLaws.{stored-bytes, block-tail}
-use Rattle.blocks.proofs.StoreLists.{Whole, isStored, stored-length, stored-other, none-stored, not-stored}
-use Rattle.claims.proofs.Inside.{write-whole}
-use Rattle.claims.proofs.WrittenChain.{stored-last, ds-some, active-next, active-form, active-rise, active-volume, active-name}
+use Rattle.blocks.proofs.StoreLists.{Whole, isStored, stored-length, stored-other, none-stored, not-stored, stored-among}
 use Rattle.entries.proofs.FoundLaws.{found-holder, found-own}
 use Rattle.entries.proofs.LocalLaws.{Region}
-use Rattle.claims.proofs.PassesWrite.{extended-stays, extended-new, write-region, set-table-rules, set-phi-rules}
-use Rattle.claims.proofs.WriteFacts.{WriteFacts}
 use Rattle.entries.proofs.TableLaws.{table-phi, few-tables, under, layout-two, group-below, entry-in, block-entry}
 use Rattle.calls.proofs.Passed.{WritePassed}
+use Rattle.entries.proofs.ExtendedLaws.{extended-stays, extended-new}
+use Rattle.calls.proofs.ActiveLaws.{active-next, active-form, active-rise, active-volume, active-name, chain-some}
+use Rattle.entries.proofs.RulesLaws.{set-table-rules, set-phi-rules}
+use Rattle.changes.proofs.WholeLaws.{write-whole}
+use Rattle.changes.proofs.WrittenRules.{write-region}
+use Rattle.changes.proofs.WriteFacts.{WriteFacts}
 
 -- numbers of four bytes each, after n bytes of a list: one that is put, and the others
 module _ (b : List ℕ) (n i v : ℕ) (inside : n + 4 * i + 4 ≤ length b) where
@@ -299,7 +301,7 @@ module _ (c : List ℕ) (passes : Passes c) (l : ℕ) (block : List ℕ) (ok : W
   sound-c = chain-is (chain c) (passes .sound)
 
   chn-some : 0 < length chn
-  chn-some = ds-some c chn sound-c
+  chn-some = chain-some c chn sound-c
 
   split : chn ≡ snaps ++ (act ∷ [])
   split = active-split chn chn-some
@@ -375,14 +377,14 @@ module _ (c : List ℕ) (passes : Passes c) (l : ℕ) (block : List ℕ) (ok : W
     facts =
         two-facts c (storeAll c ss) chn (snaps ++ (extendedOf act 2 ∷ [])) act l (m .0) block (sym (stored-length (length c) c refl whole)) write-inside (active-volume c chn sound-c)
         in-layout rise (omega (arith, blocks-long c (act .beta .0 + 2) room-two)) act-small act-fits
-        (stored-last (length c) (act .beta .0 + 1) block (store (act .beta .0) new-bytes ∷ store (act .alpha .0) head-bytes ∷ [])
+        (stored-among (length c) (act .beta .0 + 1) block (store (act .beta .0) new-bytes ∷ store (act .alpha .0) head-bytes ∷ [])
         (not-stored (act .beta .0) new-bytes (store (act .alpha .0) head-bytes ∷ []) (act .beta .0 + 1) (λ v. omega (arith, v))
         (not-stored (act .alpha .0) head-bytes [] (act .beta .0 + 1) (λ v. omega (arith, v, rise)) (none-stored (act .beta .0 + 1))))
         c refl [] whole)
-        (stored-last (length c) (act .beta .0) new-bytes (store (act .alpha .0) head-bytes ∷ [])
+        (stored-among (length c) (act .beta .0) new-bytes (store (act .alpha .0) head-bytes ∷ [])
         (not-stored (act .alpha .0) head-bytes [] (act .beta .0) (λ v. omega (arith, v, rise)) (none-stored (act .beta .0)))
         c refl (store (act .beta .0 + 1) block ∷ []) whole)
-        (stored-last (length c) (act .alpha .0) head-bytes [] (none-stored (act .alpha .0)) c refl (store (act .beta .0 + 1) block ∷ store (act .beta .0) new-bytes ∷ []) whole)
+        (stored-among (length c) (act .alpha .0) head-bytes [] (none-stored (act .alpha .0)) c refl (store (act .beta .0 + 1) block ∷ store (act .beta .0) new-bytes ∷ []) whole)
         (λ q h n. stored-other (length c) c refl whole q (not-in q h n)) (found-holder c chn act l m p is)
         act-wider act-new (extended-new snaps act 2 1 (omega arith) regions) (placed-not-active chn chn-some) act-rules
 

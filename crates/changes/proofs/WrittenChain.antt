@@ -9,18 +9,15 @@ use lib.ListN.{length, length-append}
 use lib.Dec.{eqb}
 use borrow.Author.Tests.{eqb-true, eqb-false}
 use Rattle.blocks.specs.Pick.{pick}
-use Rattle.blocks.specs.Bytes.{le32, part, blockCount, blockAt, zeroBlock, Store, store, storeBlock, storeAll}
-use Rattle.blocks.specs.Name.{isName}
-use Rattle.blocks.specs.Descriptor.{costOf, descriptorAt, tailAt, descriptorBlock, extendedOf, reservedOk, phiOk}
-use Rattle.blocks.specs.Chain.{formOk, regionOk, sound, Sound, chain, activeOf}
+use Rattle.blocks.specs.Bytes.{le32, part, blockCount, blockAt, zeroBlock, Store, store, storeAll}
+use Rattle.blocks.specs.Descriptor.{descriptorAt, tailAt, descriptorBlock, extendedOf, reservedOk, phiOk}
+use Rattle.blocks.specs.Chain.{sound, Sound, chain, activeOf}
 use Rattle.blocks.specs.declared.numbers.Physical.{Physical}
 use Rattle.blocks.specs.declared.descriptor.Descriptor.{Descriptor}
 use Rattle.blocks.proofs.BoolLaws.{no}
-use Rattle.blocks.proofs.ByteLaws.{length-le32, part-before, store-length, store-same}
+use Rattle.blocks.proofs.ByteLaws.{length-le32, part-before}
 use Rattle.blocks.proofs.DescriptorLaws.{Fits, tail-length, extended-none}
-use Rattle.blocks.proofs.SoundLaws.{form-most, form-layout}
-use Rattle.blocks.proofs.ChainLaws.{region-long, region-end, cost-least}
-use Rattle.blocks.proofs.LinkedLaws.{Linked, last, chain-linked, chain-few, linked-some}
+use Rattle.blocks.proofs.LinkedLaws.{last, chain-linked}
 use Rattle.blocks.proofs.NameLaws.{name-size}
 use Rattle.entries.specs.Entry.{find, tableIsNew, need, tableWith, tailWith, setInTable, setInNewTable, writing}
 use Rattle.entries.specs.declared.find.Found.{Found}
@@ -29,32 +26,15 @@ use Rattle.entries.proofs.EntryLaws.{find-placed, need-more, new-table, old-tab
 use Rattle.entries.proofs.SetLaws.{tail-with-length}
 use Rattle.calls.specs.Parts.{descriptorsOf, snapshotsOf, foundThrough, isMisplaced}
 use Rattle.calls.specs.Effect.{writeStores}
-use Rattle.calls.proofs.CardLaws.{card-most, chain-is, active-split}
+use Rattle.calls.proofs.CardLaws.{card-most, chain-is}
 use Rattle.blocks.proofs.SharedLaws.{linked-chain, shared-descriptor, shared-sound}
-use Rattle.blocks.proofs.RelinkedLaws.{linked-from, linked-head, relinked, linked-next}
-use Rattle.blocks.proofs.StoredLaws.{tail-part, form-kept, form-phi, form-name}
-use Rattle.blocks.proofs.ChangedLaws.{layout-small, member-form, member-region, member-fresh, member-inside, changed-last}
-use Rattle.blocks.proofs.StoreLists.{Whole, also, isStored, stored-length, stored-other, none-stored, not-stored}
-use Rattle.claims.proofs.Inside.{write-whole}
+use Rattle.blocks.proofs.RelinkedLaws.{linked-head, relinked}
+use Rattle.blocks.proofs.ChangedLaws.{changed-last}
+use Rattle.blocks.proofs.StoreLists.{Whole, isStored, stored-length, stored-other, none-stored, not-stored, stored-among}
 use Rattle.entries.proofs.FoundLaws.{found-own, found-placed}
 use Rattle.calls.proofs.Passed.{WritePassed}
-
--- the first of a list of whole-block stores, and the others
-whole-parts : {n : ℕ} {s : Store} {ss : List Store} → Whole n (s ∷ ss) → (length (s .bytes) ≡ 512) × (512 * s .at + 512 ≤ n) × Whole n ss
-whole-parts (also p b w i ss) = (w, i, ss)
-
--- the last store to block p decides what it holds
-module _ (n : ℕ) (p : ℕ) (b : List ℕ) (ys : List Store) (after : isStored ys p ≡ false) where
-  pub stored-last : (c : List ℕ) → length c ≡ n → (xs : List Store) → Whole n (xs ++ (store p b ∷ ys)) → blockAt (storeAll c (xs ++ (store p b ∷ ys))) p ≡ b
-  unfolding storeAll
-  stored-last c e [] w =
-      let h = whole-parts w in
-      let i : 512 * p + 512 ≤ length c = omega (arith, h .1) in
-      stored-other n (storeBlock c p b) (store-length c p b (h .0) i ∙ e) (h .2) p after ∙ store-same c p b (h .0) i
-  stored-last c e (x ∷ xs) w =
-      let h = whole-parts w in
-      let i : 512 * x .at + 512 ≤ length c = omega (arith, h .1) in
-      stored-last (storeBlock c (x .at) (x .bytes)) (store-length c (x .at) (x .bytes) (h .0) i ∙ e) xs (h .2)
+use Rattle.calls.proofs.ActiveLaws.{chain-some, active-last, snapshots-few, active-layout, active-fresh, active-linked, active-next, active-inside, active-long, active-rise, active-volume, active-name, active-reserved, active-phi}
+use Rattle.changes.proofs.WholeLaws.{write-whole}
 
 -- stores at or above the active alpha, on a card with a sound chain
 module _ (c : List ℕ) (ds : List Descriptor) (sound-c : chain c ≡ Sound ds) where
@@ -63,60 +43,6 @@ module _ (c : List ℕ) (ds : List Descriptor) (sound-c : chain c ≡ Sound ds) 
 
   abbrev xs : List Descriptor
   xs = snapshotsOf ds
-
-  pub ds-some : 0 < length ds
-  ds-some = linked-some (chain-linked c ds sound-c)
-
-  split : ds ≡ xs ++ (d ∷ [])
-  split = active-split ds ds-some
-
-  few : length xs < 256
-  few = omega (arith, chain-few c ds sound-c, ap length split, length-append xs (d ∷ []))
-
-  active-linked : Linked c xs (d .alpha .0) (d ∷ [])
-  active-linked = linked-from c (chain-linked c ds sound-c) xs d [] split
-
-  pub active-next : d .next .0 ≡ 0
-  active-next = linked-next c active-linked d refl
-
-  pub active-form : formOk c (d .alpha .0) d ≡ true
-  active-form = member-form c ds xs d [] sound-c split
-
-  active-region : regionOk (descriptorAt c 0) (blockCount c) (d .alpha .0) d ≡ true
-  active-region = member-region c ds xs d [] sound-c split
-
-  pub active-inside : 512 * d .alpha .0 + 512 ≤ length c
-  active-inside = member-inside c ds xs d [] sound-c split
-
-  pub active-long : d .alpha .0 + costOf d ≤ d .beta .0
-  active-long = region-long (descriptorAt c 0) (blockCount c) (d .alpha .0) d active-region
-
-  pub active-rise : d .alpha .0 < d .beta .0
-  active-rise = omega (arith, active-long, cost-least (d .layout) (d .volume))
-
-  pub active-end : d .beta .0 ≤ blockCount c
-  active-end = region-end (descriptorAt c 0) (blockCount c) (d .alpha .0) d active-region
-
-  pub active-volume : d .volume ≤ 14336
-  active-volume = form-most c (d .alpha .0) d active-form
-
-  pub active-name : isName (d .name) ≡ true
-  active-name = form-name c (d .alpha .0) d active-form
-
-  -- the zero bytes of its tail
-  pub active-reserved : reservedOk (part (tailAt c (d .alpha .0)) 0 24) ≡ true
-  active-reserved =
-      let a : ℕ = d .alpha .0 in
-      let e : 512 * a + 40 + 0 ≡ 512 * a + 40 = omega arith in
-      subst (λ (x : List ℕ). reservedOk x ≡ true)
-      (sym (tail-part c a 0 24 active-inside (omega arith) ∙ ap (λ (n : ℕ). part c n 24) e)) (form-kept c a d active-form)
-
-  pub active-phi : phiOk (d .layout) (part (tailAt c (d .alpha .0)) 24 448) ≡ true
-  active-phi =
-      let a : ℕ = d .alpha .0 in
-      let e : 512 * a + 40 + 24 ≡ 512 * a + 64 = omega arith in
-      subst (λ (x : List ℕ). phiOk (d .layout) x ≡ true)
-      (sym (tail-part c a 24 448 active-inside (omega arith) ∙ ap (λ (n : ℕ). part c n 448) e)) (form-phi c a d active-form)
 
   module _ (ss : List Store) (whole : Whole (length c) ss) (low : (q : ℕ) → q < d .alpha .0 → isStored ss q ≡ false) where
     abbrev t : List ℕ
@@ -138,21 +64,21 @@ module _ (c : List ℕ) (ds : List Descriptor) (sound-c : chain c ≡ Sound ds) 
       upto-by q h false e = kept q (omega (arith, eqb-false q (d .alpha .0) e))
 
       same-at : (q : ℕ) → q ≤ d .alpha .0 → descriptorAt c q ≡ descriptorAt t q
-      same-at q h = shared-descriptor c t q (omega (arith, active-inside)) (omega (arith, active-inside, long)) (upto-by q h (eqb q (d .alpha .0)) refl)
+      same-at q h = shared-descriptor c t q (omega (arith, (active-inside c ds sound-c))) (omega (arith, (active-inside c ds sound-c), long)) (upto-by q h (eqb q (d .alpha .0)) refl)
 
       same-sound : sound c xs (d .alpha .0) ≡ sound t xs (d .alpha .0)
       same-sound =
           let first = same-at 0 (omega arith) in
-          shared-sound c t (d .alpha .0) active-inside (omega (arith, active-inside, long)) kept-here long
+          shared-sound c t (d .alpha .0) (active-inside c ds sound-c) (omega (arith, (active-inside c ds sound-c), long)) kept-here long
           (ap (λ (x : Descriptor). x .layout) first) (ap (λ (x : Descriptor). x .volume) first) xs
 
       pub kept-chain : chain t ≡ Sound (xs ++ (d ∷ []))
       kept-chain =
-          let head = linked-head c active-linked d [] refl in
+          let head = linked-head c (active-linked c ds sound-c) d [] refl in
           linked-chain t (xs ++ (d ∷ []))
-          (relinked c t long d [] (d ∷ []) (omega (arith, active-inside)) kept (chain-linked c ds sound-c) xs split
-          (last (head .0 ∙ same-at (d .alpha .0) (omega arith)) (sym same-sound ∙ head .1) active-next))
-          (omega (arith, length-append xs (d ∷ []), few))
+          (relinked c t long d [] (d ∷ []) (omega (arith, (active-inside c ds sound-c))) kept (chain-linked c ds sound-c) xs (active-last c ds sound-c)
+          (last (head .0 ∙ same-at (d .alpha .0) (omega arith)) (sym same-sound ∙ head .1) (active-next c ds sound-c)))
+          (omega (arith, length-append xs (d ∷ []), (snapshots-few c ds sound-c)))
 
     -- where its block holds it with k more blocks in its region
     module _ (k : ℕ) (room : d .beta .0 + k ≤ blockCount c) (small : blockCount c ≤ 65536) (tail : List ℕ) (is : blockAt t (d .alpha .0) ≡ descriptorBlock (extendedOf d k) tail)
@@ -160,12 +86,12 @@ module _ (c : List ℕ) (ds : List Descriptor) (sound-c : chain c ≡ Sound ds) 
       extended-fits : Fits (extendedOf d k)
       extended-fits =
           record {
-            layout = omega (arith, layout-small (d .layout) (form-layout c (d .alpha .0) d active-form));
-            volume = omega (arith, active-volume);
-            alpha = omega (arith, active-rise);
+            layout = omega (arith, active-layout c ds sound-c);
+            volume = omega (arith, (active-volume c ds sound-c));
+            alpha = omega (arith, (active-rise c ds sound-c));
             beta = omega arith;
-            next = omega (arith, active-next);
-            name = name-size (d .name) active-name;
+            next = omega (arith, (active-next c ds sound-c));
+            name = name-size (d .name) (active-name c ds sound-c);
           }
 
       end : d .beta .0 + k ≤ blockCount t
@@ -174,8 +100,8 @@ module _ (c : List ℕ) (ds : List Descriptor) (sound-c : chain c ≡ Sound ds) 
 
       pub extended-chain : chain t ≡ Sound (xs ++ (extendedOf d k ∷ []))
       extended-chain =
-          changed-last c ds xs d [] sound-c split t long kept (extendedOf d k) tail is extended-fits tail-whole refl refl refl active-name reserved phi
-          (omega (arith, active-long)) end (inl active-next) (member-fresh c ds xs d [] sound-c split) active-next few
+          changed-last c ds xs d [] sound-c (active-last c ds sound-c) t long kept (extendedOf d k) tail is extended-fits tail-whole refl refl refl (active-name c ds sound-c) reserved phi
+          (omega (arith, (active-long c ds sound-c))) end (inl (active-next c ds sound-c)) (active-fresh c ds sound-c) (active-next c ds sound-c) (snapshots-few c ds sound-c)
 
 -- a tail with an entry of Phi set
 module _ (tail : List ℕ) (i m : ℕ) (few-entries : i < 112) (tail-whole : length tail ≡ 472) where
@@ -215,7 +141,7 @@ module _ (c : List ℕ) (ds : List Descriptor) (sound-c : chain c ≡ Sound ds) 
   entry-above : taken ≡ 0 → active .alpha .0 < p .0
   entry-above e =
       let r = need-nothing (active .alpha .0) m p e in
-      let n = placed-not-active ds (ds-some c ds sound-c) (p .0) (find-placed c ds active l m p is) (r .0) in
+      let n = placed-not-active ds (chain-some c ds sound-c) (p .0) (find-placed c ds active l m p is) (r .0) in
       omega (arith, r .1, n)
 
   over : taken ≡ 0 → Whole (length c) (store (p .0) block ∷ []) → After (store (p .0) block ∷ []) 0
@@ -230,7 +156,7 @@ module _ (c : List ℕ) (ds : List Descriptor) (sound-c : chain c ≡ Sound ds) 
   table-above-by e true h = omega (arith, found-own c ds active l m p is h)
   table-above-by e false h =
       let r = old-table (active .alpha .0) (m .0) e in
-      let n = placed-not-active ds (ds-some c ds sound-c) (m .0) (found-placed c ds active l m p is h) (r .0) in
+      let n = placed-not-active ds (chain-some c ds sound-c) (m .0) (found-placed c ds active l m p is h) (r .0) in
       omega (arith, r .1, n)
 
   through-table : tableIsNew (active .alpha .0) (m .0) ≡ false → active .beta .0 + 1 ≤ blockCount c → Whole (length c) (store (active .beta .0) block ∷ setInTable c active (m .0) l)
@@ -246,7 +172,7 @@ module _ (c : List ℕ) (ds : List Descriptor) (sound-c : chain c ≡ Sound ds) 
       extended-chain c ds sound-c (store (active .beta .0) block ∷ store a head ∷ store (m .0) table ∷ []) w
       (λ q u. not-stored (active .beta .0) block (store a head ∷ store (m .0) table ∷ []) q (λ v. omega (arith, rise, v)) (not-stored a head (store (m .0) table ∷ []) q (λ v. omega (arith, v)) (rest q (omega arith))))
       1 fits small tail
-      (stored-last (length c) a head (store (m .0) table ∷ []) (rest a (omega arith)) c refl (store (active .beta .0) block ∷ []) w)
+      (stored-among (length c) a head (store (m .0) table ∷ []) (rest a (omega arith)) c refl (store (active .beta .0) block ∷ []) w)
       (tail-length c a (active-inside c ds sound-c)) (active-reserved c ds sound-c) (active-phi c ds sound-c)
 
   -- through a new table block, which arises only in layout 2
@@ -270,7 +196,7 @@ module _ (c : List ℕ) (ds : List Descriptor) (sound-c : chain c ≡ Sound ds) 
       (λ q u. not-stored (b + 1) block (store b table ∷ store a head ∷ []) q (λ v. omega (arith, rise, v))
       (not-stored b table (store a head ∷ []) q (λ v. omega (arith, rise, v)) (not-stored a head [] q (λ v. omega (arith, v)) (none-stored q))))
       2 fits small tail
-      (stored-last (length c) a head [] (none-stored a) c refl (store (b + 1) block ∷ store b table ∷ []) w)
+      (stored-among (length c) a head [] (none-stored a) c refl (store (b + 1) block ∷ store b table ∷ []) w)
       (tail-with-length old (l / 128) b old-long number)
       (subst (λ (x : List ℕ). reservedOk x ≡ true) (sym (put-reserved old (l / 128) b number old-long)) (active-reserved c ds sound-c))
       (phi-any (active .layout) (part tail 24 448) (layout-by e (eqb (active .layout) 1) refl))

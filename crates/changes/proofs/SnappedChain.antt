@@ -7,12 +7,11 @@ use Prim.Native.Nat.{ℕ, _+_, _*_, _-_, _≤_, _<_}
 use native.Mathlib.Omega.{arith}
 use lib.ListN.{length, length-append}
 use lib.Seq.{append-snoc}
-use borrow.Author.Tests.{ne-eqb}
 use Rattle.blocks.specs.Pick.{same}
 use Rattle.blocks.specs.Bytes.{blockCount, blockAt, Store, store, storeAll}
 use Rattle.blocks.specs.Name.{isName}
 use Rattle.blocks.specs.Descriptor.{costOf, descriptorAt, tailAt, descriptorBlock, renamedOf, linkedOf, reopenedOf, copying}
-use Rattle.blocks.specs.Chain.{named, sound, Sound, chain, chainSound, activeOf}
+use Rattle.blocks.specs.Chain.{named, sound, Sound, chain, activeOf}
 use Rattle.blocks.specs.declared.descriptor.Descriptor.{Descriptor}
 use Rattle.blocks.proofs.BoolLaws.{no, or-false-right}
 use Rattle.blocks.proofs.ListLaws.{same-equal, same-self}
@@ -24,12 +23,13 @@ use Rattle.calls.specs.Parts.{areaBad, descriptorsOf, snapshotsOf}
 use Rattle.calls.specs.Effect.{snapping, snapStores}
 use Rattle.calls.proofs.Passed.{SnapPassed}
 use Rattle.blocks.proofs.SharedLaws.{linked-chain}
-use Rattle.blocks.proofs.RelinkedLaws.{linked-next, relinked}
+use Rattle.blocks.proofs.RelinkedLaws.{relinked}
 use Rattle.blocks.proofs.StoredLaws.{block-long, stored-descriptor, stored-form, region-ok}
-use Rattle.blocks.proofs.ChangedLaws.{named-append, named-left, member-from, changed-first, changed-ok}
-use Rattle.blocks.proofs.StoreLists.{Whole, none, also, whole-append, isStored, stored-join, stored-length, stored-other, stored-last, inside-copying, count-kept, none-stored, one-stored, copies-stored}
-use Rattle.claims.proofs.Inside.{snap-whole}
-use Rattle.claims.proofs.ChainAfter.{sound-is, active-last, active-name, active-fresh, link-form, link-inside, link-long, link-most, link-low, link-layout, link-volume, link-reserved, link-phi}
+use Rattle.blocks.proofs.ChangedLaws.{named-append, named-left, changed-first, changed-ok}
+use Rattle.blocks.proofs.StoreLists.{Whole, none, also, whole-append, isStored, stored-join, stored-length, stored-other, stored-last, inside-copying, count-kept, none-stored, one-stored, copies-stored, pair-stored}
+use Rattle.calls.proofs.ActiveLaws.{active-last, active-name, active-fresh, active-next, active-form, active-long, active-rise, active-inside, active-layout, active-volume, active-reserved, active-phi}
+use Rattle.calls.proofs.CardLaws.{chain-is, card-most}
+use Rattle.changes.proofs.WholeLaws.{snap-whole}
 
 same-not : (a b : List ℕ) (z : Bool) → same a b ≡ z → same b a ≡ false → same a b ≡ false
 same-not a b false e h = e
@@ -42,14 +42,17 @@ module _ (c name : List ℕ) (e : SnapPassed c name) where
   called : isName name ≡ true
   called = e .called
 
-  ok : chainSound (chain c) ≡ true
-  ok = e .sound
+  sound-c : chain c ≡ Sound (descriptorsOf c)
+  sound-c = chain-is (chain c) (e .sound)
 
   unused : named (descriptorsOf c) name ≡ false
   unused = e .unused
 
   room : activeOf (descriptorsOf c) .beta .0 + costOf (activeOf (descriptorsOf c)) ≤ blockCount c
   room = e .room
+
+  abbrev ds : List Descriptor
+  ds = descriptorsOf c
 
   abbrev xs : List Descriptor
   xs = snapshotsOf (descriptorsOf c)
@@ -74,7 +77,7 @@ module _ (c name : List ℕ) (e : SnapPassed c name) where
   copies = copying c (d .alpha .0 + 1) (d .beta .0 + 1) (costOf d - 1)
 
   pub split : descriptorsOf c ≡ xs ++ (d ∷ [])
-  split = active-last c area ok
+  split = active-last c ds sound-c
 
   pub stores-are : snapStores c name ≡ copies ++ (store (d .beta .0) (descriptorBlock new tail) ∷ store (d .alpha .0) (descriptorBlock old tail) ∷ [])
   unfolding snapStores snapping
@@ -84,16 +87,16 @@ module _ (c name : List ℕ) (e : SnapPassed c name) where
   whole = snap-whole c name e
 
   pub d-low : d .alpha .0 < d .beta .0
-  d-low = link-low c area ok xs d [] split
+  d-low = active-rise c ds sound-c
 
   d-least : 1 ≤ costOf d
   d-least = cost-least (d .layout) (d .volume)
 
   d-most : blockCount c ≤ 65536
-  d-most = link-most c area ok xs d [] split
+  d-most = card-most c area
 
   pub d-inside : 512 * d .alpha .0 + 512 ≤ length c
-  d-inside = link-inside c area ok xs d [] split
+  d-inside = active-inside c ds sound-c
 
   pub room-bytes : 512 * (d .beta .0 + costOf d) ≤ length c
   unfolding blockCount
@@ -103,13 +106,13 @@ module _ (c name : List ℕ) (e : SnapPassed c name) where
   copies-whole = inside-copying c (d .alpha .0 + 1) (d .beta .0 + 1) (costOf d - 1) (omega (arith, d-low)) (omega (arith, room-bytes, d-least))
 
   pub next-nil : d .next .0 ≡ 0
-  next-nil = linked-next c (member-from c (descriptorsOf c) xs d [] (sound-is c area ok) split) d refl
+  next-nil = active-next c ds sound-c
 
   pub old-fits : Fits old
-  old-fits = fits-of old (link-layout c area ok xs d [] split) (link-volume c area ok xs d [] split) (omega (arith, d-low, room, d-most)) (omega (arith, room, d-most)) (omega (arith, room, d-most)) called
+  old-fits = fits-of old (active-layout c ds sound-c) (active-volume c ds sound-c) (omega (arith, d-low, room, d-most)) (omega (arith, room, d-most)) (omega (arith, room, d-most)) called
 
   pub new-fits : Fits new
-  new-fits = fits-of new (link-layout c area ok xs d [] split) (link-volume c area ok xs d [] split) (omega (arith, room, d-most)) (omega (arith, room, d-most)) (omega (arith, next-nil)) (active-name c area ok)
+  new-fits = fits-of new (active-layout c ds sound-c) (active-volume c ds sound-c) (omega (arith, room, d-most)) (omega (arith, room, d-most)) (omega (arith, next-nil)) (active-name c ds sound-c)
 
   pub tail-whole : length tail ≡ 472
   tail-whole = tail-length c (d .alpha .0) d-inside
@@ -134,14 +137,10 @@ module _ (c name : List ℕ) (e : SnapPassed c name) where
       (stored-last (length c) c refl copies-whole (d .beta .0) (descriptorBlock new tail) new-long new-inside (also (d .alpha .0) (descriptorBlock old tail) old-long d-inside none)
       (one-stored (d .alpha .0) (descriptorBlock old tail) (d .beta .0) (λ k. omega (arith, d-low))))
 
-  pair-stored : (q : ℕ) → q < d .alpha .0 → isStored (store (d .beta .0) (descriptorBlock new tail) ∷ store (d .alpha .0) (descriptorBlock old tail) ∷ []) q ≡ false
-  unfolding isStored
-  pair-stored q h = rw (ne-eqb (d .beta .0) q (omega (arith, d-low)), ne-eqb (d .alpha .0) q (omega arith))
-
   pub snap-above : (q : ℕ) → q < d .alpha .0 → isStored (snapStores c name) q ≡ false
   snap-above q h =
       rw (stores-are, stored-join copies (store (d .beta .0) (descriptorBlock new tail) ∷ store (d .alpha .0) (descriptorBlock old tail) ∷ []) q, copies-stored c (d .alpha .0 + 1) (d .beta .0 + 1) (costOf d - 1) q (omega (arith, d-low)))
-      (pair-stored q h)
+      (pair-stored (d .beta .0) (d .alpha .0) (descriptorBlock new tail) (descriptorBlock old tail) q (λ k. omega (arith, d-low)) (λ k. omega arith))
 
   kept : (q : ℕ) → q < d .alpha .0 → blockAt c q ≡ blockAt t q
   kept q h = sym (stored-other (length c) c refl whole q (snap-above q h))
@@ -162,7 +161,7 @@ module _ (c name : List ℕ) (e : SnapPassed c name) where
       (sym (named-one d name) ∙ or-false-right (named xs name) (named (d ∷ []) name) (sym (named-append xs (d ∷ []) name) ∙ ap (λ (l : List Descriptor). named l name) (sym split) ∙ unused))
 
   new-fresh : named (xs ++ (old ∷ [])) (d .name) ≡ false
-  new-fresh = named-append xs (old ∷ []) (d .name) ∙ rw (active-fresh c area ok) (named-one old (d .name) ∙ other-name)
+  new-fresh = named-append xs (old ∷ []) (d .name) ∙ rw (active-fresh c ds sound-c) (named-one old (d .name) ∙ other-name)
 
   -- the snapshot is sound
   old-is : descriptorAt t (d .alpha .0) ≡ old
@@ -170,13 +169,13 @@ module _ (c name : List ℕ) (e : SnapPassed c name) where
 
   old-ok : sound t xs (d .alpha .0) ≡ true
   old-ok =
-      changed-ok c (descriptorsOf c) xs d [] (sound-is c area ok) split t same-long kept old tail old-block old-fits tail-whole refl refl refl called
-      (link-reserved c area ok xs d [] split) (link-phi c area ok xs d [] split) (link-long c area ok xs d [] split) (omega (arith, room, same-count)) (inr (refl, omega (arith, room, same-count, d-least))) name-new
+      changed-ok c ds xs d [] sound-c split t same-long kept old tail old-block old-fits tail-whole refl refl refl called
+      (active-reserved c ds sound-c) (active-phi c ds sound-c) (active-long c ds sound-c) (omega (arith, room, same-count)) (inr (refl, omega (arith, room, same-count, d-least))) name-new
 
   first-is : (old .layout ≡ descriptorAt t 0 .layout) × (old .volume ≡ descriptorAt t 0 .volume)
   first-is =
-      changed-first c (descriptorsOf c) xs d [] (sound-is c area ok) split t same-long kept old tail old-block old-fits tail-whole refl refl refl called
-      (link-reserved c area ok xs d [] split) (link-phi c area ok xs d [] split) (link-long c area ok xs d [] split) (omega (arith, room, same-count)) (inr (refl, omega (arith, room, same-count, d-least))) name-new
+      changed-first c ds xs d [] sound-c split t same-long kept old tail old-block old-fits tail-whole refl refl refl called
+      (active-reserved c ds sound-c) (active-phi c ds sound-c) (active-long c ds sound-c) (omega (arith, room, same-count)) (inr (refl, omega (arith, room, same-count, d-least))) name-new
 
   -- and the region after it
   in-t : 512 * d .beta .0 + 512 ≤ length t
@@ -190,7 +189,7 @@ module _ (c name : List ℕ) (e : SnapPassed c name) where
   new-ok =
       rw (
         new-is,
-        stored-form t (d .beta .0) in-t new tail new-block new-fits tail-whole d refl refl (active-name c area ok) c (d .alpha .0) (link-form c area ok xs d [] split) (link-reserved c area ok xs d [] split) (link-phi c area ok xs d [] split),
+        stored-form t (d .beta .0) in-t new tail new-block new-fits tail-whole d refl refl (active-name c ds sound-c) c (d .alpha .0) (active-form c ds sound-c) (active-reserved c ds sound-c) (active-phi c ds sound-c),
         region-ok (descriptorAt t 0) (blockCount t) (d .beta .0) new (first-is .0) (first-is .1) refl (omega arith) (omega (arith, room, same-count)) (inl next-nil),
         new-fresh,
       )
@@ -198,7 +197,7 @@ module _ (c name : List ℕ) (e : SnapPassed c name) where
   snapped-by : length xs < 255 → chain t ≡ Sound (xs ++ (old ∷ new ∷ []))
   snapped-by few =
       linked-chain t (xs ++ (old ∷ new ∷ []))
-      (relinked c t same-long d [] (old ∷ new ∷ []) (omega (arith, d-inside)) kept (chain-linked c (descriptorsOf c) (sound-is c area ok)) xs split
+      (relinked c t same-long d [] (old ∷ new ∷ []) (omega (arith, d-inside)) kept (chain-linked c ds sound-c) xs split
       (more (sym old-is) old-ok (λ z. omega (arith, d-low)) (last (sym new-is) new-ok next-nil)))
       (omega (arith, length-append xs (old ∷ new ∷ [])))
 

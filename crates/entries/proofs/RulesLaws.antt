@@ -1,69 +1,45 @@
--- What check asks, after an accepted write.
+-- The rules that check holds entries to, on a card and on another whose entries are the same, or the same but for one that was set.
+use mathlib.Core.List.{List}
+use Prim.Native.Nat.{ℕ, _+_, _*_, _/_, _%_, _≤_, _<_}
+use Rattle.blocks.specs.Descriptor.{renamedOf, linkedOf, extendedOf, tableCount, reopenedOf}
+use Rattle.blocks.specs.declared.numbers.Physical.{Physical}
+use Rattle.blocks.specs.declared.descriptor.Descriptor.{Descriptor}
+use Rattle.entries.specs.InPlace.{inPlace}
+use Rattle.entries.specs.Entry.{phiAt, tableOf, entryAt}
+use Rattle.entries.specs.Rules.{entryOf, Rules, PhiRules, TableRules}
 use mathlib.Core.Path.{_≡_, refl, sym, ap, _∙_, subst}
 use mathlib.Core.Logic.{_⊎_, inl, inr}
-use mathlib.Core.Bool.{Bool, true, false, not, _&&_, _||_}
-use mathlib.Core.List.{List, [], _∷_, _++_}
-use Prim.Native.Nat.{ℕ, zero, suc, _+_, _-_, _*_, _/_, _%_, _≤_, _<_}
+use mathlib.Core.Bool.{Bool, true, false, _||_}
 use native.Mathlib.Omega.{arith}
-use lib.ListN.{length, getD, length-append}
-use lib.Seq.{getD-append-seam}
-use lib.Dec.{eqb, ltb, leb}
-use borrow.Author.Tests.{ne-eqb, eqb-true, eqb-false, ltb-true, ltb-false, lt-ltb, lt-leb}
+use lib.ListN.{length}
+use lib.Dec.{eqb}
+use borrow.Author.Tests.{eqb-true, eqb-false, ne-eqb}
 use Rattle.blocks.specs.Pick.{pick}
-use Rattle.blocks.specs.Bytes.{blockCount, blockAt, storeAll}
-use Rattle.blocks.specs.Chain.{Sound, chain, chainSound, activeOf}
-use Rattle.blocks.proofs.BoolLaws.{no, and-false}
-use Rattle.blocks.proofs.SoundLaws.{form-layout}
-use Rattle.blocks.proofs.LinkedLaws.{Linked, chain-linked, linked-some, linked-at, linked-rise, at-alpha, active-at}
-use Rattle.blocks.proofs.ChainLaws.{descriptors-are}
-use Rattle.blocks.specs.Descriptor.{extendedOf, tableCount, noDescriptor}
-use Rattle.blocks.specs.declared.descriptor.Descriptor.{Descriptor}
-use Rattle.entries.specs.InPlace.{isDescriptor, isTable, inPlace}
-use Rattle.entries.specs.Entry.{entryAt, phiAt, tableOf, need}
-use Rattle.entries.specs.Rules.{entryOf, PhiRules, TableRules, Rules}
+use Rattle.blocks.specs.Bytes.{blockAt}
+use Rattle.blocks.proofs.BoolLaws.{no}
 use Rattle.entries.proofs.EntryLaws.{placed-below}
-use Rattle.calls.specs.Parts.{areaBad, descriptorsOf, snapshotsOf, foundThrough}
-use Rattle.calls.specs.Check.{Passes}
-use Rattle.calls.specs.Effect.{writeStores}
-use Rattle.claims.specs.History.{betaOf}
-use Rattle.calls.proofs.CardLaws.{chain-is, active-split}
-use Rattle.claims.proofs.Agreement.{agree-region}
-use Rattle.blocks.proofs.StoreLists.{isStored, stored-length, stored-other}
-use Rattle.claims.proofs.Inside.{write-whole}
-use Rattle.claims.proofs.WrittenChain.{active-rise, active-inside, written-chain}
-use Rattle.claims.proofs.Kept.{writing-above}
 use Rattle.blocks.proofs.SharedLaws.{shared-number, Below}
 use Rattle.entries.proofs.LocalLaws.{Region, local-entry, local-phi, local-table}
-use Rattle.entries.proofs.TableLaws.{table-two, under}
-use Rattle.calls.proofs.Passed.{WritePassed}
+use Rattle.entries.proofs.TableLaws.{table-two, under, table-own, table-phi, layout-two}
 
--- the blocks of descriptors and of layout 1 tables are the same where the last region is longer
-pub extended-descriptor : (xs : List Descriptor) (d : Descriptor) (k p : ℕ) → isDescriptor (xs ++ (extendedOf d k ∷ [])) p ≡ isDescriptor (xs ++ (d ∷ [])) p
-unfolding isDescriptor
-extended-descriptor [] d k p = refl
-extended-descriptor (x ∷ xs) d k p = ap (λ (b : Bool). eqb p (x .alpha .0) || b) (extended-descriptor xs d k p)
+-- of a descriptor under another name, linked otherwise
+pub entry-renamed : (c : List ℕ) (v : Descriptor) (n : List ℕ) (q : Physical) (l : ℕ) → entryOf c (linkedOf (renamedOf v n) q) l ≡ entryOf c v l
+unfolding phiAt tableOf entryOf
+entry-renamed c v n q l = refl
 
-pub extended-table : (xs : List Descriptor) (d : Descriptor) (k p : ℕ) → isTable (xs ++ (extendedOf d k ∷ [])) p ≡ isTable (xs ++ (d ∷ [])) p
-unfolding isTable
-extended-table [] d k p = refl
-extended-table (x ∷ xs) d k p = ap (λ (b : Bool). (eqb (x .layout) 1 && ltb (x .alpha .0) p && leb p (x .alpha .0 + tableCount (x .volume))) || b) (extended-table xs d k p)
-
--- in place is the same for any descriptor
-pub extended-placed : (xs : List Descriptor) (d : Descriptor) (k : ℕ) (e : Descriptor) (p : ℕ) → inPlace (xs ++ (extendedOf d k ∷ [])) e p ≡ inPlace (xs ++ (d ∷ [])) e p
-unfolding inPlace
-extended-placed xs d k e p = rw (extended-descriptor xs d k p, extended-table xs d k p)
-
--- what was in place stays in place
-placed-wider : (z o : Bool) (p b k : ℕ) (t : Bool) → ltb p b ≡ t → (z || (t && o)) ≡ true → (z || (ltb p (b + k) && o)) ≡ true
-placed-wider true o p b k t e h = refl
-placed-wider false o p b k true e h = rw (lt-ltb p (b + k) (omega (arith, ltb-true p b e))) h
-placed-wider false o p b k false e h = no h
-
-pub extended-stays : (xs : List Descriptor) (d : Descriptor) (k p : ℕ) → inPlace (xs ++ (d ∷ [])) d p ≡ true → inPlace (xs ++ (extendedOf d k ∷ [])) (extendedOf d k) p ≡ true
-unfolding inPlace
-extended-stays xs d k p h =
-    rw (extended-descriptor xs d k p, extended-table xs d k p)
-    (placed-wider (eqb p 0) (not (isDescriptor (xs ++ (d ∷ [])) p || isTable (xs ++ (d ∷ [])) p)) p (d .beta .0) k (ltb p (d .beta .0)) refl h)
+pub rules-renamed : (c : List ℕ) (ds : List Descriptor) (v : Descriptor) (n : List ℕ) (q : Physical) → Rules c ds v → Rules c ds (linkedOf (renamedOf v n) q)
+unfolding inPlace phiAt tableOf entryOf
+rules-renamed c ds v n q r =
+    record {
+      phi = λ two. record {
+        in-place = r .phi two .in-place;
+        past-n = r .phi two .past-n;
+        once = r .phi two .once;
+        tables-and-entries = r .phi two .tables-and-entries;
+        table-above = r .phi two .table-above;
+      };
+      tables = record { in-place = r .tables .in-place; past-volume = r .tables .past-volume; once = r .tables .once };
+    }
 
 -- the rules depend on the entries and on what is in place
 module _ (s t : List ℕ) (ds es : List Descriptor) (d : Descriptor) (few : tableCount (d .volume) ≤ 112) (wider : (p : ℕ) → inPlace ds d p ≡ true → inPlace es d p ≡ true)
@@ -120,146 +96,6 @@ module _ (s t : List ℕ) (b : ℕ) (below : Below s t b) (d : Descriptor) (regi
 
   pub shared-rules : ((p : ℕ) → inPlace ds d p ≡ true → inPlace es d p ≡ true) → Rules t es d
   shared-rules wider = same-rules s t ds es d (region .few) wider (λ i h. local-phi s t b below d region i h) shared-entry rules
-
--- no block at or above the end of all regions is a descriptor or a layout 1 table block
-no-own : (d : Descriptor) (b q : ℕ) → Region d b → b ≤ q → (o : Bool) → eqb (d .layout) 1 ≡ o → (o && ltb (d .alpha .0) q && leb q (d .alpha .0 + tableCount (d .volume))) ≡ false
-no-own d b q r h true e = rw (lt-leb q (d .alpha .0 + tableCount (d .volume)) (omega (arith, r .own (eqb-true (d .layout) 1 e), r .upto))) (and-false (ltb (d .alpha .0) q))
-no-own d b q r h false e = refl
-
-descriptors-above : (ds : List Descriptor) (b q : ℕ) → b ≤ q → ((k : ℕ) → k < length ds → Region (getD ds k noDescriptor) b) → isDescriptor ds q ≡ false
-unfolding isDescriptor
-descriptors-above [] b q h r = refl
-descriptors-above (d ∷ ds) b q h r =
-    let e : Region d b = r 0 (omega arith) in
-    rw (ne-eqb q (d .alpha .0) (λ x. omega (arith, e .some, e .upto))) (descriptors-above ds b q h (λ k l. r (suc k) (omega arith)))
-
-tables-above : (ds : List Descriptor) (b q : ℕ) → b ≤ q → ((k : ℕ) → k < length ds → Region (getD ds k noDescriptor) b) → isTable ds q ≡ false
-unfolding isTable
-tables-above [] b q h r = refl
-tables-above (d ∷ ds) b q h r = rw (no-own d b q (r 0 (omega arith)) h (eqb (d .layout) 1) refl) (tables-above ds b q h (λ k l. r (suc k) (omega arith)))
-
-pub none-above : (ds : List Descriptor) (b q : ℕ) → b ≤ q → ((k : ℕ) → k < length ds → Region (getD ds k noDescriptor) b) → (isDescriptor ds q || isTable ds q) ≡ false
-none-above ds b q h r = rw (descriptors-above ds b q h r, tables-above ds b q h r)
-
--- the new blocks of the last region are in place
-placed-if : (z : Bool) (p b : ℕ) (o : Bool) → p < b → o ≡ false → (z || (ltb p b && not o)) ≡ true
-placed-if true p b o h e = refl
-placed-if false p b o h e = rw (lt-ltb p b h, e)
-
-pub extended-new : (xs : List Descriptor) (d : Descriptor) (k j : ℕ) → j < k → ((i : ℕ) → i < length (xs ++ (d ∷ [])) → Region (getD (xs ++ (d ∷ [])) i noDescriptor) (d .beta .0))
-    → inPlace (xs ++ (extendedOf d k ∷ [])) (extendedOf d k) (d .beta .0 + j) ≡ true
-unfolding inPlace
-extended-new xs d k j h r =
-    let q = d .beta .0 + j in
-    rw (extended-descriptor xs d k q, extended-table xs d k q)
-    (placed-if (eqb q 0) q (d .beta .0 + k) (isDescriptor (xs ++ (d ∷ [])) q || isTable (xs ++ (d ∷ [])) q) (omega arith) (none-above (xs ++ (d ∷ [])) (d .beta .0) q (omega arith) r))
-
--- the members of a list before its end are those of the list with another end
-front-same : (xs ys zs : List Descriptor) (j : ℕ) → j < length xs → getD (xs ++ ys) j noDescriptor ≡ getD (xs ++ zs) j noDescriptor
-front-same [] ys zs j h = absurd (omega arith)
-front-same (x ∷ xs) ys zs zero h = refl
-front-same (x ∷ xs) ys zs (suc j) h = front-same xs ys zs j (omega arith)
-
--- an accepted write on a card that passes
-module _ (c : List ℕ) (passes : Passes c) (l : ℕ) (block : List ℕ) (ok : WritePassed c l block) where
-  abbrev ds : List Descriptor
-  ds = descriptorsOf c
-
-  abbrev d : Descriptor
-  d = activeOf ds
-
-  abbrev xs : List Descriptor
-  xs = snapshotsOf ds
-
-  abbrev x : Descriptor
-  x = extendedOf d (need (d .alpha .0) (foundThrough c d l))
-
-  abbrev t : List ℕ
-  t = storeAll c (writeStores c l block)
-
-  sound-c : chain c ≡ Sound ds
-  sound-c = chain-is (chain c) (passes .sound)
-
-  linked : Linked c [] 0 ds
-  linked = chain-linked c ds sound-c
-
-  some : 0 < length ds
-  some = linked-some linked
-
-  split : ds ≡ xs ++ (d ∷ [])
-  split = active-split ds some
-
-  count : length ds ≡ length xs + 1
-  count = ap length split ∙ length-append xs (d ∷ [])
-
-  long : length c ≡ length t
-  long = sym (stored-length (length c) c refl (write-whole c l block ok))
-
-  -- every region ends at or below the active beta, those of snapshots at or below the active alpha
-  pub write-region : (j : ℕ) → j < length ds → Region (getD ds j noDescriptor) (d .beta .0)
-  unfolding betaOf
-  write-region j h = agree-region c c (record { long = refl; sound = passes .sound; sound′ = passes .sound; beta = refl; below = refl }) j h
-
-  snapshot-end : (j : ℕ) → j < length xs → getD ds j noDescriptor .beta .0 ≤ d .alpha .0
-  snapshot-end j h =
-      let n = length ds - 1 in
-      let r = linked-at linked n (omega (arith, some)) in
-      omega (arith, linked-at linked j (omega (arith, count)) .beta, at-alpha c _ _ _ r, ap (λ (y : Descriptor). y .alpha .0) (active-at ds some), linked-rise linked (suc j) n (omega (arith, count)) (omega arith))
-
-  pub snapshot-region : (j : ℕ) → j < length xs → Region (getD ds j noDescriptor) (d .alpha .0)
-  snapshot-region j h =
-      let r = write-region j (omega (arith, count)) in
-      record { some = r .some; upto = snapshot-end j h; own = r .own; few = r .few }
-
-  low-stored : (q : ℕ) → q < d .alpha .0 → isStored (writeStores c l block) q ≡ false
-  unfolding writeStores
-  low-stored q h = writing-above c d (active-rise c ds sound-c) l block q h (foundThrough c d l)
-
-  pub write-below : 0 < d .alpha .0 → Below c t (d .alpha .0)
-  write-below h =
-      record {
-        long = long;
-        some = h;
-        inside = omega (arith, active-inside c ds sound-c);
-        blocks = λ q k. sym (stored-other (length c) c refl (write-whole c l block ok) q (low-stored q k));
-      }
-
-  -- the rules of the snapshots
-  pub snapshot-rules : (j : ℕ) → j < length xs → Rules t (xs ++ (x ∷ [])) (getD ds j noDescriptor)
-  snapshot-rules j h =
-      let e = getD ds j noDescriptor in
-      let r = snapshot-region j h in
-      shared-rules c t (d .alpha .0) (write-below (omega (arith, r .some, r .upto))) e r ds (xs ++ (x ∷ []))
-      (form-layout c _ e (linked-at linked j (omega (arith, count)) .form)) (passes .rules j (omega (arith, count)))
-      (λ p k. extended-placed xs d (need (d .alpha .0) (foundThrough c d l)) e p ∙ subst (λ (ys : List Descriptor). inPlace ys e p ≡ true) split k)
-
-  -- the card passes if the active descriptor keeps the rules
-  area-after : areaBad t ≡ false
-  unfolding areaBad blockCount
-  area-after = rw (← long) (passes .area)
-
-  chain-after : chain t ≡ Sound (xs ++ (x ∷ []))
-  chain-after = written-chain c l block ok
-
-  rules-by : Rules t (xs ++ (x ∷ [])) x → (j : ℕ) → j < length (xs ++ (x ∷ [])) → (b : Bool) → ltb j (length xs) ≡ b → Rules t (xs ++ (x ∷ [])) (getD (xs ++ (x ∷ [])) j noDescriptor)
-  rules-by a j h true e =
-      let k = ltb-true j (length xs) e in
-      let q : getD ds j noDescriptor ≡ getD (xs ++ (x ∷ [])) j noDescriptor = ap (λ (ys : List Descriptor). getD ys j noDescriptor) split ∙ front-same xs (d ∷ []) (x ∷ []) j k in
-      subst (λ (y : Descriptor). Rules t (xs ++ (x ∷ [])) y) q (snapshot-rules j k)
-  rules-by a j h false e =
-      let k : j ≡ length xs = omega (arith, ltb-false j (length xs) e, length-append xs (x ∷ [])) in
-      let q : getD (xs ++ (x ∷ [])) j noDescriptor ≡ x = ap (λ (n : ℕ). getD (xs ++ (x ∷ [])) n noDescriptor) k ∙ getD-append-seam xs x [] noDescriptor in
-      subst (λ (y : Descriptor). Rules t (xs ++ (x ∷ [])) y) (sym q) a
-
-  pub passes-write-by : Rules t (xs ++ (x ∷ [])) x → Passes t
-  unfolding chainSound
-  passes-write-by a =
-      let q = descriptors-are t (xs ++ (x ∷ [])) chain-after in
-      record {
-        area = area-after;
-        sound = ap chainSound chain-after;
-        rules = subst (λ (ys : List Descriptor). (j : ℕ) → j < length ys → Rules t ys (getD ys j noDescriptor)) (sym q) (λ j h. rules-by a j h (ltb j (length xs)) refl);
-      }
 
 -- the tables' rules where one entry is set to a block at or above beta, and the others stay
 module _ (c t : List ℕ) (ds es : List Descriptor) (d : Descriptor) (k : ℕ) (wider : (p : ℕ) → inPlace ds d p ≡ true → inPlace es (extendedOf d k) p ≡ true) (l q : ℕ) (inside : l < d .volume)
@@ -390,3 +226,77 @@ module _ (s t : List ℕ) (ds es : List Descriptor) (d : Descriptor) (few : tabl
 
   pub kept-rules : Rules s ds d → Rules t es d
   kept-rules r = same-rules s t ds es d few wider kept-phi kept-entry r
+
+-- the same entries on another card
+module _ (c t : List ℕ) (ds : List Descriptor) (d : Descriptor) (layout : (eqb (d .layout) 1 || eqb (d .layout) 2) ≡ true) (few : tableCount (d .volume) ≤ 112) (r : Rules c ds d)
+    (phi : (i : ℕ) → i < 112 → phiAt t d i ≡ phiAt c d i)
+    (own : d .layout ≡ 1 → (i : ℕ) → i < tableCount (d .volume) → (j : ℕ) → j < 128 → entryAt t (d .alpha .0 + 1 + i) j ≡ entryAt c (d .alpha .0 + 1 + i) j)
+    (placed : (m : ℕ) → inPlace ds d m ≡ true → (m ≡ 0 → ⊥) → (j : ℕ) → j < 128 → entryAt t m j ≡ entryAt c m j) where
+  moved-table : (i : ℕ) → i < 112 → tableOf t d i ≡ tableOf c d i
+  unfolding tableOf
+  moved-table i h = rw (phi i h)
+
+  moved-by : (i j : ℕ) → i < tableCount (d .volume) → j < 128 → (o z : Bool) → eqb (d .layout) 1 ≡ o → eqb (tableOf c d i) 0 ≡ z → pick z 0 (entryAt t (tableOf c d i) j) ≡ pick z 0 (entryAt c (tableOf c d i) j)
+  moved-by i j h k o true e q = refl
+  moved-by i j h k true false e q = rw (table-own c d i e) (own (eqb-true (d .layout) 1 e) i h j k)
+  moved-by i j h k false false e q =
+      rw (table-phi c d i e)
+      (placed (phiAt c d i) (r .phi (layout-two (d .layout) layout e) .in-place i h) (λ z. eqb-false (tableOf c d i) 0 q (table-phi c d i e ∙ z)) j k)
+
+  moved-all : (l : ℕ) → l < 128 * tableCount (d .volume) → entryOf t d l ≡ entryOf c d l
+  unfolding entryOf
+  moved-all l h =
+      rw (moved-table (l / 128) (omega (arith, few)))
+      (moved-by (l / 128) (l % 128) (omega arith) (omega arith) (eqb (d .layout) 1) (eqb (tableOf c d (l / 128)) 0) refl refl)
+
+  pub moved-entry : (l : ℕ) → l < d .volume → entryOf t d l ≡ entryOf c d l
+  moved-entry l h = moved-all l (under l (d .volume) h)
+
+  pub rules-moved : (es : List Descriptor) → ((p : ℕ) → inPlace ds d p ≡ true → inPlace es d p ≡ true) → Rules t es d
+  rules-moved es fit = same-rules c t ds es d few fit (λ i h. sym (phi i h)) (λ l h. sym (moved-all l h)) r
+
+-- the rules of the region that a snap opens, whose entries are those of the region before
+module _ (c s : List ℕ) (ds es : List Descriptor) (d : Descriptor) (layout : (eqb (d .layout) 1 || eqb (d .layout) 2) ≡ true) (few : tableCount (d .volume) ≤ 112) (r : Rules c ds d)
+    (phi : (i : ℕ) → i < 112 → phiAt s (reopenedOf d) i ≡ phiAt c d i)
+    (own : d .layout ≡ 1 → (i : ℕ) → i < tableCount (d .volume) → (j : ℕ) → j < 128 → entryAt s (d .beta .0 + 1 + i) j ≡ entryAt c (d .alpha .0 + 1 + i) j)
+    (placed : (m : ℕ) → inPlace ds d m ≡ true → (m ≡ 0 → ⊥) → (j : ℕ) → j < 128 → entryAt s m j ≡ entryAt c m j)
+    (fit : (p : ℕ) → inPlace ds d p ≡ true → inPlace es (reopenedOf d) p ≡ true) where
+  abbrev new : Descriptor
+  new = reopenedOf d
+
+  same-phi : (i : ℕ) → i < tableCount (d .volume) → phiAt s new i ≡ phiAt c d i
+  same-phi i h = phi i (omega (arith, few))
+
+  new-by : (i j : ℕ) → i < tableCount (d .volume) → j < 128 → (o z : Bool) → eqb (d .layout) 1 ≡ o → eqb (phiAt c d i) 0 ≡ z
+      → pick (eqb (tableOf s new i) 0) 0 (entryAt s (tableOf s new i) j) ≡ pick (eqb (tableOf c d i) 0) 0 (entryAt c (tableOf c d i) j)
+  new-by i j h k true z e q =
+      rw (table-own s new i e, table-own c d i e, ne-eqb (d .beta .0 + 1 + i) 0 (λ y. omega (arith, y)), ne-eqb (d .alpha .0 + 1 + i) 0 (λ y. omega (arith, y)))
+      (own (eqb-true (d .layout) 1 e) i h j k)
+  new-by i j h k false true e q = rw (table-phi s new i e, table-phi c d i e, same-phi i h, q)
+  new-by i j h k false false e q =
+      rw (table-phi s new i e, table-phi c d i e, same-phi i h, q)
+      (placed (phiAt c d i) (r .phi (layout-two (d .layout) layout e) .in-place i h) (eqb-false (phiAt c d i) 0 q) j k)
+
+  pub reopened-entry : (l : ℕ) → l < 128 * tableCount (d .volume) → entryOf s new l ≡ entryOf c d l
+  unfolding entryOf
+  reopened-entry l h = new-by (l / 128) (l % 128) (omega arith) (omega arith) (eqb (d .layout) 1) (eqb (phiAt c d (l / 128)) 0) refl refl
+
+  same-below : (l : ℕ) → l < d .volume → entryOf s new l ≡ entryOf c d l
+  same-below l h = reopened-entry l (under l (d .volume) h)
+
+  pub rules-reopened : Rules s es (reopenedOf d)
+  rules-reopened =
+      record {
+        phi = λ two. record {
+          in-place = λ i h. rw (same-phi i h) (fit (phiAt c d i) (r .phi two .in-place i h));
+          past-n = λ i h k. phi i k ∙ r .phi two .past-n i h k;
+          once = λ i k h g e z. r .phi two .once i k h g (sym (same-phi i h) ∙ e ∙ same-phi k g) (λ y. z (same-phi i h ∙ y));
+          tables-and-entries = λ i l h g e. same-phi i h ∙ r .phi two .tables-and-entries i l h g (sym (same-phi i h) ∙ e ∙ same-below l g);
+          table-above = λ l h a z. absurd (omega (arith, a, same-below l h, placed-below ds d (entryOf c d l) (r .tables .in-place l h) (λ y. z (same-below l h ∙ y))));
+        };
+        tables = record {
+          in-place = λ l h. rw (same-below l h) (fit (entryOf c d l) (r .tables .in-place l h));
+          past-volume = λ l h k. reopened-entry l k ∙ r .tables .past-volume l h k;
+          once = λ l k h g e z. r .tables .once l k h g (sym (same-below l h) ∙ e ∙ same-below k g) (λ y. z (same-below l h ∙ y));
+        };
+      }

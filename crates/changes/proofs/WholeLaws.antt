@@ -15,7 +15,7 @@ use Rattle.blocks.specs.Chain.{chain, chainSound, indexOf, named, regionsOf, ac
 use Rattle.blocks.specs.declared.numbers.Physical.{Physical}
 use Rattle.blocks.specs.declared.descriptor.Descriptor.{Descriptor}
 use Rattle.blocks.specs.declared.chain.Regions.{Regions}
-use Rattle.blocks.proofs.ByteLaws.{length-part, length-blockAt}
+use Rattle.blocks.proofs.ByteLaws.{length-blockAt}
 use Rattle.blocks.proofs.NamedLaws.{index-below}
 use Rattle.blocks.proofs.ChainLaws.{cost-least, regions-ok}
 use Rattle.blocks.proofs.DescriptorLaws.{tail-length, block-whole}
@@ -29,10 +29,11 @@ use Rattle.entries.proofs.SetLaws.{table-length, tail-with-length}
 use Rattle.entries.proofs.PutLaws.{put-inside, write-ready}
 use Rattle.calls.specs.Parts.{areaBad, descriptorsOf, snapshotsOf, withName, foundThrough}
 use Rattle.calls.specs.Effect.{snapping, reverting, writeStores, snapStores, revertStores}
-use Rattle.calls.proofs.CardLaws.{card-some, card-found, card-active, card-through, card-inside, card-snapshot, card-snapshot-count}
+use Rattle.calls.proofs.CardLaws.{card-some, card-found, card-active, card-through, card-snapshot, card-snapshot-count, chain-is}
 use Rattle.calls.proofs.Passed.{ReamPassed, WritePassed, SnapPassed, RevertPassed}
 use Rattle.blocks.proofs.StoreLists.{Whole, none, also, whole-append, inside-clearing, inside-copying}
 use Rattle.blocks.specs.declared.descriptor.Format.{Format}
+use Rattle.calls.proofs.ActiveLaws.{active-name}
 
 -- a format
 module _ (c : List ℕ) (format : Format) where
@@ -84,10 +85,6 @@ module _ (c : List ℕ) (d : Descriptor) (m p : Physical) (l : ℕ) (block : Lis
     unfolding writing
     entry-inside = entry-by (eqb (need (d .alpha .0) (Entry m p)) 0) refl
 
-at-name : (c : List ℕ) (d : Descriptor) (p : ℕ) → d ≡ descriptorAt c p → 512 * p + 512 ≤ length c → length (d .name) ≡ 16
-unfolding descriptorAt
-at-name c d p is h = rw is (length-part c (512 * p + 24) 16 (omega arith))
-
 module _ (c : List ℕ) (area : areaBad c ≡ false) (sound : chainSound (chain c) ≡ true) where
   abbrev r : Regions
   r = regionsOf (chain c)
@@ -110,8 +107,8 @@ module _ (c : List ℕ) (area : areaBad c ≡ false) (sound : chainSound (chain 
   pub active-through : Through c (r .starts) (r .count) active
   active-through = card-through c r refl area ok (r .count - 1) (omega (arith, some)) active active-is
 
-  pub active-name : length (active .name) ≡ 16
-  active-name = at-name c active (getD (r .starts) (r .count - 1) 0) active-is (card-inside c r refl area ok (r .count - 1) (omega (arith, some)))
+  called-by : length (active .name) ≡ 16
+  called-by = name-size (active .name) (active-name c (descriptorsOf c) (chain-is (chain c) sound))
 
   active-alpha : 512 * active .alpha .0 + 512 ≤ length c
   active-alpha = through-alpha c (r .starts) (r .count) active active-through
@@ -122,7 +119,7 @@ module _ (c : List ℕ) (area : areaBad c ≡ false) (sound : chainSound (chain 
       let least = cost-least (active .layout) (active .volume) in
       let tail = tail-length c (active .alpha .0) active-alpha in
       whole-append (inside-copying c (active .alpha .0 + 1) (active .beta .0 + 1) (costOf active - 1) (omega (arith, through-beta c (r .starts) (r .count) active active-through)) (omega arith))
-      (also (active .beta .0) _ (block-whole (reopenedOf active) (tailAt c (active .alpha .0)) active-name tail) (omega arith)
+      (also (active .beta .0) _ (block-whole (reopenedOf active) (tailAt c (active .alpha .0)) called-by tail) (omega arith)
       (also (active .alpha .0) _ (block-whole (linkedOf (renamedOf active name) (active .beta)) (tailAt c (active .alpha .0)) (name-size name called) tail) active-alpha none))
 
   revert-inside : (name : List ℕ) → named (snapshotsOf (descriptorsOf c)) name ≡ true → Whole (length c) (reverting c (withName (snapshotsOf (descriptorsOf c)) name) (active .name))
@@ -133,14 +130,14 @@ module _ (c : List ℕ) (area : areaBad c ≡ false) (sound : chainSound (chain 
       let h : indexOf ss name < r .count - 1 = omega (arith, index-below ss name called, card-snapshot-count c r refl area ok) in
       let is : v ≡ descriptorAt c (getD (r .starts) (indexOf ss name) 0) = card-snapshot c r refl area ok (indexOf ss name) h in
       let inside = through-alpha c (r .starts) (r .count) v (card-through c r refl area ok (indexOf ss name) (omega arith) v is) in
-      also (v .alpha .0) _ (block-whole (linkedOf (renamedOf v (active .name)) (physical 0)) (tailAt c (v .alpha .0)) active-name (tail-length c (v .alpha .0) inside)) inside none
+      also (v .alpha .0) _ (block-whole (linkedOf (renamedOf v (active .name)) (physical 0)) (tailAt c (v .alpha .0)) called-by (tail-length c (v .alpha .0) inside)) inside none
 
   module _ (l : ℕ) (block : List ℕ) (long : length block ≡ 512) (below : l < active .volume) where
     write-by : (f : Found) → f ≡ find c (descriptorsOf c) active l → active .beta .0 + need (active .alpha .0) f ≤ blockCount c → Whole (length c) (writing c active f l block)
     unfolding writing blockCount
     write-by (Misplaced h) is room = none
     write-by (Entry m p) is room =
-        entry-inside c active m p l block (write-ready c (r .starts) (r .count) active active-through l block long below (Entry m p) is m p refl) active-name room
+        entry-inside c active m p l block (write-ready c (r .starts) (r .count) active active-through l block long below (Entry m p) is m p refl) called-by room
 
     write-inside : active .beta .0 + need (active .alpha .0) (foundThrough c active l) ≤ blockCount c → Whole (length c) (writing c active (foundThrough c active l) l block)
     write-inside room = write-by (foundThrough c active l) refl room

@@ -31,17 +31,18 @@ use Rattle.calls.specs.Parts.{descriptorsOf, snapshotsOf, foundThrough}
 use Rattle.calls.specs.Check.{Passes}
 use Rattle.calls.specs.Effect.{writeStores}
 use Rattle.calls.proofs.CardLaws.{card-most, chain-is, active-split}
-use Rattle.blocks.proofs.ChangedLaws.{layout-small, member-form}
-use Rattle.blocks.proofs.StoreLists.{Whole, stored-length, stored-other, none-stored, one-stored, not-stored}
-use Rattle.claims.proofs.Inside.{write-whole}
+use Rattle.blocks.proofs.StoreLists.{Whole, stored-length, stored-other, none-stored, one-stored, not-stored, stored-among}
 use Rattle.entries.proofs.LocalLaws.{Region}
-use Rattle.claims.proofs.WrittenChain.{stored-last}
-use Rattle.claims.proofs.WrittenChain.{active-next, active-inside, active-long, active-rise, active-end, active-volume, active-name}
 use Rattle.entries.proofs.FoundLaws.{found-holder, found-value}
-use Rattle.claims.proofs.PassesWrite.{extended-stays, extended-new, write-region, set-table-rules, set-phi-rules, kept-entry, kept-rules}
-use Rattle.claims.proofs.WriteFacts.{WriteFacts}
 use Rattle.entries.proofs.TableLaws.{table-own, table-phi, own-inside, few-tables, under, layout-two, group-below, entry-in, phi-stored, block-entry}
 use Rattle.calls.proofs.Passed.{WritePassed}
+use Rattle.entries.proofs.ExtendedLaws.{extended-stays, extended-new}
+use Rattle.blocks.proofs.MemberLaws.{layout-small, member-form}
+use Rattle.calls.proofs.ActiveLaws.{active-next, active-inside, active-long, active-rise, active-end, active-volume, active-name}
+use Rattle.entries.proofs.RulesLaws.{set-table-rules, set-phi-rules, kept-entry, kept-rules}
+use Rattle.changes.proofs.WholeLaws.{write-whole}
+use Rattle.changes.proofs.WrittenRules.{write-region}
+use Rattle.changes.proofs.WriteFacts.{WriteFacts}
 
 -- the stores of a write that takes no block, and of one that takes one
 writing-none : (c : List ℕ) (d : Descriptor) (m p : Physical) (l : ℕ) (block : List ℕ) → need (d .alpha .0) (Entry m p) ≡ 0 → writing c d (Entry m p) l block ≡ store (p .0) block ∷ []
@@ -217,7 +218,7 @@ module _ (c : List ℕ) (ds : List Descriptor) (chained : chain c ≡ Sound ds) 
           record {
             to = p .0;
             some = entry-some;
-            bytes = stored-last (length c) (p .0) block [] (none-stored (p .0)) c refl [] whole;
+            bytes = stored-among (length c) (p .0) block [] (none-stored (p .0)) c refl [] whole;
             set = over-entry l (under l (d .volume) below) ∙ entry-is;
             other = λ j h k. over-entry j (under j (d .volume) h);
             kept = λ j h k z. over-other (entryOf c d j) (λ e. k (sym (rules .tables .once l j below h (entry-is ∙ e) entry-set)));
@@ -283,20 +284,20 @@ module _ (c : List ℕ) (ds : List Descriptor) (chained : chain c ≡ Sound ds) 
 
         then-data : blockAt then b ≡ block
         then-data =
-            stored-last (length c) b block (store a head ∷ store (m .0) table ∷ [])
+            stored-among (length c) b block (store a head ∷ store (m .0) table ∷ [])
             (not-stored a head (store (m .0) table ∷ []) b (λ e. omega (arith, e, rise)) (not-stored (m .0) table [] b (λ e. omega (arith, e, table-where .1)) (none-stored b)))
             c refl [] whole
 
         then-head : blockAt then a ≡ head
         then-head =
-            stored-last (length c) a head (store (m .0) table ∷ []) (not-stored (m .0) table [] a (table-where .0) (none-stored a)) c refl (store b block ∷ []) whole
+            stored-among (length c) a head (store (m .0) table ∷ []) (not-stored (m .0) table [] a (table-where .0) (none-stored a)) c refl (store b block ∷ []) whole
 
         then-table : blockAt then (m .0) ≡ table
-        then-table = stored-last (length c) (m .0) table [] (none-stored (m .0)) c refl (store b block ∷ store a head ∷ []) whole
+        then-table = stored-among (length c) (m .0) table [] (none-stored (m .0)) c refl (store b block ∷ store a head ∷ []) whole
 
         -- Phi and the table blocks are as they were
         phi-same : (i : ℕ) → i < 112 → phiAt then x i ≡ phiAt c d i
-        phi-same i h = phi-stored c then x d refl (active-inside c ds chained) then-long then-head x-fits i h
+        phi-same i h = phi-stored c then x d (active-inside c ds chained) (omega (arith, active-inside c ds chained, then-long)) then-head x-fits i h
 
         table-same : (i : ℕ) → i < 112 → tableOf then x i ≡ tableOf c d i
         unfolding tableOf

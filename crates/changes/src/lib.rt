@@ -1,0 +1,1 @@
+// What the calls that store leave of a card: laws, in proofs/. It has no code and no definitions of its own.

@@ -1,0 +1,95 @@
+-- The ledger of a card, by its volumes: which volume has a name, the cells of a volume, and the ledgers of two cards.
+use mathlib.Core.Path.{_≡_, refl, sym, ap, _∙_}
+use mathlib.Core.Bool.{Bool, true, false, _||_}
+use mathlib.Core.List.{List, [], _∷_, _++_}
+use Prim.Native.Nat.{ℕ, zero, suc, _+_, _<_, _≤_}
+use native.Mathlib.Omega.{arith}
+use lib.ListN.{length, getD, take}
+use Rattle.blocks.specs.Pick.{pick, same}
+use Rattle.blocks.specs.Descriptor.{noDescriptor}
+use Rattle.blocks.specs.Chain.{indexOf, named, activeOf}
+use Rattle.blocks.specs.declared.descriptor.Descriptor.{Descriptor}
+use Rattle.blocks.proofs.BoolLaws.{no}
+use Rattle.blocks.proofs.NamedLaws.{named-none, named-cons}
+use Rattle.calls.specs.Parts.{withName, foundThrough, blockFound, descriptorsOf, snapshotsOf}
+use Rattle.claims.specs.Ledger.{Volume, hasVolume, volumeNamed, cellsFrom, volumeOf, volumesOf, volumesBefore, ledgerOf}
+
+other-then : (a b : Bool) → (a || b) ≡ true → a ≡ false → b ≡ true
+other-then true b h e = no (sym e)
+other-then false b h e = h
+
+-- the ledger's volumes
+pub cells-length : (c : List ℕ) (d : Descriptor) (n l : ℕ) → length (cellsFrom c d n l) ≡ n
+unfolding cellsFrom
+cells-length c d zero l = refl
+cells-length c d (suc n) l = ap suc (cells-length c d n (suc l))
+
+cells-at : (c : List ℕ) (d : Descriptor) (n l j : ℕ) → j < n → getD (cellsFrom c d n l) j [] ≡ blockFound c (foundThrough c d (l + j))
+unfolding cellsFrom
+cells-at c d zero l j h = absurd (omega arith)
+cells-at c d (suc n) l zero h = let e : l + 0 ≡ l = omega arith in rw e
+cells-at c d (suc n) l (suc j) h = let e : l + suc j ≡ suc l + j = omega arith in rw e (cells-at c d n (suc l) j (omega arith))
+
+pub cell-of : (c : List ℕ) (d : Descriptor) (l : ℕ) → l < d .volume → getD (volumeOf c d .cells) l [] ≡ blockFound c (foundThrough c d l)
+unfolding volumeOf
+cell-of c d l h = let e : 0 + l ≡ l = omega arith in cells-at c d (d .volume) 0 l h ∙ ap (λ (n : ℕ). blockFound c (foundThrough c d n)) e
+
+pub volumes-length : (c : List ℕ) (ds : List Descriptor) → length (volumesOf c ds) ≡ length ds
+unfolding volumesOf
+volumes-length c [] = refl
+volumes-length c (d ∷ ds) = ap suc (volumes-length c ds)
+
+pub has-volume : (c : List ℕ) (ds : List Descriptor) (name : List ℕ) → hasVolume (volumesOf c ds) name ≡ named ds name
+unfolding hasVolume volumesOf volumeOf
+has-volume c [] name = sym (named-none name)
+has-volume c (d ∷ ds) name = ap (λ (b : Bool). same (d .name) name || b) (has-volume c ds name) ∙ sym (named-cons d ds name)
+
+which-volume : (c : List ℕ) (d : Descriptor) (ds : List Descriptor) (i : ℕ) (v : Volume) (b : Bool) → (b ≡ false → v ≡ volumeOf c (getD ds i noDescriptor))
+    → pick b (volumeOf c d) v ≡ volumeOf c (getD (d ∷ ds) (pick b 0 (suc i)) noDescriptor)
+which-volume c d ds i v true h = refl
+which-volume c d ds i v false h = h refl
+
+pub volume-named : (c : List ℕ) (ds : List Descriptor) (name : List ℕ) → named ds name ≡ true → volumeNamed (volumesOf c ds) name ≡ volumeOf c (withName ds name)
+unfolding volumeNamed volumesOf indexOf volumeOf
+volume-named c [] name h = no (sym (named-none name) ∙ h)
+volume-named c (d ∷ ds) name h =
+    which-volume c d ds (indexOf ds name) (volumeNamed (volumesOf c ds) name) (same (d .name) name)
+    (λ e. volume-named c ds name (other-then (same (d .name) name) (named ds name) (sym (named-cons d ds name) ∙ h) e))
+
+-- the volumes before a name are those of the descriptors before it
+before-by : (c : List ℕ) (d : Descriptor) (ds : List Descriptor) (name : List ℕ) (vs : List Volume) (b : Bool) → vs ≡ volumesOf c (take (indexOf ds name) ds)
+    → pick b [] (volumeOf c d ∷ vs) ≡ volumesOf c (take (pick b 0 (suc (indexOf ds name))) (d ∷ ds))
+unfolding volumesOf
+before-by c d ds name vs true h = refl
+before-by c d ds name vs false h = ap (λ (xs : List Volume). volumeOf c d ∷ xs) h
+
+pub volumes-before : (c : List ℕ) (ds : List Descriptor) (name : List ℕ) → volumesBefore (volumesOf c ds) name ≡ volumesOf c (take (indexOf ds name) ds)
+unfolding volumesBefore volumesOf volumeOf indexOf
+volumes-before c [] name = refl
+volumes-before c (d ∷ ds) name = before-by c d ds name (volumesBefore (volumesOf c ds) name) (same (d .name) name) (volumes-before c ds name)
+
+pub volumes-append : (c : List ℕ) (xs ys : List Descriptor) → volumesOf c (xs ++ ys) ≡ volumesOf c xs ++ volumesOf c ys
+unfolding volumesOf
+volumes-append c [] ys = refl
+volumes-append c (x ∷ xs) ys = ap (λ (vs : List Volume). volumeOf c x ∷ vs) (volumes-append c xs ys)
+
+-- the same cells of two cards, each through its descriptor
+pub cells-same : (s t : List ℕ) (d e : Descriptor) (n l : ℕ) → ((j : ℕ) → l ≤ j → j < l + n → blockFound t (foundThrough t e j) ≡ blockFound s (foundThrough s d j)) → cellsFrom t e n l ≡ cellsFrom s d n l
+unfolding cellsFrom
+cells-same s t d e zero l h = refl
+cells-same s t d e (suc n) l h = rw (h l (omega arith) (omega arith), cells-same s t d e n (suc l) (λ j a b. h j (omega arith) (omega arith)))
+
+pub volumes-same : (s t : List ℕ) (ds : List Descriptor)
+    → ((i : ℕ) → i < length ds → (j : ℕ) → j < getD ds i noDescriptor .volume → blockFound t (foundThrough t (getD ds i noDescriptor) j) ≡ blockFound s (foundThrough s (getD ds i noDescriptor) j))
+    → volumesOf t ds ≡ volumesOf s ds
+unfolding volumesOf volumeOf
+volumes-same s t [] h = refl
+volumes-same s t (d ∷ ds) h =
+    rw (cells-same s t d d (d .volume) 0 (λ j a b. h 0 (omega arith) j (omega arith)), volumes-same s t ds (λ i a j b. h (suc i) (omega arith) j b))
+
+-- a card's ledger by the snapshots and the active descriptor of its chain
+pub ledger-parts : (t : List ℕ) (ss : List Descriptor) (d : Descriptor) → snapshotsOf (descriptorsOf t) ≡ ss → activeOf (descriptorsOf t) ≡ d → ledgerOf t ≡ record { snapshots = volumesOf t ss; active = volumeOf t d }
+unfolding ledgerOf
+ledger-parts t ss d a b =
+    ap (λ (y : List Descriptor). record { snapshots = volumesOf t y; active = volumeOf t (activeOf (descriptorsOf t)) }) a
+    ∙ ap (λ (y : Descriptor). record { snapshots = volumesOf t ss; active = volumeOf t y }) b
