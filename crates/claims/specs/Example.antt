@@ -16,8 +16,8 @@ abbrev pub exampleCard : ℕ → List ℕ
 exampleCard layout = formatted (area 16) (asFormat layout 200 fs)
 
 -- 512 bytes of a value, as a write of that fill lends
-abbrev pub fill : ℕ → List ℕ
-fill value = replicate blockSize value
+abbrev pub filledBlock : ℕ → List ℕ
+filledBlock value = replicate blockSize value
 
 -- three lent records
 abbrev pub blank : Record
@@ -28,9 +28,9 @@ lentRecords = replicate 3 blank
 
 unfoldable pub exampleCalls : List Call
 exampleCalls =
-    Write 5 (fill 7)
+    Write 5 (filledBlock 7)
     ∷ Snap mon
-    ∷ Write 5 (fill 9)
+    ∷ Write 5 (filledBlock 9)
     ∷ Read Snapshot mon 5 lent
     ∷ Read Active noName 5 lent
     ∷ Listing lentRecords
@@ -49,13 +49,13 @@ yields l = record { answer = accepted; lent = l; given = NoneGiven }
 -- each is accepted; the reads give 7, 9 and, after the revert, 7; the first region ends at beta, the second at beta′
 unfoldable pub exampleOutcomes : ℕ → ℕ → List Outcome
 exampleOutcomes beta beta′ =
-    yields (Block (fill 7))
+    yields (Block (filledBlock 7))
     ∷ yields None
-    ∷ yields (Block (fill 9))
-    ∷ yields (Block (fill 7))
-    ∷ yields (Block (fill 9))
+    ∷ yields (Block (filledBlock 9))
+    ∷ yields (Block (filledBlock 7))
+    ∷ yields (Block (filledBlock 9))
     ∷ yields (Records (listedAs mon 0 beta beta ∷ listedAs fs beta beta′ 0 ∷ blank ∷ []))
     ∷ yields None
-    ∷ yields (Block (fill 7))
+    ∷ yields (Block (filledBlock 7))
     ∷ yields (Records (listedAs fs 0 beta 0 ∷ blank ∷ blank ∷ []))
     ∷ []

@@ -61,8 +61,8 @@ abbrev pub wed : List ℕ
 wed = padded (119 ∷ 101 ∷ 100 ∷ [])
 
 -- one block: a descriptor that would be sound
-abbrev pub single : List ℕ
-single = bare (descriptor 2 1 0 1 0 fs)
+abbrev pub oneBlock : List ℕ
+oneBlock = bare (descriptor 2 1 0 1 0 fs)
 
 -- two blocks: a descriptor with its layout, L and name, then zeros; layout 2, L 1: a descriptor with its beta and next, then zeros
 abbrev pub first : ℕ → ℕ → List ℕ → List ℕ
@@ -204,12 +204,12 @@ refusing card call number place block = record { card = card; call = call; answe
 unfoldable pub areaEdges : List Value
 areaEdges =
     -- one block, with each call but a read, which stands below
-    only single (Ream (asFormat 2 1 fs)) 1 0
-    ∷ only single (Write 0 ones) 1 0
-    ∷ only single (Snap mon) 1 0
-    ∷ only single (Revert mon) 1 0
-    ∷ only single (Listing (blank ∷ [])) 1 0
-    ∷ only single Check 1 0
+    only oneBlock (Ream (asFormat 2 1 fs)) 1 0
+    ∷ only oneBlock (Write 0 ones) 1 0
+    ∷ only oneBlock (Snap mon) 1 0
+    ∷ only oneBlock (Revert mon) 1 0
+    ∷ only oneBlock (Listing (blank ∷ [])) 1 0
+    ∷ only oneBlock Check 1 0
     -- no byte; one byte less than two blocks; two blocks and one byte; two blocks and a half
     ∷ only [] (Listing []) 1 0
     ∷ only (replicate 1023 0) (Listing []) 1 0
@@ -226,7 +226,7 @@ refusedEdges =
     -- a refused read leaves the caller's block as it was: 8, 6, 1, 4, 7, 10, and 9 with 511 bytes
     refusing (one 2 0) (reading 1) 8 0 lent
     ∷ refusing (area 2) (reading 0) 6 0 lent
-    ∷ refusing single (reading 0) 1 0 lent
+    ∷ refusing oneBlock (reading 0) 1 0 lent
     ∷ refusing (one 2 0) (readingFrom noName 0) 4 0 lent
     ∷ refusing (one 2 0) (readingFrom mon 0) 7 0 lent
     ∷ refusing (four 1 3 1 3 0) (reading 0) 10 1 lent

@@ -1,3 +1,3 @@
 // Entry finding: the code that knows where table entries stand.
-pub mod place; // which blocks an entry may name
+mod place; // which blocks an entry may name
 pub mod find; // the entry of a logical block

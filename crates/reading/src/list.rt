@@ -18,7 +18,7 @@ ghost use Rattle.calls.specs.Listing.{fillingWith, fillingBy, planOf, recordBy,
 ghost use Rattle.blocks.specs.Bytes.{blockSize};
 
 // What has this answer and fills so many records.
-fn fills(number: u32, place: u32, count: usize) -> Filling
+fn filling_of(number: u32, place: u32, count: usize) -> Filling
     ensures { λ r. ⌜ r ≡ fillingWith number place count ⌝ }
 {
     Filling {
@@ -32,12 +32,12 @@ pub fn plan_filling(sound: bool, place: Physical, count: usize, room: usize) -> 
     ensures { λ r. ⌜ r ≡ fillingBy sound (place .0) count room ⌝ }
 {
     if !sound {
-        return fills(6, place.0, 0);
+        return filling_of(6, place.0, 0);
     }
     if room < count {
-        return fills(14, 0, 0);
+        return filling_of(14, 0, 0);
     }
-    fills(0, 0, count)
+    filling_of(0, 0, count)
 }
 
 // All tests of a listing into `room` records.

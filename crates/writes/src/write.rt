@@ -17,7 +17,14 @@ ghost use Rattle.calls.specs.Effect.{written};
 ghost use Rattle.calls.specs.Step.{step, done};
 
 // Writes the block through the entry `p` of table block `m`, if there is room.
-fn put(card: &mut [u8], d: Descriptor, m: Physical, p: Physical, l: Logical, block: &[u8]) -> Answer
+fn write_found(
+    card: &mut [u8],
+    d: Descriptor,
+    m: Physical,
+    p: Physical,
+    l: Logical,
+    block: &[u8],
+) -> Answer
     requires { ⌜ WriteReady (now card) d (m .0) (p .0) (l .0) (now block) ⌝ }
     ensures { λ r. ⌜ record { answer = r; card = now (card .exit) } ≡ written (now (card .entry)) d (Found.Entry m p) (l .0) (now (block .entry)) ⌝ }
 {
@@ -56,6 +63,6 @@ pub fn write(card: &mut [u8], l: Logical, block: &[u8]) -> Answer
             number: 10,
             place: h.0,
         },
-        Found::Entry(m, p) => put(card, d, m, p, l, block),
+        Found::Entry(m, p) => write_found(card, d, m, p, l, block),
     }
 }

@@ -41,7 +41,9 @@ returns-4 c = step-refused _ _ _ _ (search read-6) refl
 past-chain : (c : tie.Else4) → let s = c .before .before .before .before .before .before .before .before .before .before .before .args in
     Reached (Read (s .target) (s .name) (s .l .0) (s .out .now)) (s .card .now) (drop 3 (readRows (s .card .now) (s .target) (s .name) (s .l .0) (s .out .now))) (c .before .before .walk-chain .result)
 past-chain c =
-    read-reached _ _ _ _ _ _ (c .before .before .before .before .before .before .before .before .admit .ensures) (c .before .before .before .before .before .before .if1 .left) _ (c .before .before .before .before .before .is-unnamed .ensures) (c .before .before .before .before .if2 .left) (c .before .before .before .if3 .left) _ (c .before .before .walk-chain .ensures) (c .if4 .left)
+    let w = c .before .before in
+    let u = w .before .before in
+    read-reached _ _ _ _ _ _ (u .before .before .before .before .admit .ensures) (u .before .before .if1 .left) _ (u .before .is-unnamed .ensures) (u .if2 .left) (w .before .if3 .left) _ (w .walk-chain .ensures) (c .if4 .left)
 
 target-index-requires : tie.Need-target-index-requires
 target-index-requires c κs =

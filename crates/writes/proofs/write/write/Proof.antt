@@ -71,8 +71,8 @@ enum-known-h c = search needs
 enum-known-m : tie.Need-enum-known-m
 enum-known-m c = search needs
 
-put-requires : tie.Need-put-requires
-put-requires c κs =
+write-found-requires : tie.Need-write-found-requires
+write-found-requires c κs =
     let f = c .before .before .m .given .0 in
     let e = c .before .before .before .before .before .before .before .before .before .before .before .before .before in
     write-ready _ _ _ _ (through e) _ _ (whole e) (c .before .before .before .before .before .before .before .before .before .if4 .left) _ (c .before .before .before .before .find .ensures) (f .0) (f .1 .0) (cc)
@@ -82,7 +82,10 @@ same-length-5 c = search needs
 
 returns-5 : tie.Need-returns-5
 unfolding lentOf
-returns-5 c = step-refused _ _ _ _ (write-10 _ _ _ _ (past-chain (c .before .before .before .before .before .before .before .before .before .before .before .before)) (c .before .before .before .before .before .before .before .before .if4 .left) _ (c .before .before .before .find .ensures) (c .before .h .given .0 .0) (cc)) refl
+returns-5 c =
+    let w = c .before .before .before in
+    let e = w .before .before .before .before .before in
+    step-refused _ _ _ _ (write-10 _ _ _ _ (past-chain (e .before .before .before .before)) (e .if4 .left) _ (w .find .ensures) (c .before .h .given .0 .0) (cc)) refl
 
 same-length-6 : tie.Need-same-length-6
 same-length-6 c = search needs
@@ -90,7 +93,9 @@ same-length-6 c = search needs
 returns-6 : tie.Need-returns-6
 returns-6 c =
     let f = c .before .before .before .before .before .m .given .0 in
-    write-done _ _ _ _ (past-chain (c .before .before .before .before .before .before .before .before .before .before .before .before .before .before .before .before)) (c .before .before .before .before .before .before .before .before .before .before .before .before .if4 .left) _ (c .before .before .before .before .before .before .before .find .ensures) (f .0) (f .1 .0) (cc) _ _ (c .before .before .put .ensures)
+    let w = c .before .before .before .before .before .before .before in
+    let e = w .before .before .before .before .before in
+    write-done _ _ _ _ (past-chain (e .before .before .before .before)) (e .if4 .left) _ (w .find .ensures) (f .0) (f .1 .0) (cc) _ _ (c .before .before .write-found .ensures)
 
 pub write-spec : {M : Type 1} → statement M
 write-spec =
@@ -109,7 +114,7 @@ write-spec =
     find-requires
     enum-known-h
     enum-known-m
-    put-requires
+    write-found-requires
     same-length-5
     returns-5
     same-length-6

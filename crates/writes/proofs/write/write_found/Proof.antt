@@ -1,9 +1,9 @@
--- `put` meets its contract, by the test for room.
+-- `write_found` meets its contract, by the test for room.
 use native.Mathlib.Omega.{arith}
 use Rattle.calls.proofs.WriteLaws.{put-11, put-0}
 use borrow.Author.Needs.{needs}
-use Rattle.writes.proofs.write.put.Statement.{statement}
-use Rattle.writes.proofs.write.put.Tie as tie
+use Rattle.writes.proofs.write.write_found.Statement.{statement}
+use Rattle.writes.proofs.write.write_found.Tie as tie
 
 need-requires : tie.Need-need-requires
 need-requires c κs = search needs
@@ -32,8 +32,8 @@ returns-2 c =
     let t = k .before .before in
     put-0 _ _ _ _ _ _ (t .before .need .ensures) (omega (arith, t .if1 .left)) _ (k .put-block .ensures)
 
-pub put-spec : {M : Type 1} → statement M
-put-spec =
+pub write-found-spec : {M : Type 1} → statement M
+write-found-spec =
     tie.close
     (tie.spec
     need-requires
