@@ -1,4 +1,2 @@
--- The theorems about these values; FastCheck is how the answers of check are computed in them.
-pub mod FastCheck
+-- The theorems over the tables of values.
 pub mod Edges
-pub mod Cards

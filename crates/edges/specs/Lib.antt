@@ -1,3 +1,2 @@
--- Values that hold the definitions to document 01, in reading order.
+-- Values that hold the definitions to document 01, at the edges of its rules.
 pub mod Edges
-pub mod Cards

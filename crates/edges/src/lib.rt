@@ -1,1 +1,1 @@
-// Values that hold the definitions of the calls to document 01: definitions in specs/, proofs in proofs/. It has no code of its own.
+// Values at the edges of document 01's rules: definitions in specs/, theorems in proofs/. It has no code of its own.

@@ -1,7 +1,7 @@
 -- Whole cards after a call: what the definitions compute is what the tables say.
 use mathlib.Core.Path.{_≡_, refl}
 use mathlib.Core.List.{map}
-use Rattle.edges.specs.Cards.{NumberBytes, DescriptorBytes, counting, said, left, writes1, writes2, snaps, reverts}
+use Rattle.cards.specs.Cards.{NumberBytes, DescriptorBytes, counting, said, left, writes1, writes2, snaps, reverts}
 use Rattle.claims.specs.Claims.{lentAtEntry}
 use Rattle.claims.proofs.Running.{running}
 

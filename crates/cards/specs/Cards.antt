@@ -11,7 +11,7 @@ use Rattle.calls.specs.Call.{Call, Write, Snap, Revert, accepted}
 use Rattle.calls.specs.Step.{Done, step, done}
 use Rattle.claims.specs.Claims.{lentAtEntry}
 use Rattle.claims.specs.Bench.{fs, mon, tue, lent}
-use Rattle.edges.specs.Edges.{descriptor, bare, withPhi, table}
+use Rattle.samples.specs.Samples.{descriptor, bare, withPhi, table}
 
 -- A stored number has its lowest byte first.
 unfoldable pub NumberBytes : Type 0

@@ -1,0 +1,2 @@
+-- The theorems over whole cards.
+pub mod Cards

@@ -1,0 +1,2 @@
+-- The theorem over the table of values.
+pub mod Faults

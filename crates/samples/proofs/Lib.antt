@@ -1,0 +1,3 @@
+-- How the computed tables are proved.
+pub mod FastCheck
+pub mod AsSaid

@@ -1,0 +1,2 @@
+-- How the computed tables are written.
+pub mod Samples
