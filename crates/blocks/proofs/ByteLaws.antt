@@ -123,9 +123,6 @@ module _ (c : List ℕ) (at : ℕ) (d : List ℕ) (fits : at + length d ≤ leng
   pub part-before : (b n : ℕ) → b + n ≤ at → part (splice c at d) b n ≡ part c b n
   part-before b n h = part-ext (splice c at d) c b n (length-splice c at d fits) (λ i l m. splice-before i (omega arith))
 
-  pub part-after : (b n : ℕ) → at + length d ≤ b → part (splice c at d) b n ≡ part c b n
-  part-after b n h = part-ext (splice c at d) c b n (length-splice c at d fits) (λ i l m. splice-after i (omega arith))
-
   -- inside what was put in, they are those of what was put in
   pub u32-within : (k : ℕ) → k + 4 ≤ length d → u32At (splice c at d) (at + k) ≡ u32At d k
   unfolding u32At
@@ -373,3 +370,8 @@ zeros-at (suc n) (suc k) = zeros-at n k
 pub zero-number : (n k : ℕ) → u32At (replicate n 0) k ≡ 0
 unfolding u32At
 zero-number n k = rw (zeros-at n k, zeros-at n (k + 1), zeros-at n (k + 2), zeros-at n (k + 3))
+
+-- a block below where two cards are equal
+pub taken-block : (s : List ℕ) (b p : ℕ) → p < b → 512 * b ≤ length s → blockAt s p ≡ part (take (512 * b) s) (512 * p) 512
+unfolding blockAt
+taken-block s b p h l = let e : 0 + 512 * p ≡ 512 * p = omega arith in sym (part-part s 0 (512 * b) (512 * p) 512 (omega arith) (omega arith) ∙ ap (λ (n : ℕ). part s n 512) e)

@@ -29,7 +29,7 @@ pub layout-small : (l : ℕ) → (eqb l 1 || eqb l 2) ≡ true → l ≤ 2
 layout-small l h = layout-by l (eqb l 1) (eqb l 2) refl refl h
 
 -- the first region of some ends where the last does, or before
-pub end-upto : {c : List ℕ} {es : List Descriptor} {p : ℕ} {v : Descriptor} {ys : List Descriptor} → Linked c es p (v ∷ ys) → v .beta .0 ≤ activeOf (v ∷ ys) .beta .0
+end-upto : {c : List ℕ} {es : List Descriptor} {p : ℕ} {v : Descriptor} {ys : List Descriptor} → Linked c es p (v ∷ ys) → v .beta .0 ≤ activeOf (v ∷ ys) .beta .0
 end-upto {c = c} {es = es} {p = p} {v = v} {ys = ys} l =
     omega (arith, end-from p v ys, linked-rise l 1 (length (v ∷ ys)) (omega arith) (omega arith), region-start-suc p v ys 0, region-start-zero (v .beta .0) ys)
 

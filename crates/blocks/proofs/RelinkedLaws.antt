@@ -67,3 +67,12 @@ module _ (s t : List ℕ) (long : length s ≡ length t) where
         rw (← x-is)
         (more (is ∙ kept-descriptor p l) (sym (kept-sound es p l) ∙ ok) z
         (relinked rest xs k (rw (append-snoc es e xs) (rw x-is new))))
+
+-- a later region starts where an earlier one ends, or after
+pub beta-before : {c : List ℕ} {es : List Descriptor} {p : ℕ} {ds : List Descriptor} → Linked c es p ds → (v : Descriptor) (us : List Descriptor) (u : Descriptor) (ws : List Descriptor) → ds ≡ v ∷ (us ++ (u ∷ ws))
+    → v .beta .0 ≤ u .alpha .0
+beta-before (last is ok z) v us u ws q = absurd (omega (arith, ap length q, length-append us (u ∷ ws)))
+beta-before {c = c} (more {es = es} {p = p} {d = e} {ds = ds} is ok z rest) v us u ws q =
+    let k : ds ≡ us ++ (u ∷ ws) = cc in
+    let x : e ≡ v = cc in
+    omega (arith, later-alpha c rest us u ws k, sound-next c es p e is ok z, ap (λ (y : Descriptor). y .beta .0) x)

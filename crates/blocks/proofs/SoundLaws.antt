@@ -119,3 +119,8 @@ module _ (c : List ℕ) (p : ℕ) (d : Descriptor) (ok : formOk c p d ≡ true) 
 
   pub form-layout : (eqb (d .layout) 1 || eqb (d .layout) 2) ≡ true
   form-layout = and-right of-mark of-layout (and-left (of-mark && of-layout) (ltb 0 (d .volume)) form-to-least)
+
+-- in layout 2 soundness asks nothing of Phi
+pub phi-any : (layout : ℕ) (bytes : List ℕ) → eqb layout 1 ≡ false → phiOk layout bytes ≡ true
+unfolding phiOk
+phi-any layout bytes e = rw e

@@ -144,10 +144,13 @@ pub one-stored : (p : ℕ) (b : List ℕ) (q : ℕ) → (p ≡ q → ⊥) → is
 unfolding isStored
 one-stored p b q h = rw (ne-eqb p q h)
 
-pub copies-stored : (c : List ℕ) (from p n q : ℕ) → q < p → isStored (copying c from p n) q ≡ false
+copies-outside : (c : List ℕ) (from p n q : ℕ) → (p ≤ q → q < p + n → ⊥) → isStored (copying c from p n) q ≡ false
 unfolding isStored copying
-copies-stored c from p zero q h = refl
-copies-stored c from p (suc n) q h = rw (ne-eqb p q (omega arith)) (copies-stored c (suc from) (suc p) n q (omega arith))
+copies-outside c from p zero q out = refl
+copies-outside c from p (suc n) q out = rw (ne-eqb p q (λ e. out (omega arith) (omega arith))) (copies-outside c (suc from) (suc p) n q (λ i l. out (omega arith) (omega arith)))
+
+pub copies-stored : (c : List ℕ) (from p n q : ℕ) → q < p → isStored (copying c from p n) q ≡ false
+copies-stored c from p n q h = copies-outside c from p n q (λ i l. omega arith)
 
 -- a block that the first store does not name, nor the others
 pub not-stored : (p : ℕ) (b : List ℕ) (ss : List Store) (q : ℕ) → (p ≡ q → ⊥) → isStored ss q ≡ false → isStored (store p b ∷ ss) q ≡ false
@@ -162,34 +165,22 @@ pair-stored x y f g q h k = not-stored x f (store y g ∷ []) q h (one-stored y 
 whole-parts : {n : ℕ} {s : Store} {ss : List Store} → Whole n (s ∷ ss) → (length (s .bytes) ≡ 512) × (512 * s .at + 512 ≤ n) × Whole n ss
 whole-parts (also p b w i ss) = (w, i, ss)
 
--- the last store to block p decides what it holds
-module _ (n : ℕ) (p : ℕ) (b : List ℕ) (ys : List Store) (after : isStored ys p ≡ false) where
-  pub stored-among : (c : List ℕ) → length c ≡ n → (xs : List Store) → Whole n (xs ++ (store p b ∷ ys)) → blockAt (storeAll c (xs ++ (store p b ∷ ys))) p ≡ b
-  unfolding storeAll
-  stored-among c e [] w =
-      let h = whole-parts w in
-      let i : 512 * p + 512 ≤ length c = omega (arith, h .1) in
-      stored-other n (storeBlock c p b) (store-length c p b (h .0) i ∙ e) (h .2) p after ∙ store-same c p b (h .0) i
-  stored-among c e (x ∷ xs) w =
-      let h = whole-parts w in
-      let i : 512 * x .at + 512 ≤ length c = omega (arith, h .1) in
-      stored-among (storeBlock c (x .at) (x .bytes)) (store-length c (x .at) (x .bytes) (h .0) i ∙ e) xs (h .2)
+whole-split : {n : ℕ} (xs : List Store) {ys : List Store} → Whole n (xs ++ ys) → Whole n xs × Whole n ys
+whole-split [] w = (none, w)
+whole-split (x ∷ xs) (also p b l i w) = let r = whole-split xs w in (also p b l i (r .0), r .1)
+
+-- of a list of whole-block stores the last one to block p decides what it holds
+pub stored-among : (n p : ℕ) (b : List ℕ) (ys : List Store) → isStored ys p ≡ false → (c : List ℕ) → length c ≡ n → (xs : List Store) → Whole n (xs ++ (store p b ∷ ys))
+    → blockAt (storeAll c (xs ++ (store p b ∷ ys))) p ≡ b
+stored-among n p b ys after c e xs w =
+    let r = whole-split xs w in
+    let h = whole-parts (r .1) in
+    stored-last n c e (r .0) p b (h .0) (h .1) (h .2) after
 
 -- copies of blocks: the others stay, and each copy is its block
 module _ (c : List ℕ) where
-  pub copied-length : (x : List ℕ) → length x ≡ length c → (from to k : ℕ) → from ≤ to → 512 * (to + k) ≤ length c → length (storeAll x (copying c from to k)) ≡ length c
-  unfolding copying storeAll
-  copied-length x e from to zero f h = e
-  copied-length x e from to (suc k) f h =
-      copied-length (storeBlock x to (blockAt c from)) (store-length x to (blockAt c from) (length-blockAt c from (omega arith)) (omega arith) ∙ e) (suc from) (suc to) k (omega arith) (omega arith)
-
   pub copied-out : (x : List ℕ) → length x ≡ length c → (from to k : ℕ) → from ≤ to → 512 * (to + k) ≤ length c → (p : ℕ) → (to ≤ p → p < to + k → ⊥) → blockAt (storeAll x (copying c from to k)) p ≡ blockAt x p
-  unfolding copying storeAll
-  copied-out x e from to zero f h p out = refl
-  copied-out x e from to (suc k) f h p out =
-      copied-out (storeBlock x to (blockAt c from)) (store-length x to (blockAt c from) (length-blockAt c from (omega arith)) (omega arith) ∙ e) (suc from) (suc to) k (omega arith) (omega arith) p
-      (λ i j. out (omega arith) (omega arith))
-      ∙ store-other x to (blockAt c from) (length-blockAt c from (omega arith)) (omega arith) p (λ q. out (omega arith) (omega arith))
+  copied-out x e from to k f h p out = stored-other (length c) x e (inside-copying c from to k f h) p (copies-outside c from to k p out)
 
   pub copied-in : (x : List ℕ) → length x ≡ length c → (from to k : ℕ) → from ≤ to → 512 * (to + k) ≤ length c → (p : ℕ) → to ≤ p → p < to + k → (z : Bool) → eqb p to ≡ z
       → blockAt (storeAll x (copying c from to k)) p ≡ blockAt c (from + (p - to))
@@ -209,3 +200,13 @@ module _ (c : List ℕ) where
       copied-in (storeBlock x to (blockAt c from)) (store-length x to (blockAt c from) (length-blockAt c from (omega arith)) (omega arith) ∙ e) (suc from) (suc to) k (omega arith) (omega arith) p
       (omega arith) (omega arith) (eqb p (suc to)) refl
       ∙ ap (blockAt c) n
+
+-- copies that take the n blocks from p on
+pub copies-cover : (c : List ℕ) (from p n q : ℕ) → p ≤ q → q < p + n → isStored (copying c from p n) q ≡ true
+unfolding isStored copying
+copies-cover c from p zero q h l = absurd (omega arith)
+copies-cover c from p (suc n) q h l = by (eqb p q) refl (copies-cover c (suc from) (suc p) n q)
+  where
+    by : (z : Bool) → eqb p q ≡ z → (suc p ≤ q → q < suc p + n → isStored (copying c (suc from) (suc p) n) q ≡ true) → (z || isStored (copying c (suc from) (suc p) n) q) ≡ true
+    by true e f = refl
+    by false e f = f (omega (arith, eqb-false p q e)) (omega arith)

@@ -17,7 +17,7 @@ use Rattle.calls.specs.Effect.{recordOf, listed}
 use Rattle.calls.specs.Meaning.{rowsOf, answerOf, lentOf, filledOf}
 use Rattle.calls.specs.Step.{step, isAccepted}
 use Rattle.calls.proofs.StepLaws.{step-answer, step-lent}
-use Rattle.calls.proofs.ListLaws.{list-room}
+use Rattle.calls.proofs.ListingLaws.{list-room}
 use Rattle.boundary.specs.RecordBytes.{recordBytes, recordsBytes, recordIn, recordsIn, lentBytes, roomIn, ListedBytes, listingOf}
 use Rattle.boundary.proofs.RecordLaws.{room-size}
 

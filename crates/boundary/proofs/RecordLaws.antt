@@ -25,7 +25,7 @@ use Rattle.calls.specs.Effect.{noRecord, recordOf, listed}
 use Rattle.calls.specs.Step.{isAccepted}
 use Rattle.calls.specs.Listing.{fillingOf, fillingBy, recordBy}
 use Rattle.calls.proofs.StepLaws.{step-answer}
-use Rattle.calls.proofs.ListLaws.{filling-none, filling-told, list-room, list-inside, list-record, ready-by, regions-some, walk-starts}
+use Rattle.calls.proofs.ListingLaws.{filling-none, filling-told, list-room, list-inside, list-record, ready-by, regions-some, walk-starts}
 use Rattle.boundary.specs.RecordBytes.{recordBytes, recordsBytes, roomIn, listingOf, filledBytesTo, filledBytes}
 use borrow.Author.Tests.{ne-eqb}
 

@@ -2,7 +2,7 @@
 use mathlib.Core.Path.{refl}
 use Rattle.blocks.specs.Bytes.{u32At, le32}
 use Rattle.blocks.specs.Name.{nameByte, nameLength, isText, padded}
-use Rattle.calls.proofs.Running.{stepping}
+use Rattle.calls.proofs.Stepping.{stepping}
 use Rattle.boundary.specs.Exported.{nameIn, targetIn, paddingOf}
 use Rattle.boundary.specs.RecordBytes.{recordBytes, recordsBytes, recordIn, roomIn, listingOf}
 use Rattle.boundary.specs.Values.{NameValues, TargetValues, PaddedValues, PaddingValues, RecordValues, ListingValues}

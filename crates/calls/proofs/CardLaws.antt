@@ -1,7 +1,7 @@
 -- What a call knows of a card once the walk along its chain has found no fault, and of one with a fault.
 use mathlib.Core.Path.{_≡_, refl, sym, ap, _∙_}
 use mathlib.Core.Bool.{Bool, true, false, not, _||_}
-use mathlib.Core.List.{List, [], _∷_, _++_}
+use mathlib.Core.List.{List, [], _∷_, _++_, append-assoc}
 use Prim.Native.Nat.{ℕ, suc, _+_, _*_, _-_, _%_, _≤_, _<_}
 use native.Mathlib.Omega.{arith}
 use lib.ListN.{length, take, getD}
@@ -13,11 +13,12 @@ use Rattle.blocks.specs.Descriptor.{physical, noDescriptor, descriptorAt}
 use Rattle.blocks.specs.Chain.{Chain, Unsound, Sound, chain, chainSound, chainPlace, descriptors, descriptorsAt, startsOf, regionsOf, activeOf}
 use Rattle.blocks.specs.declared.descriptor.Descriptor.{Descriptor}
 use Rattle.blocks.specs.declared.chain.Regions.{Regions}
-use Rattle.blocks.proofs.LinkedLaws.{Linked, chain-linked, regions-sound, starts-take, linked-some, chain-few, starts-full, at-alpha, active-at}
+use Rattle.blocks.proofs.LinkedLaws.{Linked, chain-linked, regions-sound, starts-take, linked-some, chain-few, at-alpha, active-at}
 use Rattle.entries.specs.Through.{Through}
 use Rattle.entries.proofs.RegionLaws.{through-at, through-rising}
 use Rattle.entries.proofs.EntryLaws.{through-alpha}
 use Rattle.calls.specs.Parts.{areaBad, snapshotsOf}
+use Rattle.blocks.proofs.ChainLaws.{active-snoc}
 
 -- all but the last of a list
 pub snapshots-take : (d : Descriptor) (ds : List Descriptor) → snapshotsOf (d ∷ ds) ≡ take (length ds) (d ∷ ds)
@@ -95,9 +96,6 @@ module _ (c : List ℕ) (r : Regions) (is : r ≡ regionsOf (chain c)) where
     pub card-few : r .count ≤ 256
     card-few = omega (arith, chain-few c ds (regions-are .0), card-count)
 
-    pub card-starts : length (r .starts) ≡ 257
-    card-starts = ap length (regions-are .2) ∙ starts-full ds (omega (arith, card-few, card-count))
-
     pub card-some : 0 < r .count
     card-some = omega (arith, linked-some linked, card-count)
 
@@ -174,3 +172,17 @@ unfolding snapshotsOf
 snapshots-snoc [] e = refl
 snapshots-snoc (x ∷ []) e = refl
 snapshots-snoc (x ∷ y ∷ xs) e = ap (λ (zs : List Descriptor). x ∷ zs) (snapshots-snoc (y ∷ xs) e)
+
+-- the parts of a chain with v before its last descriptor
+module _ (xs : List Descriptor) (v : Descriptor) (rest : List Descriptor) (some : 0 < length rest) where
+  rest-is : rest ≡ snapshotsOf rest ++ (activeOf rest ∷ [])
+  rest-is = active-split rest some
+
+  whole-is : xs ++ (v ∷ rest) ≡ (xs ++ (v ∷ snapshotsOf rest)) ++ (activeOf rest ∷ [])
+  whole-is = ap (λ (zs : List Descriptor). xs ++ (v ∷ zs)) rest-is ∙ sym (append-assoc xs (v ∷ snapshotsOf rest) (activeOf rest ∷ []))
+
+  pub snapshots-are : snapshotsOf (xs ++ (v ∷ rest)) ≡ xs ++ (v ∷ snapshotsOf rest)
+  snapshots-are = ap snapshotsOf whole-is ∙ snapshots-snoc (xs ++ (v ∷ snapshotsOf rest)) (activeOf rest)
+
+  pub active-is : activeOf (xs ++ (v ∷ rest)) ≡ activeOf rest
+  active-is = ap activeOf whole-is ∙ active-snoc (xs ++ (v ∷ snapshotsOf rest)) (activeOf rest)

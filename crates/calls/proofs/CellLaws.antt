@@ -45,7 +45,7 @@ module _ (c : List ℕ) (ds : List Descriptor) (d : Descriptor) (layout : (eqb (
   unfolding blockFound
   cell-rules = ap (blockFound c) (rules-find c ds d layout r l h)
 
-  pub found-rules : isMisplaced (find c ds d l) ≡ false
+  found-rules : isMisplaced (find c ds d l) ≡ false
   unfolding isMisplaced
   found-rules = ap isMisplaced (rules-find c ds d layout r l h)
 

@@ -1,5 +1,5 @@
 -- Laws of the definitions of the calls, which the proofs of the calls and the theorems cite.
-pub mod Running
+pub mod Stepping
 pub mod RowLaws
 pub mod Passed
 pub mod StepLaws
@@ -11,5 +11,5 @@ pub mod SnapLaws
 pub mod CheckCardLaws
 pub mod ReadLaws
 pub mod WriteLaws
-pub mod ListLaws
+pub mod ListingLaws
 pub mod CellLaws

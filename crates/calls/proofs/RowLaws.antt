@@ -264,9 +264,6 @@ module _ (rs : List Row) (c : List ℕ) (name : List ℕ) (a : Answer) (asked : 
     pub named-6 : not (r .sound) ≡ true → firstRow (admission c ++ (nameRow name ∷ chainRow c ∷ rs)) ≡ answer 6 (r .place .0)
     named-6 h = to-chain ∙ chain-given _ c r walked h
 
-    pub named-passed : not (r .sound) ≡ false → firstRow (admission c ++ (nameRow name ∷ chainRow c ∷ rs)) ≡ firstRow rs
-    named-passed h = to-chain ∙ chain-passed _ c r walked h
-
 -- a call that has passed all rows before rs, that of the chain among them: r is what the walk found
 pub record Reached (k : Call) (c : List ℕ) (rs : List Row) (r : Regions) : Type 0 where
   pub rest : answerOf k c ≡ firstRow rs

@@ -98,12 +98,12 @@ unfolding after
 after-append [] ys c = refl
 after-append (k ∷ xs) ys c = after-append xs ys (step k c .card)
 
-pub outcomes-append : (xs ys : List Call) (c : List ℕ) → outcomes (xs ++ ys) c ≡ outcomes xs c ++ outcomes ys (after xs c)
+outcomes-append : (xs ys : List Call) (c : List ℕ) → outcomes (xs ++ ys) c ≡ outcomes xs c ++ outcomes ys (after xs c)
 unfolding after outcomes
 outcomes-append [] ys c = refl
 outcomes-append (k ∷ xs) ys c = ap (λ (os : List Outcome). step k c .outcome ∷ os) (outcomes-append xs ys (step k c .card))
 
-pub outcomes-length : (ks : List Call) (c : List ℕ) → length (outcomes ks c) ≡ length ks
+outcomes-length : (ks : List Call) (c : List ℕ) → length (outcomes ks c) ≡ length ks
 unfolding outcomes
 outcomes-length [] c = refl
 outcomes-length (k ∷ ks) c = ap suc (outcomes-length ks (step k c .card))

@@ -135,7 +135,7 @@ module _ (c : List ℕ) (ds : List Descriptor) (chained : chain c ≡ Sound ds) 
       let p : inPlace ds d (tableOf c d i) ≡ true = subst (λ (m : ℕ). inPlace ds d m ≡ true) (sym q) (rules .phi (two-of e) .in-place i h) in
       (placed-not-active ds filled (tableOf c d i) p z, placed-below ds d (tableOf c d i) p z)
 
-  pub table-low : (i : ℕ) → i < n → (tableOf c d i ≡ 0 → ⊥) → (tableOf c d i ≡ d .alpha .0 → ⊥) × (tableOf c d i < d .beta .0)
+  table-low : (i : ℕ) → i < n → (tableOf c d i ≡ 0 → ⊥) → (tableOf c d i ≡ d .alpha .0 → ⊥) × (tableOf c d i < d .beta .0)
   table-low i h z = table-low-by i h z (eqb (d .layout) 1) refl
 
   -- no two groups have one table block
@@ -158,11 +158,11 @@ module _ (c : List ℕ) (ds : List Descriptor) (chained : chain c ≡ Sound ds) 
       let q = table-phi c d i o in
       z (sym e ∙ q ∙ rules .phi (two-of o) .tables-and-entries i j h g (sym q ∙ e))
 
-  pub table-entry : (i j : ℕ) → i < n → j < d .volume → (entryOf c d j ≡ 0 → ⊥) → tableOf c d i ≡ entryOf c d j → ⊥
+  table-entry : (i j : ℕ) → i < n → j < d .volume → (entryOf c d j ≡ 0 → ⊥) → tableOf c d i ≡ entryOf c d j → ⊥
   table-entry i j h g z e = table-entry-by i j h g z e (eqb (d .layout) 1) refl
 
   -- a set entry is below beta and is not the descriptor's block
-  pub entry-low : (j : ℕ) → j < d .volume → (entryOf c d j ≡ 0 → ⊥) → (entryOf c d j ≡ d .alpha .0 → ⊥) × (entryOf c d j < d .beta .0)
+  entry-low : (j : ℕ) → j < d .volume → (entryOf c d j ≡ 0 → ⊥) → (entryOf c d j ≡ d .alpha .0 → ⊥) × (entryOf c d j < d .beta .0)
   entry-low j h z =
       let p = rules .tables .in-place j h in
       (placed-not-active ds filled (entryOf c d j) p z, placed-below ds d (entryOf c d j) p z)

@@ -3,19 +3,18 @@ use mathlib.Core.Path.{_≡_, refl, sym, ap, _∙_, subst}
 use mathlib.Core.Logic.{inl}
 use mathlib.Core.Bool.{Bool, true, false}
 use mathlib.Core.List.{List, [], _∷_, _++_}
-use Prim.Native.Nat.{ℕ, _+_, _*_, _/_, _%_, _≤_, _<_}
+use Prim.Native.Nat.{ℕ, _+_, _/_, _%_, _≤_, _<_}
 use native.Mathlib.Omega.{arith}
 use lib.ListN.{length, length-append}
 use lib.Dec.{eqb}
 use borrow.Author.Tests.{eqb-true, eqb-false}
 use Rattle.blocks.specs.Pick.{pick}
-use Rattle.blocks.specs.Bytes.{le32, part, blockCount, blockAt, zeroBlock, Store, store, storeAll}
+use Rattle.blocks.specs.Bytes.{part, blockCount, blockAt, zeroBlock, Store, store, storeAll}
 use Rattle.blocks.specs.Descriptor.{descriptorAt, tailAt, descriptorBlock, extendedOf, reservedOk, phiOk}
 use Rattle.blocks.specs.Chain.{sound, Sound, chain, activeOf}
 use Rattle.blocks.specs.declared.numbers.Physical.{Physical}
 use Rattle.blocks.specs.declared.descriptor.Descriptor.{Descriptor}
 use Rattle.blocks.proofs.BoolLaws.{no}
-use Rattle.blocks.proofs.ByteLaws.{length-le32, part-before}
 use Rattle.blocks.proofs.DescriptorLaws.{Fits, tail-length, extended-none}
 use Rattle.blocks.proofs.LinkedLaws.{last, chain-linked}
 use Rattle.blocks.proofs.NameLaws.{name-size}
@@ -23,7 +22,7 @@ use Rattle.entries.specs.Entry.{find, tableIsNew, need, tableWith, tailWith, se
 use Rattle.entries.specs.declared.find.Found.{Found}
 use Rattle.entries.specs.declared.find.Found.the-variants.{Misplaced, Entry}
 use Rattle.entries.proofs.EntryLaws.{find-placed, need-more, new-table, old-table, placed-not-active, need-nothing}
-use Rattle.entries.proofs.SetLaws.{tail-with-length}
+use Rattle.entries.proofs.SetLaws.{tail-with-length, put-reserved}
 use Rattle.calls.specs.Parts.{descriptorsOf, snapshotsOf, foundThrough, isMisplaced}
 use Rattle.calls.specs.Effect.{writeStores}
 use Rattle.calls.proofs.CardLaws.{card-most, chain-is}
@@ -35,6 +34,7 @@ use Rattle.entries.proofs.FoundLaws.{found-own, found-placed}
 use Rattle.calls.proofs.Passed.{WritePassed}
 use Rattle.calls.proofs.ActiveLaws.{chain-some, active-last, snapshots-few, active-layout, active-fresh, active-linked, active-next, active-inside, active-long, active-rise, active-volume, active-name, active-reserved, active-phi}
 use Rattle.changes.proofs.WholeLaws.{write-whole}
+use Rattle.blocks.proofs.SoundLaws.{phi-any}
 
 -- stores at or above the active alpha, on a card with a sound chain
 module _ (c : List ℕ) (ds : List Descriptor) (sound-c : chain c ≡ Sound ds) where
@@ -98,24 +98,10 @@ module _ (c : List ℕ) (ds : List Descriptor) (sound-c : chain c ≡ Sound ds) 
       unfolding blockCount
       end = subst (λ (n : ℕ). d .beta .0 + k ≤ n / 512) long room
 
-      pub extended-chain : chain t ≡ Sound (xs ++ (extendedOf d k ∷ []))
+      extended-chain : chain t ≡ Sound (xs ++ (extendedOf d k ∷ []))
       extended-chain =
           changed-last c ds xs d [] sound-c (active-last c ds sound-c) t long kept (extendedOf d k) tail is extended-fits tail-whole refl refl refl (active-name c ds sound-c) reserved phi
           (omega (arith, (active-long c ds sound-c))) end (inl (active-next c ds sound-c)) (active-fresh c ds sound-c) (active-next c ds sound-c) (snapshots-few c ds sound-c)
-
--- a tail with an entry of Phi set
-module _ (tail : List ℕ) (i m : ℕ) (few-entries : i < 112) (tail-whole : length tail ≡ 472) where
-  put-fits : 24 + 4 * i + length (le32 m) ≤ length tail
-  put-fits = omega (arith, length-le32 m)
-
-  pub put-reserved : part (tailWith tail i m) 0 24 ≡ part tail 0 24
-  unfolding tailWith
-  put-reserved = part-before tail (24 + 4 * i) (le32 m) put-fits 0 24 (omega arith)
-
--- in layout 2 soundness asks nothing of Phi
-phi-any : (layout : ℕ) (bytes : List ℕ) → eqb layout 1 ≡ false → phiOk layout bytes ≡ true
-unfolding phiOk
-phi-any layout bytes e = rw e
 
 -- a write through an entry that was found
 module _ (c : List ℕ) (ds : List Descriptor) (sound-c : chain c ≡ Sound ds) (small : blockCount c ≤ 65536) (l : ℕ) (block : List ℕ) (m p : Physical)

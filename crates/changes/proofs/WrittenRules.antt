@@ -93,7 +93,7 @@ module _ (c : List ℕ) (passes : Passes c) (l : ℕ) (block : List ℕ) (ok : W
       }
 
   -- the rules of the snapshots
-  pub snapshot-rules : (j : ℕ) → j < length xs → Rules t (xs ++ (x ∷ [])) (getD ds j noDescriptor)
+  snapshot-rules : (j : ℕ) → j < length xs → Rules t (xs ++ (x ∷ [])) (getD ds j noDescriptor)
   snapshot-rules j h =
       let e = getD ds j noDescriptor in
       let r = snapshot-region j h in

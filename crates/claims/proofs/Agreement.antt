@@ -4,14 +4,14 @@ use mathlib.Core.Bool.{false, not, _&&_}
 use mathlib.Core.List.{List, [], _∷_}
 use Prim.Native.Nat.{ℕ, suc, _+_, _*_, _≤_, _<_}
 use native.Mathlib.Omega.{arith}
-use lib.ListN.{length, take, getD}
+use lib.ListN.{length, getD}
 use lib.Dec.{ltb}
 use borrow.Author.Tests.{leb-false}
-use Rattle.blocks.specs.Bytes.{part, blockCount, blockAt}
+use Rattle.blocks.specs.Bytes.{part, blockCount}
 use Rattle.blocks.specs.Descriptor.{noDescriptor}
 use Rattle.blocks.specs.Chain.{Sound, chain, named, activeOf}
 use Rattle.blocks.specs.declared.descriptor.Descriptor.{Descriptor}
-use Rattle.blocks.proofs.ByteLaws.{part-part, blocks-long}
+use Rattle.blocks.proofs.ByteLaws.{blocks-long, taken-block}
 use Rattle.blocks.proofs.LinkedLaws.{chain-few}
 use Rattle.entries.specs.Entry.{find, need}
 use Rattle.entries.specs.declared.find.Found.{Found}
@@ -33,11 +33,6 @@ use Rattle.calls.proofs.ActiveLaws.{target-member, active-target, chain-starts,
 use Rattle.calls.proofs.CellLaws.{local-block}
 use Rattle.blocks.proofs.StoreLists.{count-kept}
 use Rattle.calls.proofs.RowLaws.{SameRows, then, same-rows}
-
--- a block below where two cards are equal
-taken-block : (s : List ℕ) (b p : ℕ) → p < b → 512 * b ≤ length s → blockAt s p ≡ part (take (512 * b) s) (512 * p) 512
-unfolding blockAt
-taken-block s b p h l = let e : 0 + 512 * p ≡ 512 * p = omega arith in sym (part-part s 0 (512 * b) (512 * p) 512 (omega arith) (omega arith) ∙ ap (λ (n : ℕ). part s n 512) e)
 
 module _ (s t : List ℕ) (agree : Agree s t) where
   abbrev ds : List Descriptor

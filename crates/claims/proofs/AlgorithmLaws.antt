@@ -44,7 +44,7 @@ use Rattle.calls.proofs.CardLaws.{card-through, card-snapshot, card-snapshot-co
 use Rattle.calls.proofs.Passed.{read-passed, write-passed, snap-passed, revert-passed}
 use Rattle.calls.proofs.StepLaws.{accepted-card}
 use Rattle.blocks.proofs.StoredLaws.{form-name}
-use Rattle.blocks.proofs.StoreLists.{stored-append, copied-in, copied-length, copied-out}
+use Rattle.blocks.proofs.StoreLists.{stored-append, copied-in, copied-out, stored-length, inside-copying}
 use Rattle.entries.proofs.TableLaws.{entry-in, phi-in}
 use Rattle.calls.proofs.ActiveLaws.{active-volume, active-name}
 use Rattle.changes.proofs.WholeLaws.{active-through}
@@ -253,7 +253,7 @@ module _ (c : List ℕ) (bytes : AreBytes c) (starts : List ℕ) (count : ℕ) (
   size = cost-least (d .layout) (d .volume)
 
   copy-length : length copy ≡ length c
-  copy-length = copied-length c c refl (d .alpha .0 + 1) (d .beta .0 + 1) (costOf d - 1) (omega (arith, rise)) (omega (arith, size, room))
+  copy-length = stored-length (length c) c refl (inside-copying c (d .alpha .0 + 1) (d .beta .0 + 1) (costOf d - 1) (omega (arith, rise)) (omega (arith, size, room)))
 
   abbrev new-block : List ℕ
   new-block = descriptorBlock (reopenedOf d) (tailAt c (d .alpha .0))

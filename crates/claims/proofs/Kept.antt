@@ -15,7 +15,6 @@ use Rattle.blocks.specs.Descriptor.{physical, renamedOf, linkedOf, extendedOf, 
 use Rattle.blocks.specs.Chain.{Sound, chain, indexOf, named, activeOf}
 use Rattle.blocks.specs.declared.descriptor.Descriptor.{Descriptor}
 use Rattle.blocks.proofs.BoolLaws.{no}
-use Rattle.blocks.proofs.LinkedLaws.{Linked, last, more, sound-next}
 use Rattle.blocks.proofs.ChainLaws.{active-snoc, descriptors-are}
 use Rattle.entries.specs.Entry.{need}
 use Rattle.calls.specs.Call.{Call}
@@ -23,14 +22,14 @@ use Rattle.calls.specs.Parts.{descriptorsOf, snapshotsOf, withName, foundThroug
 use Rattle.calls.specs.Effect.{reverting, writeStores, snapStores, revertStores}
 use Rattle.calls.specs.Step.{step}
 use Rattle.claims.specs.History.{isFormat, formats}
-use Rattle.blocks.proofs.RelinkedLaws.{later-alpha}
+use Rattle.blocks.proofs.RelinkedLaws.{beta-before}
 use Rattle.blocks.proofs.ChangedLaws.{named-left}
 use Rattle.blocks.proofs.StoreLists.{isStored, stored-length, stored-other, Whole, one-stored}
 use Rattle.calls.proofs.Passed.{WritePassed, SnapPassed, RevertPassed}
 use Rattle.claims.specs.Kinds.{Kind}
 use Rattle.claims.proofs.Changes.{storesBy, Allowed, to-format, to-leave, to-write, to-snap, to-revert}
 use Rattle.claims.proofs.Steps.{step-cases}
-use Rattle.calls.proofs.CardLaws.{active-split, snapshots-snoc, chain-is}
+use Rattle.calls.proofs.CardLaws.{active-split, snapshots-snoc, chain-is, snapshots-are, active-is}
 use Rattle.blocks.proofs.MemberLaws.{member-from, member-fresh}
 use Rattle.calls.proofs.ActiveLaws.{active-rise}
 use Rattle.entries.proofs.PutLaws.{writing-above}
@@ -38,29 +37,6 @@ use Rattle.changes.proofs.WholeLaws.{write-whole, snap-whole, revert-whole}
 use Rattle.changes.proofs.RevertedChain.{before, behind, revert-split, reverted-chain}
 use Rattle.changes.proofs.SnappedChain.{snap-above, snapped-chain}
 use Rattle.changes.proofs.WrittenChain.{written-chain}
-
--- a later region starts where an earlier one ends, or after
-beta-before : {c : List ℕ} {es : List Descriptor} {p : ℕ} {ds : List Descriptor} → Linked c es p ds → (v : Descriptor) (us : List Descriptor) (u : Descriptor) (ws : List Descriptor) → ds ≡ v ∷ (us ++ (u ∷ ws))
-    → v .beta .0 ≤ u .alpha .0
-beta-before (last is ok z) v us u ws q = absurd (omega (arith, ap length q, length-append us (u ∷ ws)))
-beta-before {c = c} (more {es = es} {p = p} {d = e} {ds = ds} is ok z rest) v us u ws q =
-    let k : ds ≡ us ++ (u ∷ ws) = cc in
-    let x : e ≡ v = cc in
-    omega (arith, later-alpha c rest us u ws k, sound-next c es p e is ok z, ap (λ (y : Descriptor). y .beta .0) x)
-
--- the parts of a chain with v before its last descriptor
-module _ (xs : List Descriptor) (v : Descriptor) (rest : List Descriptor) (some : 0 < length rest) where
-  rest-is : rest ≡ snapshotsOf rest ++ (activeOf rest ∷ [])
-  rest-is = active-split rest some
-
-  whole-is : xs ++ (v ∷ rest) ≡ (xs ++ (v ∷ snapshotsOf rest)) ++ (activeOf rest ∷ [])
-  whole-is = ap (λ (zs : List Descriptor). xs ++ (v ∷ zs)) rest-is ∙ sym (append-assoc xs (v ∷ snapshotsOf rest) (activeOf rest ∷ []))
-
-  pub snapshots-are : snapshotsOf (xs ++ (v ∷ rest)) ≡ xs ++ (v ∷ snapshotsOf rest)
-  snapshots-are = ap snapshotsOf whole-is ∙ snapshots-snoc (xs ++ (v ∷ snapshotsOf rest)) (activeOf rest)
-
-  pub active-is : activeOf (xs ++ (v ∷ rest)) ≡ activeOf rest
-  active-is = ap activeOf whole-is ∙ active-snoc (xs ++ (v ∷ snapshotsOf rest)) (activeOf rest)
 
 -- v stands on t after the descriptors xs, with the blocks below its beta as on s, and the active name is n
 pub record Stands (s : List ℕ) (xs : List Descriptor) (v : Descriptor) (n : List ℕ) (t : List ℕ) : Type 0 where

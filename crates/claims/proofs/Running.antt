@@ -1,6 +1,6 @@
 -- Every definition that a run of calls goes through and what the claims add, so that a statement about given cards is computed: `unfolding running` opens them all.
 use Prim.Native.Nat.{ℕ}
-use Rattle.calls.proofs.Running.{stepping}
+use Rattle.calls.proofs.Stepping.{stepping}
 use Rattle.claims.specs.History.{betaOf, formatted}
 
 unfoldable pub running : ℕ

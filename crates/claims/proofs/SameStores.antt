@@ -1,7 +1,7 @@
 -- On two cards that agree, a write, a snap and a revert make the same stores, and store every block that they take.
 use mathlib.Core.Path.{_≡_, refl}
 use mathlib.Core.Logic.{_⊎_, inl, inr}
-use mathlib.Core.Bool.{Bool, true, false, _||_}
+use mathlib.Core.Bool.{Bool, true, false}
 use mathlib.Core.List.{List, [], _∷_, _++_}
 use Prim.Native.Nat.{ℕ, zero, suc, _+_, _-_, _≤_, _<_}
 use native.Mathlib.Omega.{arith}
@@ -23,7 +23,7 @@ use Rattle.calls.specs.Effect.{snapping, reverting, writeStores, snapStores, re
 use Rattle.claims.specs.History.{betaOf, Agree}
 use Rattle.blocks.proofs.SharedLaws.{shared-bytes}
 use Rattle.claims.proofs.Agreement.{agree-below, agree-chain, found-same}
-use Rattle.blocks.proofs.StoreLists.{isStored, stored-join}
+use Rattle.blocks.proofs.StoreLists.{isStored, stored-join, copies-cover}
 use Rattle.calls.proofs.Passed.{WritePassed, SnapPassed, RevertPassed}
 use Rattle.calls.proofs.ActiveLaws.{active-last, active-target, active-rise}
 use Rattle.blocks.proofs.MemberLaws.{member-long, member-rise, member-upto}
@@ -31,16 +31,6 @@ use Rattle.calls.proofs.CardLaws.{chain-is}
 use Rattle.entries.proofs.PutLaws.{writing-covers, writing-same}
 use Rattle.changes.proofs.WholeLaws.{active-through}
 use Rattle.changes.proofs.RevertedChain.{before, behind, revert-split}
-
--- copies that take the n blocks from p on
-pub copies-cover : (c : List ℕ) (from p n q : ℕ) → p ≤ q → q < p + n → isStored (copying c from p n) q ≡ true
-unfolding isStored copying
-copies-cover c from p zero q h l = absurd (omega arith)
-copies-cover c from p (suc n) q h l = by (eqb p q) refl (copies-cover c (suc from) (suc p) n q)
-  where
-    by : (z : Bool) → eqb p q ≡ z → (suc p ≤ q → q < suc p + n → isStored (copying c (suc from) (suc p) n) q ≡ true) → (z || isStored (copying c (suc from) (suc p) n) q) ≡ true
-    by true e f = refl
-    by false e f = f (omega (arith, eqb-false p q e)) (omega arith)
 
 module _ (s t : List ℕ) (agree : Agree s t) where
   abbrev ds : List Descriptor

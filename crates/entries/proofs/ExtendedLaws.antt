@@ -15,12 +15,12 @@ use Rattle.entries.proofs.LocalLaws.{Region}
 use Rattle.blocks.specs.declared.numbers.Physical.{Physical}
 
 -- the blocks of descriptors and of layout 1 tables are the same where the last region is longer
-pub extended-descriptor : (xs : List Descriptor) (d : Descriptor) (k p : ℕ) → isDescriptor (xs ++ (extendedOf d k ∷ [])) p ≡ isDescriptor (xs ++ (d ∷ [])) p
+extended-descriptor : (xs : List Descriptor) (d : Descriptor) (k p : ℕ) → isDescriptor (xs ++ (extendedOf d k ∷ [])) p ≡ isDescriptor (xs ++ (d ∷ [])) p
 unfolding isDescriptor
 extended-descriptor [] d k p = refl
 extended-descriptor (x ∷ xs) d k p = ap (λ (b : Bool). eqb p (x .alpha .0) || b) (extended-descriptor xs d k p)
 
-pub extended-table : (xs : List Descriptor) (d : Descriptor) (k p : ℕ) → isTable (xs ++ (extendedOf d k ∷ [])) p ≡ isTable (xs ++ (d ∷ [])) p
+extended-table : (xs : List Descriptor) (d : Descriptor) (k p : ℕ) → isTable (xs ++ (extendedOf d k ∷ [])) p ≡ isTable (xs ++ (d ∷ [])) p
 unfolding isTable
 extended-table [] d k p = refl
 extended-table (x ∷ xs) d k p = ap (λ (b : Bool). (eqb (x .layout) 1 && ltb (x .alpha .0) p && leb p (x .alpha .0 + tableCount (x .volume))) || b) (extended-table xs d k p)
@@ -59,7 +59,7 @@ unfolding isTable
 tables-above [] b q h r = refl
 tables-above (d ∷ ds) b q h r = rw (no-own d b q (r 0 (omega arith)) h (eqb (d .layout) 1) refl) (tables-above ds b q h (λ k l. r (suc k) (omega arith)))
 
-pub none-above : (ds : List Descriptor) (b q : ℕ) → b ≤ q → ((k : ℕ) → k < length ds → Region (getD ds k noDescriptor) b) → (isDescriptor ds q || isTable ds q) ≡ false
+none-above : (ds : List Descriptor) (b q : ℕ) → b ≤ q → ((k : ℕ) → k < length ds → Region (getD ds k noDescriptor) b) → (isDescriptor ds q || isTable ds q) ≡ false
 none-above ds b q h r = rw (descriptors-above ds b q h r, tables-above ds b q h r)
 
 -- the new blocks of the last region are in place

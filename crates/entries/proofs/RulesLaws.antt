@@ -70,7 +70,7 @@ module _ (s t : List ℕ) (ds es : List Descriptor) (d : Descriptor) (few : tabl
         once = λ l k h g e n. r .once l k h g (entry l (under l (d .volume) h) ∙ e ∙ sym (entry k (under k (d .volume) g))) (λ z. n (sym (entry l (under l (d .volume) h)) ∙ z));
       }
 
-  pub same-rules : Rules s ds d → Rules t es d
+  same-rules : Rules s ds d → Rules t es d
   same-rules r = record { phi = λ e. phi-rules (r .phi e); tables = table-rules (r .tables) }
 
 -- the rules of a descriptor on a card with the same blocks below its beta
@@ -142,14 +142,14 @@ module _ (c t : List ℕ) (ds es : List Descriptor) (d : Descriptor) (k : ℕ) (
   phi-placed-by i h (inl e) = subst (λ (n : ℕ). inPlace es (extendedOf d k) n ≡ true) (sym e) (wider (phiAt c d i) (rules .in-place i h))
   phi-placed-by i h (inr n) = n .2
 
-  pub set-phi-placed : (i : ℕ) → i < tableCount (d .volume) → inPlace es (extendedOf d k) (phiAt t (extendedOf d k) i) ≡ true
+  set-phi-placed : (i : ℕ) → i < tableCount (d .volume) → inPlace es (extendedOf d k) (phiAt t (extendedOf d k) i) ≡ true
   set-phi-placed i h = phi-placed-by i h (each i (omega (arith, few)))
 
   phi-past-by : (i : ℕ) → tableCount (d .volume) ≤ i → i < 112 → (phiAt t (extendedOf d k) i ≡ phiAt c d i) ⊎ New i → phiAt t (extendedOf d k) i ≡ 0
   phi-past-by i h u (inl e) = e ∙ rules .past-n i h u
   phi-past-by i h u (inr n) = absurd (omega (arith, n .0))
 
-  pub set-phi-past : (i : ℕ) → tableCount (d .volume) ≤ i → i < 112 → phiAt t (extendedOf d k) i ≡ 0
+  set-phi-past : (i : ℕ) → tableCount (d .volume) ≤ i → i < 112 → phiAt t (extendedOf d k) i ≡ 0
   set-phi-past i h u = phi-past-by i h u (each i u)
 
   phi-old : (i : ℕ) → i < tableCount (d .volume) → (phiAt c d i ≡ 0 → ⊥) → phiAt c d i < d .beta .0
@@ -162,7 +162,7 @@ module _ (c t : List ℕ) (ds es : List Descriptor) (d : Descriptor) (k : ℕ) (
   phi-once-by i j h u e n (inr a) (inl b) = absurd (omega (arith, phi-old j u (λ z. n (e ∙ b ∙ z)), a .1, b, e))
   phi-once-by i j h u e n (inr a) (inr b) = a .0 ∙ sym (b .0)
 
-  pub set-phi-once : (i j : ℕ) → i < tableCount (d .volume) → j < tableCount (d .volume) → phiAt t (extendedOf d k) i ≡ phiAt t (extendedOf d k) j → (phiAt t (extendedOf d k) i ≡ 0 → ⊥) → i ≡ j
+  set-phi-once : (i j : ℕ) → i < tableCount (d .volume) → j < tableCount (d .volume) → phiAt t (extendedOf d k) i ≡ phiAt t (extendedOf d k) j → (phiAt t (extendedOf d k) i ≡ 0 → ⊥) → i ≡ j
   set-phi-once i j h u e n = phi-once-by i j h u e n (each i (omega (arith, few))) (each j (omega (arith, few)))
 
   -- Phi and the entries together, where entry l is set to the block q at or above beta that Phi does not name

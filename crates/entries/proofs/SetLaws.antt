@@ -8,10 +8,10 @@ use lib.ListN.{length, length-append, length-replicate}
 use lib.Dec.{eqb}
 use borrow.Author.Tests.{eq-eqb, ne-eqb}
 use Rattle.blocks.specs.Pick.{pick}
-use Rattle.blocks.specs.Bytes.{le32, splice, storeBlock, storeAll, blockAt, zeroBlock}
+use Rattle.blocks.specs.Bytes.{le32, splice, storeBlock, storeAll, blockAt, zeroBlock, part}
 use Rattle.blocks.specs.Descriptor.{headBytes, tailAt, descriptorBlock, extendedOf}
 use Rattle.blocks.specs.declared.descriptor.Descriptor.{Descriptor}
-use Rattle.blocks.proofs.ByteLaws.{length-le32, length-splice, length-blockAt, splice-past, put-block, put-stored, store-same, store-other, store-over}
+use Rattle.blocks.proofs.ByteLaws.{length-le32, length-splice, length-blockAt, splice-past, put-block, put-stored, store-same, store-other, store-over, part-before}
 use Rattle.blocks.proofs.DescriptorLaws.{block-length, head-length, store-tail, tail-length}
 use Rattle.entries.specs.Entry.{tableWith, tailWith, setInTable, setInNewTable}
 
@@ -118,3 +118,12 @@ module _ (c c₂ : List ℕ) (d : Descriptor) (m l : ℕ) (in-alpha : 512 * d .a
         ∙ sym (store-over c (d .beta .0) new (descriptorBlock e (tailWith (tailAt c (d .beta .0)) (l / 128) (d .beta .0))) new-length (phi-length c (d .beta .0) e (l / 128) (d .beta .0) in-beta n small) in-beta)
         ∙ ap (λ (b : ℕ). storeBlock (storeBlock c (d .beta .0) new) b (descriptorBlock e (tailWith (tailAt c b) (l / 128) (d .beta .0)))) same
         ∙ rw a
+
+-- a tail with an entry of Phi set
+module _ (tail : List ℕ) (i m : ℕ) (few-entries : i < 112) (tail-whole : length tail ≡ 472) where
+  put-fits : 24 + 4 * i + length (le32 m) ≤ length tail
+  put-fits = omega (arith, length-le32 m)
+
+  pub put-reserved : part (tailWith tail i m) 0 24 ≡ part tail 0 24
+  unfolding tailWith
+  put-reserved = part-before tail (24 + 4 * i) (le32 m) put-fits 0 24 (omega arith)

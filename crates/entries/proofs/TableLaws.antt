@@ -18,7 +18,6 @@ use Rattle.blocks.specs.Bytes.{u32At, blockAt}
 use Rattle.blocks.proofs.ByteLaws.{u32-part, number-of}
 use Rattle.blocks.proofs.DescriptorLaws.{Fits, tail-length}
 use Rattle.blocks.proofs.StoredLaws.{stored-bytes, block-tail, tail-part}
-use Rattle.blocks.specs.Pick.{pick}
 
 -- fewer descriptors: what is in place stays in place
 module _ (v w : Descriptor) (ys : List Descriptor) (alpha : w .alpha ≡ v .alpha) (layout : w .layout ≡ v .layout) (volume : w .volume ≡ v .volume) (p : ℕ) where
@@ -131,13 +130,6 @@ phi-stored c t w v in-c in-t is f i h =
     (stored-bytes t b in-t w (tailAt c a) is f l (40 + (24 + 4 * i)) 4 (omega arith) ∙ block-tail w (tailAt c a) f l (24 + 4 * i) 4 ∙ tail-part c a (24 + 4 * i) 4 in-c (omega arith))
     ∙ number-of c (512 * a + 40 + (24 + 4 * i))
     ∙ ap (u32At c) r
-
--- the same number of Phi is the same table
-pub table-as : (s t : List ℕ) (d e : Descriptor) (i : ℕ) → e .layout ≡ d .layout → e .alpha ≡ d .alpha → phiAt t e i ≡ phiAt s d i → tableOf t e i ≡ tableOf s d i
-unfolding tableOf
-table-as s t d e i a b h =
-    ap (λ (x : ℕ). pick (eqb x 1) (e .alpha .0 + 1 + i) (phiAt t e i)) a ∙ ap (λ (x : Physical). pick (eqb (d .layout) 1) (x .0 + 1 + i) (phiAt t e i)) b
-    ∙ ap (λ (x : ℕ). pick (eqb (d .layout) 1) (d .alpha .0 + 1 + i) x) h
 
 -- the entries of two blocks that are equal
 pub block-entry : (s c : List ℕ) (m n j : ℕ) → blockAt s m ≡ blockAt c n → j < 128 → entryAt s m j ≡ entryAt c n j

@@ -1,6 +1,6 @@
 -- Document 01's worked example: what the definitions compute of its ten lines is what 01 prints, to the letter.
 use mathlib.Core.Path.{_≡_, refl}
-use Rattle.calls.proofs.Running.{stepping}
+use Rattle.calls.proofs.Stepping.{stepping}
 use Rattle.cutter.specs.Grammar.{withByte, wordsOf, hasKey, isDigit, allDigits, digitsFrom, isNumber, hasNumber, numberOf, lineOfOne, lineOfTwo, readFrom, lineOfWrite, lineOfRead, lineOfThree, lineOfFive, lineOfWords, lineOf, beforeLines, linesOf, lineIn}
 use Rattle.printing.specs.Text.{digits, decimal, nameText, answerText, byteText, recordText, recordsText}
 use Rattle.sheet.specs.Sheet.{start, isMalformed, callOf, blocksOf, firstByteOf, recordsAfter, additionOf, afterCall, afterLine, addedByte, addedRecords, printed, linesText, sheetText}

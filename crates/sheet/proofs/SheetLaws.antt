@@ -19,7 +19,7 @@ use Rattle.calls.specs.Meaning.{answerOf}
 use Rattle.calls.specs.Step.{Done, step, isAccepted, done}
 use Rattle.calls.specs.Listing.{fillingOf, planOf}
 use Rattle.calls.proofs.StepLaws.{step-answer}
-use Rattle.calls.proofs.ListLaws.{list-room}
+use Rattle.calls.proofs.ListingLaws.{list-room}
 use Rattle.cutter.specs.declared.line.SheetCall.{SheetCall}
 use Rattle.cutter.specs.declared.line.SheetCall.the-variants as line
 use Rattle.cutter.specs.declared.line.Line.{Line}

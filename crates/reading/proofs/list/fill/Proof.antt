@@ -52,7 +52,7 @@ use denote.Triple.Walked.{says, needs, Stays, stay-none, stay-none-slice, stay-s
 use denote.Exit.{yes}
 use Rattle.calls.specs.Listing.{recordBy, filledTo, filled}
 use Rattle.calls.specs.declared.answer.Record.{Record}
-use Rattle.calls.proofs.ListLaws.{Ready, filled-more, filled-all, length-filled}
+use Rattle.calls.proofs.ListingLaws.{Ready, filled-more, filled-all, length-filled}
 use Rattle.calls.proofs.answer.Record as T
 use Rattle.calls.proofs.answer.Record.Laws as T′
 use Rattle.reading.proofs.list.record_of as record-of

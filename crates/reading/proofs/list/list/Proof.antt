@@ -51,7 +51,7 @@ use Rattle.calls.specs.Listing.{planOf, filled}
 use Rattle.calls.specs.declared.answer.Record.{Record}
 use Rattle.calls.specs.declared.answer.Answer.{Answer}
 use Rattle.calls.specs.declared.list.Plan.{Plan}
-use Rattle.calls.proofs.ListLaws.{Ready, plan-ready, plan-done}
+use Rattle.calls.proofs.ListingLaws.{Ready, plan-ready, plan-done}
 use Rattle.calls.proofs.answer.Record as T
 use Rattle.calls.proofs.list.Plan as P
 use Rattle.calls.proofs.list.Plan.Laws as P′

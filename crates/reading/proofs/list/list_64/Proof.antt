@@ -4,7 +4,7 @@ use native.Mathlib.Omega.{arith}
 use lib.ListN.{length}
 use borrow.Author.Needs.{needs}
 use Rattle.calls.specs.declared.list.Plan.{Plan}
-use Rattle.calls.proofs.ListLaws.{plan-ready, plan-done}
+use Rattle.calls.proofs.ListingLaws.{plan-ready, plan-done}
 use Rattle.reading.proofs.list.list_64.Statement.{statement}
 use Rattle.reading.proofs.list.list_64.Tie as tie
 

@@ -1,6 +1,6 @@
 -- `make_plan` meets its contract: where the listing is not admitted, and with what the walk found.
 use borrow.Author.Needs.{needs}
-use Rattle.calls.proofs.ListLaws.{plan-none, plan-told, filling-told}
+use Rattle.calls.proofs.ListingLaws.{plan-none, plan-told, filling-told}
 use Rattle.reading.proofs.list.make_plan.Statement.{statement}
 use Rattle.reading.proofs.list.make_plan.Tie as tie
 

@@ -1,7 +1,7 @@
 -- `plan_filling` meets its contract, test by test.
 use mathlib.Core.Path.{_∙_}
 use borrow.Author.Needs.{needs}
-use Rattle.calls.proofs.ListLaws.{found-6, found-14, found-0}
+use Rattle.calls.proofs.ListingLaws.{found-6, found-14, found-0}
 use Rattle.reading.proofs.list.plan_filling.Statement.{statement}
 use Rattle.reading.proofs.list.plan_filling.Tie as tie
 
