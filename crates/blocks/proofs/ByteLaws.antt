@@ -375,3 +375,12 @@ zero-number n k = rw (zeros-at n k, zeros-at n (k + 1), zeros-at n (k + 2), zero
 pub taken-block : (s : List ℕ) (b p : ℕ) → p < b → 512 * b ≤ length s → blockAt s p ≡ part (take (512 * b) s) (512 * p) 512
 unfolding blockAt
 taken-block s b p h l = let e : 0 + 512 * p ≡ 512 * p = omega arith in sym (part-part s 0 (512 * b) (512 * p) 512 (omega arith) (omega arith) ∙ ap (λ (n : ℕ). part s n 512) e)
+
+-- numbers of four bytes each, after n bytes of a list: one that is put, and the others
+module _ (b : List ℕ) (n i v : ℕ) (inside : n + 4 * i + 4 ≤ length b) where
+  number-fits : n + 4 * i + length (le32 v) ≤ length b
+  number-fits = omega (arith, length-le32 v)
+
+  pub number-other : (k : ℕ) → (k ≡ i → ⊥) → (t : Bool) → ltb k i ≡ t → u32At (splice b (n + 4 * i) (le32 v)) (n + 4 * k) ≡ u32At b (n + 4 * k)
+  number-other k h true e = u32-before b (n + 4 * i) (le32 v) number-fits (n + 4 * k) (omega (arith, ltb-true k i e))
+  number-other k h false e = u32-after b (n + 4 * i) (le32 v) number-fits (n + 4 * k) (omega (arith, ltb-false k i e, h, length-le32 v))

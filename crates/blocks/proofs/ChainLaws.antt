@@ -1,4 +1,4 @@
--- Laws of the walk along the chain, as the code asks them.
+-- Laws of the walk along the chain, as the code asks them; of regions, and of c.
 use mathlib.Core.Path.{_≡_, refl, sym, ap, _∙_}
 use mathlib.Core.Bool.{Bool, true, false, not, _&&_, _||_}
 use mathlib.Core.List.{List, [], _∷_, _++_}
@@ -8,7 +8,7 @@ use native.Mathlib.Omega.{arith}
 use lib.ListN.{length, take, getD, set, replicate, length-append, length-take, length-set}
 use lib.Seq.{take-suc, take-set-le, getD-set-same, getD-set-other, set-at, append-snoc}
 use lib.Dec.{eqb, ltb, leb}
-use borrow.Author.Tests.{ne-eqb, eqb-true, eqb-false, ltb-true, ltb-false, le-ltb, leb-true, not-true, not-false}
+use borrow.Author.Tests.{ne-eqb, eqb-true, eqb-false, ltb-true, ltb-false, le-ltb, leb-true, not-true, not-false, eq-eqb}
 use Rattle.blocks.specs.Pick.{pick, same}
 use Rattle.blocks.specs.Bytes.{blockCount}
 use Rattle.blocks.specs.Descriptor.{physical, tableCount, cost, costOf, descriptorAt}
@@ -324,3 +324,8 @@ pub regions-ok : (ch : Chain) → chainSound ch ≡ true → regionsOf ch .sound
 unfolding regionsOf chainSound
 regions-ok (Sound ds) e = refl
 regions-ok (Unsound p) e = e
+
+-- in layout 1 a region opens with its descriptor and its n table blocks
+pub cost-one : (d : Descriptor) → d .layout ≡ 1 → costOf d ≡ 1 + tableCount (d .volume)
+unfolding cost
+cost-one d e = rw (eq-eqb (d .layout) 1 e)

@@ -1,36 +1,25 @@
 -- The chain after a descriptor block was stored: the descriptors before it, then what was stored.
 use mathlib.Core.Path.{_≡_, refl, sym, _∙_}
 use mathlib.Core.Logic.{_⊎_}
-use mathlib.Core.Bool.{Bool, true, false, _||_}
+use mathlib.Core.Bool.{Bool, true, false}
 use mathlib.Core.List.{List, [], _∷_, _++_}
 use Prim.Native.Nat.{ℕ, _+_, _*_, _≤_, _<_}
 use native.Mathlib.Omega.{arith}
 use lib.ListN.{length, length-append}
 use lib.Dec.{eqb}
 use borrow.Author.Tests.{eqb-true, eqb-false}
-use Rattle.blocks.specs.Pick.{same}
 use Rattle.blocks.specs.Bytes.{part, blockCount, blockAt}
 use Rattle.blocks.specs.Name.{isName}
 use Rattle.blocks.specs.Descriptor.{costOf, descriptorAt, descriptorBlock, reservedOk, phiOk}
 use Rattle.blocks.specs.Chain.{named, sound, Sound, chain}
 use Rattle.blocks.specs.declared.descriptor.Descriptor.{Descriptor}
-use Rattle.blocks.proofs.BoolLaws.{or-assoc, or-false-left}
 use Rattle.blocks.proofs.DescriptorLaws.{Fits}
-use Rattle.blocks.proofs.NamedLaws.{named-none, named-cons}
 use Rattle.blocks.proofs.ChainLaws.{region-layout, region-volume}
 use Rattle.blocks.proofs.LinkedLaws.{last, chain-linked}
 use Rattle.blocks.proofs.SharedLaws.{linked-chain, shared-descriptor}
 use Rattle.blocks.proofs.RelinkedLaws.{relinked}
 use Rattle.blocks.proofs.StoredLaws.{stored-descriptor, stored-form, region-ok}
 use Rattle.blocks.proofs.MemberLaws.{member-region, member-form, member-inside}
-
--- names of lists joined
-pub named-append : (xs ys : List Descriptor) (n : List ℕ) → named (xs ++ ys) n ≡ (named xs n || named ys n)
-named-append [] ys n = rw (named-none n)
-named-append (x ∷ xs) ys n = rw (named-cons x (xs ++ ys) n, named-cons x xs n, named-append xs ys n) (or-assoc (same (x .name) n) (named xs n) (named ys n))
-
-pub named-left : (xs ys : List Descriptor) (n : List ℕ) → named (xs ++ ys) n ≡ false → named xs n ≡ false
-named-left xs ys n h = or-false-left (named xs n) (named ys n) (sym (named-append xs ys n) ∙ h)
 
 -- a descriptor of a chain, by its place in the list
 module _ (s : List ℕ) (ds xs : List Descriptor) (d : Descriptor) (ys : List Descriptor) (sound-s : chain s ≡ Sound ds) (split : ds ≡ xs ++ (d ∷ ys)) where
@@ -48,7 +37,7 @@ module _ (s : List ℕ) (ds xs : List Descriptor) (d : Descriptor) (ys : List De
     in-t : 512 * d .alpha .0 + 512 ≤ length t
     in-t = omega (arith, inside)
 
-    pub changed-is : descriptorAt t (d .alpha .0) ≡ e
+    changed-is : descriptorAt t (d .alpha .0) ≡ e
     changed-is = stored-descriptor t (d .alpha .0) in-t e tail is fits whole
 
     first-by : (z : Bool) → eqb (d .alpha .0) 0 ≡ z → (e .layout ≡ descriptorAt t 0 .layout) × (e .volume ≡ descriptorAt t 0 .volume)

@@ -1,4 +1,4 @@
--- Laws of indexOf and named.
+-- Laws of indexOf and named, of one list and of lists joined.
 use mathlib.Core.Path.{_≡_, refl, sym, ap, _∙_}
 use mathlib.Core.Bool.{Bool, true, false, _||_}
 use mathlib.Core.List.{List, [], _∷_, _++_}
@@ -13,7 +13,7 @@ use Rattle.blocks.specs.Pick.{pick, same}
 use Rattle.blocks.specs.Descriptor.{descriptorAt}
 use Rattle.blocks.specs.Chain.{indexOf, named, descriptorsAt}
 use Rattle.blocks.specs.declared.descriptor.Descriptor.{Descriptor}
-use Rattle.blocks.proofs.BoolLaws.{or-false-both, or-nil}
+use Rattle.blocks.proofs.BoolLaws.{or-false-both, or-nil, or-assoc, or-false-left}
 
 -- the index with j of the descriptors passed
 unfoldable pub indexFrom : List ℕ → List ℕ → ℕ → List ℕ → ℕ → ℕ
@@ -92,3 +92,11 @@ module _ (c starts : List ℕ) (n : ℕ) (long : n ≤ length starts) where
   pub named-index : (name : List ℕ) (i : ℕ) → i ≡ indexOf (descriptorsAt c (take n starts)) name → ltb i n ≡ named (descriptorsAt c (take n starts)) name
   unfolding named
   named-index name i e = rw (e, descriptors-counted)
+
+-- names of lists joined
+pub named-append : (xs ys : List Descriptor) (n : List ℕ) → named (xs ++ ys) n ≡ (named xs n || named ys n)
+named-append [] ys n = rw (named-none n)
+named-append (x ∷ xs) ys n = rw (named-cons x (xs ++ ys) n, named-cons x xs n, named-append xs ys n) (or-assoc (same (x .name) n) (named xs n) (named ys n))
+
+pub named-left : (xs ys : List Descriptor) (n : List ℕ) → named (xs ++ ys) n ≡ false → named xs n ≡ false
+named-left xs ys n h = or-false-left (named xs n) (named ys n) (sym (named-append xs ys n) ∙ h)

@@ -1,4 +1,4 @@
--- Chains after stores: descriptors before the one that changes stay linked, and a descriptor that was stored is sound.
+-- Where the descriptors of a chain stand; chains after stores: descriptors before the one that changes stay linked, and a descriptor that was stored is sound.
 use mathlib.Core.Path.{_≡_, sym, ap, _∙_, subst}
 use mathlib.Core.Bool.{true}
 use mathlib.Core.List.{List, [], _∷_, _++_, append-nil}

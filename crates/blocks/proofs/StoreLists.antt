@@ -1,4 +1,4 @@
--- Lists of whole-block stores: the length stays, what is stored is the same on any card, and other blocks stay.
+-- Lists of whole-block stores: the length stays, what is stored is the same on any card, other blocks stay, the last store to a block decides; which blocks are stored, and copies.
 use mathlib.Core.Path.{_≡_, refl, sym, ap, _∙_}
 use mathlib.Core.Logic.{_⊎_, inl, inr}
 use mathlib.Core.Bool.{Bool, true, false, _||_}

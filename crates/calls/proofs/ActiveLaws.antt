@@ -1,5 +1,5 @@
 -- What holds of a card whose chain is sound: its descriptors are the snapshots, then the active one, whose region is the last.
-use mathlib.Core.Path.{_≡_, refl, sym, ap, _∙_}
+use mathlib.Core.Path.{_≡_, refl, sym, ap, _∙_, subst}
 use mathlib.Core.Bool.{true, false, not, _&&_}
 use mathlib.Core.List.{List, [], _∷_, _++_}
 use Prim.Native.Nat.{ℕ, suc, _+_, _*_, _-_, _≤_, _<_}
@@ -10,10 +10,10 @@ use borrow.Author.Tests.{not-false}
 use Rattle.blocks.specs.Bytes.{part, blockCount}
 use Rattle.blocks.specs.Name.{isName}
 use Rattle.blocks.specs.Descriptor.{costOf, noDescriptor, descriptorAt, tailAt, reservedOk, phiOk}
-use Rattle.blocks.specs.Chain.{formOk, named, Sound, chain, activeOf, indexOf}
+use Rattle.blocks.specs.Chain.{formOk, named, Sound, chain, activeOf, indexOf, chainSound, regionsOf}
 use Rattle.blocks.specs.declared.descriptor.Descriptor.{Descriptor}
 use Rattle.blocks.proofs.NamedLaws.{index-below}
-use Rattle.blocks.proofs.ChainLaws.{cost-least, region-volume}
+use Rattle.blocks.proofs.ChainLaws.{cost-least, region-volume, regions-ok}
 use Rattle.blocks.proofs.SoundLaws.{form-most}
 use Rattle.blocks.proofs.LinkedLaws.{Linked, chain-linked, chain-few, regionStart, RegionAt, linked-some, linked-at, linked-rise, at-alpha, at-long, active-at, end-active}
 use Rattle.blocks.proofs.RelinkedLaws.{linked-next}
@@ -22,13 +22,9 @@ use Rattle.entries.proofs.LocalLaws.{Region}
 use Rattle.entries.proofs.TableLaws.{own-inside, few-tables}
 use Rattle.calls.specs.declared.answer.Target.{Target}
 use Rattle.calls.specs.declared.answer.Target.the-variants.{Active, Snapshot}
-use Rattle.calls.specs.Parts.{areaBad, snapshotsOf, isSnapshot, targetOf}
-use Rattle.calls.proofs.CardLaws.{snapshots-at, active-split}
-
--- areas of one length are both cards or neither
-pub area-kept : (s t : List ℕ) → length s ≡ length t → areaBad s ≡ areaBad t
-unfolding areaBad blockCount
-area-kept s t e = rw e
+use Rattle.calls.specs.Parts.{snapshotsOf, isSnapshot, targetOf, areaBad, descriptorsOf}
+use Rattle.calls.proofs.CardLaws.{snapshots-at, active-split, card-found, card-active-through}
+use Rattle.entries.specs.Through.{Through}
 
 -- the descriptor that a read goes through is one of the chain
 module _ (ds : List Descriptor) (some : 0 < length ds) where
@@ -142,3 +138,10 @@ module _ (c : List ℕ) (ds : List Descriptor) (sound-c : chain c ≡ Sound ds) 
 
   pub active-phi : phiOk (activeOf ds .layout) (part (tailAt c (activeOf ds .alpha .0)) 24 448) ≡ true
   active-phi = member-phi c ds xs d [] sound-c active-last
+
+-- the active descriptor as one through which entries are followed
+pub active-through : (c : List ℕ) → areaBad c ≡ false → chainSound (chain c) ≡ true → let r = regionsOf (chain c) in Through c (r .starts) (r .count) (activeOf (descriptorsOf c))
+active-through c area sound =
+    let r = regionsOf (chain c) in
+    let ok = regions-ok (chain c) sound in
+    subst (λ (d : Descriptor). Through c (r .starts) (r .count) d) (card-found c r refl area ok) (card-active-through c r refl area ok)

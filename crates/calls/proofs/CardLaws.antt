@@ -186,3 +186,8 @@ module _ (xs : List Descriptor) (v : Descriptor) (rest : List Descriptor) (some 
 
   pub active-is : activeOf (xs ++ (v ∷ rest)) ≡ activeOf rest
   active-is = ap activeOf whole-is ∙ active-snoc (xs ++ (v ∷ snapshotsOf rest)) (activeOf rest)
+
+-- areas of one length are both cards or neither
+pub area-kept : (s t : List ℕ) → length s ≡ length t → areaBad s ≡ areaBad t
+unfolding areaBad blockCount
+area-kept s t e = rw e

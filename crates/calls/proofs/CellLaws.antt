@@ -1,4 +1,4 @@
--- What a read through a descriptor that keeps the rules gives: the block that its entry names, or zeros.
+-- What a read through a descriptor gives: the block that its entry names, or zeros, where the descriptor keeps the rules; and the same on two cards with the same blocks.
 use mathlib.Core.Path.{_≡_, refl, sym, ap, _∙_}
 use mathlib.Core.Bool.{Bool, true, false, _||_}
 use mathlib.Core.List.{List}

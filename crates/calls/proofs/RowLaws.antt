@@ -1,4 +1,4 @@
--- Laws of the rows of a refusal table: which row is given, and which are passed by an accepted call.
+-- Laws of the rows of a refusal table: which row is given, which are passed by an accepted call, rows that are the same as far as they decide, and rows without a place.
 use mathlib.Core.Path.{_≡_, refl, sym, ap, _∙_, subst}
 use mathlib.Core.Bool.{Bool, true, false, not, _&&_}
 use mathlib.Core.List.{List, [], _∷_, _++_}
@@ -294,3 +294,29 @@ pub first-same : {xs ys : List Row} → SameRows xs ys → firstRow xs ≡ first
 unfolding firstRow
 first-same (same-rows e) = ap firstRow e
 first-same (then {r = r} {xs = xs} {ys = ys} h) = rows-by r (firstRow xs) (firstRow ys) (r .holds) refl (λ e. first-same (h e))
+
+-- rows that neither name a place nor give 11
+unfoldable pub placeless : List Row → Bool
+placeless [] = true
+placeless (r ∷ rs) = eqb (r .place) 0 && not (eqb (r .number) 11) && placeless rs
+
+abbrev pub Plain : Answer → Type 0
+Plain a = (a .place ≡ 0) × (a .number ≡ 11 → ⊥)
+
+placeless-by : (a b : Answer) (h : Bool) → Plain a → Plain b → Plain (pick h a b)
+placeless-by a b true x y = x
+placeless-by a b false x y = y
+
+placeless-row : (r : Row) (t : Bool) → (eqb (r .place) 0 && not (eqb (r .number) 11) && t) ≡ true → Plain (answer (r .number) (r .place)) × (t ≡ true)
+placeless-row r t e =
+    let z = eqb (r .place) 0 in
+    let n = not (eqb (r .number) 11) in
+    let both = and-left (z && n) t e in
+    ((eqb-true (r .place) 0 (and-left z n both), eqb-false (r .number) 11 (not-true (eqb (r .number) 11) (and-right z n both))), and-right (z && n) t e)
+
+pub placeless-first : (rs : List Row) → placeless rs ≡ true → Plain (firstRow rs)
+unfolding placeless firstRow
+placeless-first [] e = (refl, λ h. absurd (omega (arith, h)))
+placeless-first (r ∷ rs) e =
+    let parts = placeless-row r (placeless rs) e in
+    placeless-by (answer (r .number) (r .place)) (firstRow rs) (r .holds) (parts .0) (placeless-first rs (parts .1))

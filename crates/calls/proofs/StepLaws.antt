@@ -1,4 +1,4 @@
--- Laws of step: what a refusal leaves, what an accepted call does; the area, by its tests; stores of zeros.
+-- Laws of step: what a refusal leaves, what an accepted call does; the area, by its tests; stores of zeros; and runs of lists of calls.
 use mathlib.Core.Path.{_≡_, refl, ap, sym, _∙_}
 use mathlib.Core.Bool.{Bool, true, false}
 use mathlib.Core.List.{List, [], _∷_, _++_}

@@ -12,15 +12,15 @@ use Rattle.blocks.specs.Descriptor.{physical, noDescriptor, tailAt, descriptorB
 use Rattle.blocks.specs.Chain.{named, Sound, chain, activeOf, indexOf}
 use Rattle.blocks.specs.declared.descriptor.Descriptor.{Descriptor}
 use Rattle.blocks.proofs.DescriptorLaws.{Fits, tail-length, fits-of}
-use Rattle.blocks.proofs.NamedLaws.{index-below}
+use Rattle.blocks.proofs.NamedLaws.{index-below, named-left}
 use Rattle.calls.specs.Parts.{descriptorsOf, snapshotsOf, withName}
 use Rattle.calls.specs.Effect.{reverting, revertStores}
 use Rattle.calls.proofs.CardLaws.{card-most, chain-is}
 use Rattle.calls.proofs.Passed.{RevertPassed}
 use Rattle.blocks.proofs.StoredLaws.{block-long}
-use Rattle.blocks.proofs.ChangedLaws.{named-left, changed-last}
+use Rattle.blocks.proofs.ChangedLaws.{changed-last}
 use Rattle.blocks.proofs.StoreLists.{Whole, none, stored-length, stored-other, stored-last, count-kept, none-stored, one-stored}
-use Rattle.blocks.proofs.MemberLaws.{member-inside, member-long, member-end, member-rise, member-layout, member-volume, member-reserved, member-phi}
+use Rattle.blocks.proofs.MemberLaws.{member-inside, member-long, member-end, member-rise, member-layout, member-volume, member-reserved, member-phi, member-upto}
 use Rattle.calls.proofs.ActiveLaws.{active-last, active-name, active-fresh, snapshots-few}
 use Rattle.changes.proofs.WholeLaws.{revert-whole}
 
@@ -78,6 +78,9 @@ module _ (c name : List ℕ) (e : RevertPassed c name) where
 
   end : v .beta .0 ≤ blockCount c
   end = member-end c ds xs v ys sound-c revert-split
+
+  pub reverted-below : (v .alpha .0 < v .beta .0) × (v .beta .0 ≤ activeOf ds .beta .0)
+  reverted-below = (member-rise c ds xs v ys sound-c revert-split, member-upto c ds xs v ys sound-c revert-split)
 
   pub fits : Fits w
   fits =

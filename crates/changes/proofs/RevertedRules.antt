@@ -25,8 +25,8 @@ use Rattle.blocks.proofs.StoreLists.{stored-other, one-stored}
 use Rattle.entries.proofs.TableLaws.{fewer-placed, placed-apart, own-inside, few-tables, block-entry, phi-stored}
 use Rattle.calls.proofs.Passed.{RevertPassed}
 use Rattle.blocks.proofs.MemberLaws.{member-inside}
-use Rattle.calls.proofs.CardLaws.{chain-is}
-use Rattle.calls.proofs.ActiveLaws.{area-kept, chain-starts, region-at}
+use Rattle.calls.proofs.CardLaws.{chain-is, area-kept}
+use Rattle.calls.proofs.ActiveLaws.{chain-starts, region-at}
 use Rattle.entries.proofs.RulesLaws.{rules-renamed, rules-moved, entry-renamed, moved-entry}
 use Rattle.entries.proofs.LocalLaws.{phi-shared}
 use Rattle.changes.proofs.RevertedChain.{before, behind, revert-split, stores-are, whole, fits, block, same-long, reverted-chain}

@@ -1,6 +1,6 @@
--- The chain after an accepted snap.
+-- The chain after an accepted snap, and which blocks it stores.
 use mathlib.Core.Path.{_≡_, refl, sym, ap, _∙_}
-use mathlib.Core.Logic.{inl, inr}
+use mathlib.Core.Logic.{inl, inr, _⊎_}
 use mathlib.Core.Bool.{Bool, true, false}
 use mathlib.Core.List.{List, [], _∷_, _++_}
 use Prim.Native.Nat.{ℕ, _+_, _*_, _-_, _≤_, _<_}
@@ -13,10 +13,10 @@ use Rattle.blocks.specs.Name.{isName}
 use Rattle.blocks.specs.Descriptor.{costOf, descriptorAt, tailAt, descriptorBlock, renamedOf, linkedOf, reopenedOf, copying}
 use Rattle.blocks.specs.Chain.{named, sound, Sound, chain, activeOf}
 use Rattle.blocks.specs.declared.descriptor.Descriptor.{Descriptor}
-use Rattle.blocks.proofs.BoolLaws.{no, or-false-right}
+use Rattle.blocks.proofs.BoolLaws.{no, or-false-right, or-true}
 use Rattle.blocks.proofs.ListLaws.{same-equal, same-self}
 use Rattle.blocks.proofs.DescriptorLaws.{Fits, tail-length, fits-of}
-use Rattle.blocks.proofs.NamedLaws.{named-one}
+use Rattle.blocks.proofs.NamedLaws.{named-one, named-append, named-left}
 use Rattle.blocks.proofs.ChainLaws.{cost-least}
 use Rattle.blocks.proofs.LinkedLaws.{last, more, chain-linked}
 use Rattle.calls.specs.Parts.{areaBad, descriptorsOf, snapshotsOf}
@@ -25,11 +25,13 @@ use Rattle.calls.proofs.Passed.{SnapPassed}
 use Rattle.blocks.proofs.SharedLaws.{linked-chain}
 use Rattle.blocks.proofs.RelinkedLaws.{relinked}
 use Rattle.blocks.proofs.StoredLaws.{block-long, stored-descriptor, stored-form, region-ok}
-use Rattle.blocks.proofs.ChangedLaws.{named-append, named-left, changed-first, changed-ok}
-use Rattle.blocks.proofs.StoreLists.{Whole, none, also, whole-append, isStored, stored-join, stored-length, stored-other, stored-last, inside-copying, count-kept, none-stored, one-stored, copies-stored, pair-stored}
+use Rattle.blocks.proofs.ChangedLaws.{changed-first, changed-ok}
+use Rattle.blocks.proofs.StoreLists.{Whole, none, also, whole-append, isStored, stored-join, stored-length, stored-other, stored-last, inside-copying, count-kept, none-stored, one-stored, copies-stored, pair-stored, copies-cover}
 use Rattle.calls.proofs.ActiveLaws.{active-last, active-name, active-fresh, active-next, active-form, active-long, active-rise, active-inside, active-layout, active-volume, active-reserved, active-phi}
 use Rattle.calls.proofs.CardLaws.{chain-is, card-most}
 use Rattle.changes.proofs.WholeLaws.{snap-whole}
+use lib.Dec.{eqb, ltb}
+use borrow.Author.Tests.{eqb-false, ltb-true, ltb-false}
 
 same-not : (a b : List ℕ) (z : Bool) → same a b ≡ z → same b a ≡ false → same a b ≡ false
 same-not a b false e h = e
@@ -141,6 +143,24 @@ module _ (c name : List ℕ) (e : SnapPassed c name) where
   snap-above q h =
       rw (stores-are, stored-join copies (store (d .beta .0) (descriptorBlock new tail) ∷ store (d .alpha .0) (descriptorBlock old tail) ∷ []) q, copies-stored c (d .alpha .0 + 1) (d .beta .0 + 1) (costOf d - 1) q (omega (arith, d-low)))
       (pair-stored (d .beta .0) (d .alpha .0) (descriptorBlock new tail) (descriptorBlock old tail) q (λ k. omega (arith, d-low)) (λ k. omega arith))
+
+  -- and every block that it takes is stored
+  covered-by : (p : ℕ) (z : Bool) → eqb (d .beta .0) p ≡ z → d .beta .0 ≤ p → p < d .beta .0 + costOf d → isStored (snapStores c name) p ≡ true
+  unfolding isStored
+  covered-by p true q h l = rw (stores-are, stored-join copies (store (d .beta .0) (descriptorBlock new tail) ∷ store (d .alpha .0) (descriptorBlock old tail) ∷ []) p, q) (or-true (isStored copies p))
+  covered-by p false q h l =
+      rw (
+        stores-are,
+        stored-join copies (store (d .beta .0) (descriptorBlock new tail) ∷ store (d .alpha .0) (descriptorBlock old tail) ∷ []) p,
+        copies-cover c (d .alpha .0 + 1) (d .beta .0 + 1) (costOf d - 1) p (omega (arith, eqb-false (d .beta .0) p q)) (omega (arith, d-least)),
+      )
+
+  pub snap-covered : (p : ℕ) → p < d .beta .0 + costOf d → (p < d .beta .0) ⊎ (isStored (snapStores c name) p ≡ true)
+  snap-covered p l = by (ltb p (d .beta .0)) refl
+    where
+      by : (z : Bool) → ltb p (d .beta .0) ≡ z → (p < d .beta .0) ⊎ (isStored (snapStores c name) p ≡ true)
+      by true q = inl (ltb-true p (d .beta .0) q)
+      by false q = inr (covered-by p (eqb (d .beta .0) p) refl (ltb-false p (d .beta .0) q) l)
 
   kept : (q : ℕ) → q < d .alpha .0 → blockAt c q ≡ blockAt t q
   kept q h = sym (stored-other (length c) c refl whole q (snap-above q h))

@@ -7,13 +7,13 @@ use native.Mathlib.Omega.{arith}
 use lib.ListN.{length, getD, length-append, List·getD-append}
 use lib.Seq.{getD-append-add, getD-append-seam}
 use lib.Dec.{eqb, ltb}
-use borrow.Author.Tests.{eq-eqb, eqb-true, eqb-false, ltb-true, ltb-false}
+use borrow.Author.Tests.{eqb-true, eqb-false, ltb-true, ltb-false}
 use Rattle.blocks.specs.Bytes.{blockAt, Store, store, storeAll}
-use Rattle.blocks.specs.Descriptor.{tableCount, cost, costOf, noDescriptor, tailAt, descriptorBlock, renamedOf, linkedOf, reopenedOf, copying}
+use Rattle.blocks.specs.Descriptor.{tableCount, costOf, noDescriptor, tailAt, descriptorBlock, renamedOf, linkedOf, reopenedOf, copying}
 use Rattle.blocks.specs.declared.descriptor.Descriptor.{Descriptor}
 use Rattle.blocks.specs.Chain.{activeOf, chain, Sound}
 use Rattle.blocks.proofs.SoundLaws.{form-most, form-layout}
-use Rattle.blocks.proofs.ChainLaws.{cost-least, descriptors-are, is-sound}
+use Rattle.blocks.proofs.ChainLaws.{cost-least, descriptors-are, is-sound, cost-one}
 use Rattle.blocks.proofs.LinkedLaws.{RegionAt, regionStart, linked-rise, at-alpha, at-long}
 use Rattle.entries.specs.InPlace.{inPlace}
 use Rattle.entries.specs.Entry.{entryAt, phiAt}
@@ -26,15 +26,11 @@ use Rattle.blocks.proofs.StoreLists.{Whole, none, also, stored-join, stored-len
 use Rattle.entries.proofs.TableLaws.{placed-apart, own-inside, few-tables, block-entry, phi-stored, under}
 use Rattle.calls.proofs.Passed.{SnapPassed}
 use Rattle.entries.proofs.ExtendedLaws.{placed-longer}
-use Rattle.calls.proofs.CardLaws.{chain-is}
-use Rattle.calls.proofs.ActiveLaws.{area-kept, chain-starts, region-at}
+use Rattle.calls.proofs.CardLaws.{chain-is, area-kept}
+use Rattle.calls.proofs.ActiveLaws.{chain-starts, region-at}
 use Rattle.entries.proofs.RulesLaws.{rules-renamed, rules-moved, rules-reopened, entry-renamed, moved-entry, reopened-entry}
 use Rattle.entries.proofs.LocalLaws.{phi-shared}
 use Rattle.changes.proofs.SnappedChain.{stores-are, whole, d-low, room-bytes, old-fits, new-fits, old-long, new-long, new-inside, d-inside, copies-whole, old-block, new-block, same-long, split, snapped-chain}
-
-cost-one : (d : Descriptor) → d .layout ≡ 1 → costOf d ≡ 1 + tableCount (d .volume)
-unfolding cost
-cost-one d e = rw (eq-eqb (d .layout) 1 e)
 
 -- a snap
 module _ (c name : List ℕ) (pass : Passes c) (e : SnapPassed c name) where

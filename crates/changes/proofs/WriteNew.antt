@@ -3,19 +3,19 @@ use mathlib.Core.Path.{_≡_, refl, sym, ap, _∙_, subst}
 use mathlib.Core.Logic.{_⊎_, inl, inr}
 use mathlib.Core.Bool.{Bool, true, false}
 use mathlib.Core.List.{List, [], _∷_, _++_}
-use Prim.Native.Nat.{ℕ, _+_, _-_, _*_, _/_, _%_, _^_, _≤_, _<_}
+use Prim.Native.Nat.{ℕ, _+_, _-_, _*_, _/_, _%_, _≤_, _<_}
 use native.Mathlib.Omega.{arith}
-use lib.ListN.{length, getD, length-replicate}
+use lib.ListN.{length, getD}
 use lib.Dec.{eqb, ltb}
 use borrow.Author.Tests.{ne-eqb, eqb-true, eqb-false, ltb-true, ltb-false}
 use Rattle.blocks.specs.Pick.{pick}
-use Rattle.blocks.specs.Bytes.{u32At, le32, splice, blockCount, blockAt, zeroBlock, Store, store, storeAll}
+use Rattle.blocks.specs.Bytes.{u32At, blockCount, blockAt, zeroBlock, Store, store, storeAll}
 use Rattle.blocks.specs.Descriptor.{extendedOf, tableCount, noDescriptor, tailAt, descriptorBlock}
 use Rattle.blocks.specs.Chain.{Sound, chain, activeOf}
 use Rattle.blocks.specs.declared.numbers.Physical.{Physical}
 use Rattle.blocks.specs.declared.descriptor.Descriptor.{Descriptor}
 use Rattle.blocks.proofs.BoolLaws.{no}
-use Rattle.blocks.proofs.ByteLaws.{u32-part, u32-in, u32-before, u32-after, length-le32, length-blockAt, number-of, zero-number, blocks-long}
+use Rattle.blocks.proofs.ByteLaws.{u32-part, number-of, zero-number, blocks-long}
 use Rattle.blocks.proofs.DescriptorLaws.{Fits, tail-length}
 use Rattle.blocks.proofs.SoundLaws.{form-layout}
 use Rattle.blocks.proofs.LinkedLaws.{active-at}
@@ -25,8 +25,8 @@ use Rattle.entries.specs.Entry.{entryAt, phiAt, tableOf, find, tableIsNew, need
 use Rattle.entries.specs.Rules.{entryOf, Rules}
 use Rattle.entries.specs.declared.find.Found.{Found}
 use Rattle.entries.specs.declared.find.Found.the-variants.{Entry}
-use Rattle.entries.proofs.EntryLaws.{placed-below, need-more, new-table, placed-not-active}
-use Rattle.entries.proofs.SetLaws.{tail-with-length}
+use Rattle.entries.proofs.EntryLaws.{placed-below, new-table, placed-not-active}
+use Rattle.entries.proofs.SetLaws.{tail-with-length, source-length, with-set, tail-set, with-other, tail-other}
 use Rattle.calls.specs.Parts.{descriptorsOf, snapshotsOf, foundThrough}
 use Rattle.calls.specs.Check.{Passes}
 use Rattle.calls.specs.Effect.{writeStores}
@@ -43,38 +43,7 @@ use Rattle.entries.proofs.RulesLaws.{set-table-rules, set-phi-rules}
 use Rattle.changes.proofs.WholeLaws.{write-whole}
 use Rattle.changes.proofs.WrittenRules.{write-region}
 use Rattle.changes.proofs.WriteFacts.{WriteFacts}
-
--- numbers of four bytes each, after n bytes of a list: one that is put, and the others
-module _ (b : List ℕ) (n i v : ℕ) (inside : n + 4 * i + 4 ≤ length b) where
-  number-fits : n + 4 * i + length (le32 v) ≤ length b
-  number-fits = omega (arith, length-le32 v)
-
-  number-other : (k : ℕ) → (k ≡ i → ⊥) → (t : Bool) → ltb k i ≡ t → u32At (splice b (n + 4 * i) (le32 v)) (n + 4 * k) ≡ u32At b (n + 4 * k)
-  number-other k h true e = u32-before b (n + 4 * i) (le32 v) number-fits (n + 4 * k) (omega (arith, ltb-true k i e))
-  number-other k h false e = u32-after b (n + 4 * i) (le32 v) number-fits (n + 4 * k) (omega (arith, ltb-false k i e, h, length-le32 v))
-
--- Phi in the tail of a descriptor block
-module _ (tail : List ℕ) (i v : ℕ) (few : i < 112) (whole : length tail ≡ 472) where
-  tail-set : v < 2 ^ 32 → u32At (tailWith tail i v) (24 + 4 * i) ≡ v
-  unfolding tailWith
-  tail-set h = u32-in tail (24 + 4 * i) v (omega arith) h
-
-  tail-other : (k : ℕ) → (k ≡ i → ⊥) → u32At (tailWith tail i v) (24 + 4 * k) ≡ u32At tail (24 + 4 * k)
-  unfolding tailWith
-  tail-other k h = number-other tail 24 i v (omega arith) k h (ltb k i) refl
-
--- the entries of a table block
-module _ (table : List ℕ) (j v : ℕ) (few : j < 128) (whole : length table ≡ 512) where
-  table-set : v < 2 ^ 32 → u32At (tableWith table j v) (4 * j) ≡ v
-  unfolding tableWith
-  table-set h = u32-in table (4 * j) v (omega arith) h
-
-  table-other : (k : ℕ) → (k ≡ j → ⊥) → u32At (tableWith table j v) (4 * k) ≡ u32At table (4 * k)
-  unfolding tableWith
-  table-other k h =
-      let e : (n : ℕ) → 0 + 4 * n ≡ 4 * n = λ n. omega arith in
-      subst (λ (x : ℕ). u32At (splice table x (le32 v)) (4 * k) ≡ u32At table (4 * k)) (e j)
-      (subst (λ (x : ℕ). u32At (splice table (0 + 4 * j) (le32 v)) x ≡ u32At table x) (e k) (number-other table 0 j v (omega arith) k h (ltb k j) refl))
+use Rattle.entries.proofs.PutLaws.{need-two}
 
 -- Phi of a card whose block a holds a descriptor and a tail, and of the tail of block a
 phi-tail : (t : List ℕ) (a : ℕ) → 512 * a + 512 ≤ length t → (x : Descriptor) (tail : List ℕ) → blockAt t a ≡ descriptorBlock x tail → Fits x → length tail ≡ 472
@@ -96,11 +65,7 @@ entry-through : (s : List ℕ) (y : Descriptor) (j n : ℕ) → eqb (y .layout) 
 unfolding entryOf
 entry-through s y j n e h = ap (λ (m : ℕ). pick (eqb m 0) 0 (entryAt s m (j % 128))) (table-phi s y (j / 128) e ∙ h)
 
--- the table block that a new one is made from: all nil, or a copy
-copied-length : (c : List ℕ) (m : ℕ) (z : Bool) → (z ≡ false → 512 * m + 512 ≤ length c) → length (pick z zeroBlock (blockAt c m)) ≡ 512
-copied-length c m true h = length-replicate {A = ℕ} 512 0
-copied-length c m false h = length-blockAt c m (h refl)
-
+-- the entries of the table block that a new one is made from
 copied-entry : (c : List ℕ) (m j : ℕ) → j < 128 → (z : Bool) → u32At (pick z zeroBlock (blockAt c m)) (4 * j) ≡ pick z 0 (entryAt c m j)
 copied-entry c m j h true = zero-number 512 (4 * j)
 copied-entry c m j h false = entry-in c m j h
@@ -171,7 +136,7 @@ module _ (c t : List ℕ) (ds es : List Descriptor) (d : Descriptor) (l m : ℕ)
       omega (arith, placed-below ds d m p (eqb-false m 0 z))
 
   table-long : length old-table ≡ 512
-  table-long = copied-length c m (eqb m 0) m-inside
+  table-long = source-length c m (eqb m 0) m-inside
 
   new-entry : (j : ℕ) → j < 128 → entryAt t b j ≡ u32At (tableWith old-table (l % 128) (b + 1)) (4 * j)
   new-entry j h = sym (entry-in t b j h) ∙ ap (λ (y : List ℕ). u32At y (4 * j)) table
@@ -184,13 +149,13 @@ module _ (c t : List ℕ) (ds es : List Descriptor) (d : Descriptor) (l m : ℕ)
 
   -- entry l names the new block
   entry-set : entryOf t x l ≡ b + 1
-  entry-set = through-new l refl ∙ table-set old-table (l % 128) (b + 1) (omega arith) table-long (omega arith)
+  entry-set = through-new l refl ∙ with-set old-table (l % 128) (b + 1) (omega arith) table-long (omega arith)
 
   -- the others name what they named
   same-group : (j : ℕ) → j / 128 ≡ g → (j ≡ l → ⊥) → entryOf t x j ≡ entryOf c d j
   same-group j e n =
       through-new j e
-      ∙ table-other old-table (l % 128) (b + 1) (omega arith) table-long (j % 128) (λ z. n (omega (arith, z, e)))
+      ∙ with-other old-table (l % 128) (b + 1) (omega arith) table-long (j % 128) (λ z. n (omega (arith, z, e)))
       ∙ copied-entry c m (j % 128) (omega arith) (eqb m 0)
       ∙ sym (entry-through c d j m other-layout (ap (λ (i : ℕ). phiAt c d i) e ∙ phi-m))
 
@@ -263,15 +228,7 @@ module _ (c t : List ℕ) (ds es : List Descriptor) (d : Descriptor) (l m : ℕ)
         };
       }
 
--- two blocks are taken where the table block is new
-two-new : (n : Bool) (k : ℕ) → k ≡ pick n 2 1 → k ≡ 2 → n ≡ true
-two-new true k e h = refl
-two-new false k e h = absurd (omega arith)
-
-need-new : (alpha : ℕ) (m p : Physical) → need alpha (Entry m p) ≡ 2 → tableIsNew alpha (m .0) ≡ true
-need-new alpha m p e = two-new (tableIsNew alpha (m .0)) (need alpha (Entry m p)) (need-more alpha m p (λ z. omega (arith, z, e))) e
-
--- which arises only in layout 2
+-- a new table block arises only in layout 2
 new-layout : (c : List ℕ) (ds : List Descriptor) (d : Descriptor) (l : ℕ) (m p : Physical) → find c ds d l ≡ Entry m p → tableIsNew (d .alpha .0) (m .0) ≡ true
     → (o : Bool) → eqb (d .layout) 1 ≡ o → o ≡ false
 new-layout c ds d l m p is e true h = no (sym (new-table (d .alpha .0) (m .0) (omega (arith, found-own c ds d l m p is h))) ∙ e)
@@ -284,7 +241,7 @@ new-stores : (c : List ℕ) (d : Descriptor) (l : ℕ) (block : List ℕ) (m p :
     ∷ store (d .alpha .0) (descriptorBlock (extendedOf d 2) (tailWith (tailAt c (d .alpha .0)) (l / 128) (d .beta .0)))
     ∷ []
 unfolding writing setInNewTable
-new-stores c d l block m p e = rw (e, need-new (d .alpha .0) m p e)
+new-stores c d l block m p e = rw (e, need-two (d .alpha .0) m p e)
 
 -- an accepted write of two blocks on a card that passes
 module _ (c : List ℕ) (passes : Passes c) (l : ℕ) (block : List ℕ) (ok : WritePassed c l block) where
@@ -352,7 +309,7 @@ module _ (c : List ℕ) (passes : Passes c) (l : ℕ) (block : List ℕ) (ok : W
     in-layout : act .layout ≡ 2
     in-layout =
         layout-two (act .layout) (form-layout c (act .alpha .0) act (active-form c chn sound-c))
-        (new-layout c chn act l m p is (need-new (act .alpha .0) m p takes) (eqb (act .layout) 1) refl)
+        (new-layout c chn act l m p is (need-two (act .alpha .0) m p takes) (eqb (act .layout) 1) refl)
 
     act-small : act .beta .0 + 2 ≤ 65536
     act-small = omega (arith, room-two, card-most c (passes .area))

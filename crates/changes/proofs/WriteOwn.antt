@@ -10,14 +10,14 @@ use lib.ListN.{length, getD}
 use lib.Dec.{eqb, ltb, leb}
 use borrow.Author.Tests.{eq-eqb, ne-eqb, lt-ltb, le-leb, eqb-true, eqb-false, ltb-true, ltb-false, not-true}
 use Rattle.blocks.specs.Pick.{pick}
-use Rattle.blocks.specs.Bytes.{u32At, le32, blockCount, blockAt, Store, store, storeAll}
+use Rattle.blocks.specs.Bytes.{u32At, blockCount, blockAt, Store, store, storeAll}
 use Rattle.blocks.specs.Descriptor.{tableCount, noDescriptor, tailAt, descriptorBlock, extendedOf}
 use Rattle.blocks.specs.Chain.{Sound, chain, activeOf}
 use Rattle.blocks.specs.declared.numbers.Physical.{Physical}
 use Rattle.blocks.specs.declared.descriptor.Descriptor.{Descriptor}
 use Rattle.blocks.proofs.Tests.{and-right}
 use Rattle.blocks.proofs.BoolLaws.{no, true-or, or-false-right}
-use Rattle.blocks.proofs.ByteLaws.{u32-before, u32-after, u32-in, length-le32, length-blockAt}
+use Rattle.blocks.proofs.ByteLaws.{length-blockAt}
 use Rattle.blocks.proofs.DescriptorLaws.{Fits, fits-of, extended-none}
 use Rattle.blocks.proofs.SoundLaws.{form-layout}
 use Rattle.blocks.proofs.LinkedLaws.{chain-linked, linked-some, active-at}
@@ -43,20 +43,13 @@ use Rattle.entries.proofs.RulesLaws.{set-table-rules, set-phi-rules, kept-entry
 use Rattle.changes.proofs.WholeLaws.{write-whole}
 use Rattle.changes.proofs.WrittenRules.{write-region}
 use Rattle.changes.proofs.WriteFacts.{WriteFacts}
+use Rattle.entries.proofs.SetLaws.{with-set, with-other}
+use Rattle.entries.proofs.PutLaws.{need-one}
 
 -- the stores of a write that takes no block, and of one that takes one
 writing-none : (c : List ℕ) (d : Descriptor) (m p : Physical) (l : ℕ) (block : List ℕ) → need (d .alpha .0) (Entry m p) ≡ 0 → writing c d (Entry m p) l block ≡ store (p .0) block ∷ []
 unfolding writing
 writing-none c d m p l block e = rw (eq-eqb (need (d .alpha .0) (Entry m p)) 0 e)
-
-one-by : (s new : Bool) (k : ℕ) → k ≡ pick s 0 (pick new 2 1) → k ≡ 1 → new ≡ false
-one-by true new k e h = absurd (omega arith)
-one-by false true k e h = absurd (omega arith)
-one-by false false k e h = refl
-
-need-one : (alpha : ℕ) (m p : Physical) → need alpha (Entry m p) ≡ 1 → tableIsNew alpha (m .0) ≡ false
-unfolding need
-need-one alpha m p e = one-by (not (eqb (p .0) 0) && leb alpha (p .0)) (tableIsNew alpha (m .0)) (need alpha (Entry m p)) refl e
 
 writing-one : (c : List ℕ) (d : Descriptor) (m p : Physical) (l : ℕ) (block : List ℕ) → need (d .alpha .0) (Entry m p) ≡ 1
     → writing c d (Entry m p) l block ≡ store (d .beta .0) block ∷ setInTable c d (m .0) l
@@ -79,20 +72,11 @@ placed-no-table ds d p h n =
 
 -- an entry of a table block with one entry set
 module _ (c t : List ℕ) (m k q : ℕ) (inside : 512 * m + 512 ≤ length c) (number : k < 128) (is : blockAt t m ≡ tableWith (blockAt c m) k q) where
-  with-fits : 4 * k + length (le32 q) ≤ length (blockAt c m)
-  with-fits = omega (arith, length-le32 q, length-blockAt c m inside)
-
   table-set : q < 4294967296 → entryAt t m k ≡ q
-  unfolding tableWith
-  table-set h = sym (entry-in t m k number) ∙ ap (λ (b : List ℕ). u32At b (4 * k)) is ∙ u32-in (blockAt c m) (4 * k) q (omega (arith, length-blockAt c m inside)) h
-
-  with-by : (j : ℕ) → (j ≡ k → ⊥) → (b : Bool) → ltb j k ≡ b → u32At (tableWith (blockAt c m) k q) (4 * j) ≡ u32At (blockAt c m) (4 * j)
-  unfolding tableWith
-  with-by j n true e = u32-before (blockAt c m) (4 * k) (le32 q) with-fits (4 * j) (omega (arith, ltb-true j k e))
-  with-by j n false e = u32-after (blockAt c m) (4 * k) (le32 q) with-fits (4 * j) (omega (arith, ltb-false j k e, n, length-le32 q))
+  table-set h = sym (entry-in t m k number) ∙ ap (λ (b : List ℕ). u32At b (4 * k)) is ∙ with-set (blockAt c m) k q number (length-blockAt c m inside) h
 
   table-rest : (j : ℕ) → j < 128 → (j ≡ k → ⊥) → entryAt t m j ≡ entryAt c m j
-  table-rest j h n = sym (entry-in t m j h) ∙ ap (λ (b : List ℕ). u32At b (4 * j)) is ∙ with-by j n (ltb j k) refl ∙ entry-in c m j h
+  table-rest j h n = sym (entry-in t m j h) ∙ ap (λ (b : List ℕ). u32At b (4 * j)) is ∙ with-other (blockAt c m) k q number (length-blockAt c m inside) j n ∙ entry-in c m j h
 
 -- the active descriptor of a sound chain that keeps the rules
 module _ (c : List ℕ) (ds : List Descriptor) (chained : chain c ≡ Sound ds) (rules : Rules c ds (activeOf ds)) where

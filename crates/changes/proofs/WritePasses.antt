@@ -29,9 +29,9 @@ need-by true new n e z o = absurd (z e)
 need-by false true n e z o = e
 need-by false false n e z o = absurd (o e)
 
-need-two : (alpha : ℕ) (m p : Physical) → (need alpha (Entry m p) ≡ 0 → ⊥) → (need alpha (Entry m p) ≡ 1 → ⊥) → need alpha (Entry m p) ≡ 2
+need-other : (alpha : ℕ) (m p : Physical) → (need alpha (Entry m p) ≡ 0 → ⊥) → (need alpha (Entry m p) ≡ 1 → ⊥) → need alpha (Entry m p) ≡ 2
 unfolding need
-need-two alpha m p z o = need-by (not (eqb (p .0) 0) && leb alpha (p .0)) (tableIsNew alpha (m .0)) (need alpha (Entry m p)) refl z o
+need-other alpha m p z o = need-by (not (eqb (p .0) 0) && leb alpha (p .0)) (tableIsNew alpha (m .0)) (need alpha (Entry m p)) refl z o
 
 taken : (c : List ℕ) (l : ℕ) (block : List ℕ) {n k : ℕ} → n ≡ k
     → let d = activeOf (descriptorsOf c) in
@@ -52,7 +52,7 @@ facts-by c p l block ok (Misplaced h) e m z o u v = no (sym m)
 facts-by c p l block ok (Entry a b) e m true o u v = taken c l block (eqb-true _ 0 u) (own-none c p l block ok a b e (eqb-true _ 0 u))
 facts-by c p l block ok (Entry a b) e m false true u v = taken c l block (eqb-true _ 1 v) (own-one c p l block ok a b e (eqb-true _ 1 v))
 facts-by c p l block ok (Entry a b) e m false false u v =
-    let two = need-two (activeOf (descriptorsOf c) .alpha .0) a b (eqb-false _ 0 u) (eqb-false _ 1 v) in
+    let two = need-other (activeOf (descriptorsOf c) .alpha .0) a b (eqb-false _ 0 u) (eqb-false _ 1 v) in
     taken c l block two (new-two c p l block ok a b e two)
 
 pub write-facts : (c : List ℕ) → Passes c → (l : ℕ) (block : List ℕ) → WritePassed c l block

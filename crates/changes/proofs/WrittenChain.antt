@@ -1,6 +1,6 @@
--- The chain after an accepted write: the snapshots as they were, then the active descriptor with as many more blocks as the write took.
+-- The chain after an accepted write: the snapshots as they were, then the active descriptor with as many more blocks as the write took; and which blocks it stores.
 use mathlib.Core.Path.{_≡_, refl, sym, ap, _∙_, subst}
-use mathlib.Core.Logic.{inl}
+use mathlib.Core.Logic.{inl, _⊎_}
 use mathlib.Core.Bool.{Bool, true, false}
 use mathlib.Core.List.{List, [], _∷_, _++_}
 use Prim.Native.Nat.{ℕ, _+_, _/_, _%_, _≤_, _<_}
@@ -35,6 +35,7 @@ use Rattle.calls.proofs.Passed.{WritePassed}
 use Rattle.calls.proofs.ActiveLaws.{chain-some, active-last, snapshots-few, active-layout, active-fresh, active-linked, active-next, active-inside, active-long, active-rise, active-volume, active-name, active-reserved, active-phi}
 use Rattle.changes.proofs.WholeLaws.{write-whole}
 use Rattle.blocks.proofs.SoundLaws.{phi-any}
+use Rattle.entries.proofs.PutLaws.{writing-above, writing-covers}
 
 -- stores at or above the active alpha, on a card with a sound chain
 module _ (c : List ℕ) (ds : List Descriptor) (sound-c : chain c ≡ Sound ds) where
@@ -218,3 +219,16 @@ written-chain c l block e =
     let ds : List Descriptor = descriptorsOf c in
     found-chain c ds (chain-is (chain c) (e .sound)) (card-most c (e .area)) l block (foundThrough c (activeOf ds) l) refl
     (e .in-place) (e .below) (e .room) (write-whole c l block e)
+
+-- a write stores no block below the active alpha, and every block that it takes
+pub write-above : (c : List ℕ) (l : ℕ) (block : List ℕ) → WritePassed c l block → (p : ℕ) → p < activeOf (descriptorsOf c) .alpha .0 → isStored (writeStores c l block) p ≡ false
+unfolding writeStores
+write-above c l block e p h =
+    let d = activeOf (descriptorsOf c) in
+    writing-above c d (active-rise c (descriptorsOf c) (chain-is (chain c) (e .sound))) l block p h (foundThrough c d l)
+
+pub write-covered : (c : List ℕ) (l : ℕ) (block : List ℕ)
+    → let d = activeOf (descriptorsOf c) in
+    (p : ℕ) → p < d .beta .0 + need (d .alpha .0) (foundThrough c d l) → (p < d .beta .0) ⊎ (isStored (writeStores c l block) p ≡ true)
+unfolding writeStores
+write-covered c l block p h = let d = activeOf (descriptorsOf c) in writing-covers c d l block (foundThrough c d l) p h

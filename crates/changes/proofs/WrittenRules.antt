@@ -2,9 +2,9 @@
 use mathlib.Core.Path.{_≡_, refl, sym, ap, _∙_, subst}
 use mathlib.Core.Bool.{Bool, true, false}
 use mathlib.Core.List.{List, [], _∷_, _++_}
-use Prim.Native.Nat.{ℕ, zero, suc, _+_, _≤_, _<_}
+use Prim.Native.Nat.{ℕ, _+_, _≤_, _<_}
 use native.Mathlib.Omega.{arith}
-use lib.ListN.{length, getD, length-append}
+use lib.ListN.{length, getD, length-append, List·getD-append}
 use lib.Seq.{getD-append-seam}
 use lib.Dec.{ltb}
 use borrow.Author.Tests.{ltb-true, ltb-false}
@@ -20,23 +20,16 @@ use Rattle.entries.specs.Rules.{Rules}
 use Rattle.calls.specs.Parts.{descriptorsOf, snapshotsOf, foundThrough}
 use Rattle.calls.specs.Check.{Passes}
 use Rattle.calls.specs.Effect.{writeStores}
-use Rattle.calls.proofs.CardLaws.{chain-is}
-use Rattle.blocks.proofs.StoreLists.{isStored, stored-length, stored-other}
+use Rattle.calls.proofs.CardLaws.{chain-is, area-kept}
+use Rattle.blocks.proofs.StoreLists.{stored-length, stored-other}
 use Rattle.blocks.proofs.SharedLaws.{Below}
 use Rattle.entries.proofs.LocalLaws.{Region}
 use Rattle.calls.proofs.Passed.{WritePassed}
 use Rattle.entries.proofs.ExtendedLaws.{extended-placed}
-use Rattle.calls.proofs.ActiveLaws.{active-rise, active-inside, region-below, region-at, active-last, active-after, area-kept}
+use Rattle.calls.proofs.ActiveLaws.{active-inside, region-below, region-at, active-last, active-after}
 use Rattle.entries.proofs.RulesLaws.{shared-rules}
-use Rattle.entries.proofs.PutLaws.{writing-above}
 use Rattle.changes.proofs.WholeLaws.{write-whole}
-use Rattle.changes.proofs.WrittenChain.{written-chain}
-
--- the members of a list before its end are those of the list with another end
-front-same : (xs ys zs : List Descriptor) (j : ℕ) → j < length xs → getD (xs ++ ys) j noDescriptor ≡ getD (xs ++ zs) j noDescriptor
-front-same [] ys zs j h = absurd (omega arith)
-front-same (x ∷ xs) ys zs zero h = refl
-front-same (x ∷ xs) ys zs (suc j) h = front-same xs ys zs j (omega arith)
+use Rattle.changes.proofs.WrittenChain.{written-chain, write-above}
 
 -- an accepted write on a card that passes
 module _ (c : List ℕ) (passes : Passes c) (l : ℕ) (block : List ℕ) (ok : WritePassed c l block) where
@@ -79,21 +72,17 @@ module _ (c : List ℕ) (passes : Passes c) (l : ℕ) (block : List ℕ) (ok : W
       let r = write-region j (omega (arith, count)) in
       record { some = r .some; upto = snapshot-end j h; own = r .own; few = r .few }
 
-  low-stored : (q : ℕ) → q < d .alpha .0 → isStored (writeStores c l block) q ≡ false
-  unfolding writeStores
-  low-stored q h = writing-above c d (active-rise c ds sound-c) l block q h (foundThrough c d l)
-
   pub write-below : 0 < d .alpha .0 → Below c t (d .alpha .0)
   write-below h =
       record {
         long = long;
         some = h;
         inside = omega (arith, active-inside c ds sound-c);
-        blocks = λ q k. sym (stored-other (length c) c refl (write-whole c l block ok) q (low-stored q k));
+        blocks = λ q k. sym (stored-other (length c) c refl (write-whole c l block ok) q (write-above c l block ok q k));
       }
 
   -- the rules of the snapshots
-  snapshot-rules : (j : ℕ) → j < length xs → Rules t (xs ++ (x ∷ [])) (getD ds j noDescriptor)
+  pub snapshot-rules : (j : ℕ) → j < length xs → Rules t (xs ++ (x ∷ [])) (getD ds j noDescriptor)
   snapshot-rules j h =
       let e = getD ds j noDescriptor in
       let r = snapshot-region j h in
@@ -108,7 +97,7 @@ module _ (c : List ℕ) (passes : Passes c) (l : ℕ) (block : List ℕ) (ok : W
   rules-by : Rules t (xs ++ (x ∷ [])) x → (j : ℕ) → j < length (xs ++ (x ∷ [])) → (b : Bool) → ltb j (length xs) ≡ b → Rules t (xs ++ (x ∷ [])) (getD (xs ++ (x ∷ [])) j noDescriptor)
   rules-by a j h true e =
       let k = ltb-true j (length xs) e in
-      let q : getD ds j noDescriptor ≡ getD (xs ++ (x ∷ [])) j noDescriptor = ap (λ (ys : List Descriptor). getD ys j noDescriptor) split ∙ front-same xs (d ∷ []) (x ∷ []) j k in
+      let q : getD ds j noDescriptor ≡ getD (xs ++ (x ∷ [])) j noDescriptor = ap (λ (ys : List Descriptor). getD ys j noDescriptor) split ∙ List·getD-append xs (d ∷ []) noDescriptor j k ∙ sym (List·getD-append xs (x ∷ []) noDescriptor j k) in
       subst (λ (y : Descriptor). Rules t (xs ++ (x ∷ [])) y) q (snapshot-rules j k)
   rules-by a j h false e =
       let k : j ≡ length xs = omega (arith, ltb-false j (length xs) e, length-append xs (x ∷ [])) in

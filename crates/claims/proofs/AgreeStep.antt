@@ -22,7 +22,7 @@ use Rattle.claims.specs.History.{betaOf, Agree, isFormat, formats}
 use Rattle.claims.proofs.Agreement.{agree-below, agree-chain}
 use Rattle.claims.proofs.AgreeAnswer.{agree-answer}
 use Rattle.blocks.proofs.StoreLists.{Whole, isStored, stored-length, stored-both, stored-anyway, blocks-taken}
-use Rattle.claims.proofs.SameStores.{v-below, same-revert, same-snap, snap-covered, same-write, found-is, write-covered}
+use Rattle.claims.proofs.SameStores.{same-revert, same-snap, same-write, found-is}
 use Rattle.calls.proofs.Passed.{WritePassed, SnapPassed, RevertPassed}
 use Rattle.claims.specs.Kinds.{Kind, kindOf}
 use Rattle.claims.proofs.Changes.{storesBy, Allowed, to-format, to-leave, to-write, to-snap, to-revert}
@@ -30,9 +30,9 @@ use Rattle.claims.proofs.Steps.{step-cases}
 use Rattle.claims.proofs.Owed.{owed}
 use Rattle.blocks.proofs.LinkedLaws.{active-append}
 use Rattle.changes.proofs.WholeLaws.{write-whole, snap-whole, revert-whole}
-use Rattle.changes.proofs.RevertedChain.{before, reverted-chain}
-use Rattle.changes.proofs.SnappedChain.{snapped-chain}
-use Rattle.changes.proofs.WrittenChain.{written-chain}
+use Rattle.changes.proofs.RevertedChain.{before, reverted-chain, reverted-below}
+use Rattle.changes.proofs.SnappedChain.{snapped-chain, snap-covered}
+use Rattle.changes.proofs.WrittenChain.{written-chain, write-covered}
 
 -- the same stores on two cards that agree: they agree again, where every block below the new beta was below the old one or is stored
 module _ (s t : List ℕ) (agree : Agree s t) (ss : List Store) (whole : Whole (length s) ss) (ds : List Descriptor)
@@ -50,7 +50,7 @@ module _ (s t : List ℕ) (agree : Agree s t) (ss : List Store) (whole : Whole (
   same-block p (inl h) = stored-both (length s) p s t refl (sym (agree .long)) whole (agree-below s t agree .blocks p h)
   same-block p (inr h) = stored-anyway (length s) p s t refl (sym (agree .long)) whole h
 
-  pub agree-stored : Agree (storeAll s ss) (storeAll t ss)
+  agree-stored : Agree (storeAll s ss) (storeAll t ss)
   agree-stored =
       record {
         long = stored-length (length s) s refl whole ∙ sym (stored-length (length s) t (sym (agree .long)) whole);
@@ -60,7 +60,7 @@ module _ (s t : List ℕ) (agree : Agree s t) (ss : List Store) (whole : Whole (
         below = rw (beta-is (storeAll s ss) in-s) (blocks-taken (storeAll s ss) (storeAll t ss) (activeOf ds .beta .0) (λ p h. same-block p (covered p h)));
       }
 
-pub active-two : (x y : Descriptor) → activeOf (x ∷ y ∷ []) ≡ y
+active-two : (x y : Descriptor) → activeOf (x ∷ y ∷ []) ≡ y
 unfolding activeOf
 active-two x y = refl
 
@@ -90,7 +90,7 @@ module _ (s t : List ℕ) (agree : Agree s t) where
       both (revertStores s name) (revertStores t name) (before ss name ++ (w ∷ [])) (revert-whole s name e) (same-revert s t agree name e) (reverted-chain s name e)
       (subst (λ (x : Chain). let xs = descriptors x in chain (storeAll t (revertStores t name)) ≡ Sound (before (snapshotsOf xs) name ++ (linkedOf (renamedOf (withName (snapshotsOf xs) name) (activeOf xs .name)) (physical 0) ∷ [])))
       (sym (agree-chain s t agree)) (reverted-chain t name e′))
-      (λ p h. inl (omega (arith, v-below s t agree name e .1, ap (λ (x : Descriptor). x .beta .0) (active-snoc (before ss name) w))))
+      (λ p h. inl (omega (arith, reverted-below s name e .1, ap (λ (x : Descriptor). x .beta .0) (active-snoc (before ss name) w))))
 
   after-snap : (name : List ℕ) → SnapPassed s name → SnapPassed t name → Agree (storeAll s (snapStores s name)) (storeAll t (snapStores t name))
   after-snap name e e′ =
@@ -98,7 +98,7 @@ module _ (s t : List ℕ) (agree : Agree s t) where
       both (snapStores s name) (snapStores t name) (snapshotsOf ds ++ (old ∷ reopenedOf d ∷ [])) (snap-whole s name e) (same-snap s t agree name e) (snapped-chain s name e)
       (subst (λ (x : Chain). let xs = descriptors x in chain (storeAll t (snapStores t name)) ≡ Sound (snapshotsOf xs ++ (linkedOf (renamedOf (activeOf xs) name) (activeOf xs .beta) ∷ reopenedOf (activeOf xs) ∷ [])))
       (sym (agree-chain s t agree)) (snapped-chain t name e′))
-      (λ p h. snap-covered s t agree name e p (omega (arith, ap (λ (x : Descriptor). x .beta .0) (active-append (snapshotsOf ds) old (reopenedOf d ∷ [])), ap (λ (x : Descriptor). x .beta .0) (active-two old (reopenedOf d)))))
+      (λ p h. snap-covered s name e p (omega (arith, ap (λ (x : Descriptor). x .beta .0) (active-append (snapshotsOf ds) old (reopenedOf d ∷ [])), ap (λ (x : Descriptor). x .beta .0) (active-two old (reopenedOf d)))))
 
   after-write : (l : ℕ) (block : List ℕ) → WritePassed s l block → WritePassed t l block → Agree (storeAll s (writeStores s l block)) (storeAll t (writeStores t l block))
   after-write l block e e′ =
@@ -107,7 +107,7 @@ module _ (s t : List ℕ) (agree : Agree s t) where
       (rw (found-is s t agree l block e)
       (subst (λ (x : Chain). let xs = descriptors x in chain (storeAll t (writeStores t l block)) ≡ Sound (snapshotsOf xs ++ (extendedOf (activeOf xs) (need (activeOf xs .alpha .0) (find t xs (activeOf xs) l)) ∷ [])))
       (sym (agree-chain s t agree)) (written-chain t l block e′)))
-      (λ p h. write-covered s t agree l block e p (omega (arith, ap (λ (x : Descriptor). x .beta .0) (active-snoc (snapshotsOf ds) (extendedOf d more)))))
+      (λ p h. write-covered s l block p (omega (arith, ap (λ (x : Descriptor). x .beta .0) (active-snoc (snapshotsOf ds) (extendedOf d more)))))
 
   -- every change that is no format
   pub after-change : {x : Kind} → formats x ≡ false → Allowed s x → Allowed t x → Agree (storeAll s (storesBy x s)) (storeAll t (storesBy x t))

@@ -1,4 +1,4 @@
--- Two cards that agree, that is with equal bytes below one beta, have one chain, and every call has the same outcome on both.
+-- Two cards that agree, that is with equal bytes below one beta, have one chain, and the rows of every call and what it fills are the same on both.
 use mathlib.Core.Path.{_≡_, refl, sym, ap, _∙_}
 use mathlib.Core.Bool.{false, not, _&&_}
 use mathlib.Core.List.{List, [], _∷_}
@@ -23,13 +23,13 @@ use Rattle.calls.specs.Check.{checkAll, checkCard}
 use Rattle.calls.specs.Ladder.{row, reamRows, readRows, writeRows, snapRows, revertRows, listRows, checkRows, admission}
 use Rattle.calls.specs.Meaning.{filledOf}
 use Rattle.claims.specs.History.{betaOf, Agree}
-use Rattle.calls.proofs.CardLaws.{chain-is}
+use Rattle.calls.proofs.CardLaws.{chain-is, area-kept}
 use Rattle.calls.proofs.Passed.{ReadPassed}
 use Rattle.blocks.proofs.SharedLaws.{Below, below-linked, linked-chain}
 use Rattle.entries.proofs.LocalLaws.{Region, local-find, local-check}
 use Rattle.calls.specs.declared.answer.Record.{Record}
 use Rattle.blocks.specs.declared.descriptor.Format.{Format}
-use Rattle.calls.proofs.ActiveLaws.{target-member, active-target, chain-starts, chain-some, active-rise, active-end, region-end-is, region-below, volume-at, area-kept}
+use Rattle.calls.proofs.ActiveLaws.{target-member, active-target, chain-starts, chain-some, active-rise, active-end, region-end-is, region-below, volume-at}
 use Rattle.calls.proofs.CellLaws.{local-block}
 use Rattle.blocks.proofs.StoreLists.{count-kept}
 use Rattle.calls.proofs.RowLaws.{SameRows, then, same-rows}

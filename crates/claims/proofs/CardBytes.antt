@@ -40,11 +40,11 @@ bytes-cons : (b : ℕ) (l : List ℕ) → b < 256 → AreBytes l → AreBytes (b
 bytes-cons b l h t zero = h
 bytes-cons b l h t (suc i) = t i
 
-pub bytes-append : (xs ys : List ℕ) → AreBytes xs → AreBytes ys → AreBytes (xs ++ ys)
+bytes-append : (xs ys : List ℕ) → AreBytes xs → AreBytes ys → AreBytes (xs ++ ys)
 bytes-append [] ys h t = t
 bytes-append (x ∷ xs) ys h t = bytes-cons x (xs ++ ys) (h 0) (bytes-append xs ys (λ i. h (suc i)) t)
 
-pub bytes-take : (n : ℕ) (l : List ℕ) → AreBytes l → AreBytes (take n l)
+bytes-take : (n : ℕ) (l : List ℕ) → AreBytes l → AreBytes (take n l)
 bytes-take zero l h = bytes-nil
 bytes-take (suc n) [] h = bytes-nil
 bytes-take (suc n) (x ∷ l) h = bytes-cons x (take n l) (h 0) (bytes-take n l (λ i. h (suc i)))
@@ -101,7 +101,7 @@ unfolding nameLength
 name-from [] h = bytes-nil
 name-from (b ∷ bs) h = name-by b bs (nameByte b) refl (name-from bs) h
 
-pub bytes-name : (n : List ℕ) → isName n ≡ true → AreBytes n
+bytes-name : (n : List ℕ) → isName n ≡ true → AreBytes n
 unfolding isName
 bytes-name n h = name-from n (and-right (eqb (length n) 16 && ltb 0 (nameLength n)) (allZero (drop (nameLength n) n)) h)
 

@@ -1,4 +1,4 @@
--- A change of a card by the kind of a call: its stores, and what must hold for it.
+-- A change of a card by the kind of a call: its stores, what must hold for it, and the kind of a snap.
 use mathlib.Core.List.{List, []}
 use Prim.Native.Nat.{ℕ}
 use lib.ListN.{length}
@@ -10,6 +10,11 @@ use Rattle.claims.specs.Kinds.{Kind, Formats, Leaves, Writes, Snaps, Rev
 use Rattle.blocks.proofs.StoreLists.{Whole, none}
 use Rattle.blocks.specs.declared.descriptor.Format.{Format}
 use Rattle.changes.proofs.WholeLaws.{ream-whole, write-whole, snap-whole, revert-whole}
+use mathlib.Core.Path.{_≡_, ap}
+use mathlib.Core.Bool.{true}
+use Rattle.blocks.proofs.BoolLaws.{no}
+use Rattle.blocks.proofs.ListLaws.{same-equal}
+use Rattle.claims.specs.History.{snapsAs}
 
 -- the stores of a change
 unfoldable pub storesBy : Kind → List ℕ → List Store
@@ -35,3 +40,12 @@ change-inside c to-leave = none
 change-inside c (to-write {l = l} {block = block} h) = write-whole c l block h
 change-inside c (to-snap {name = name} h) = snap-whole c name h
 change-inside c (to-revert {name = name} h) = revert-whole c name h
+
+-- a snap under the name
+pub snap-kind : (n : List ℕ) (x : Kind) → snapsAs n x ≡ true → x ≡ Snaps n
+unfolding snapsAs
+snap-kind n (Formats format) e = no e
+snap-kind n Leaves e = no e
+snap-kind n (Writes l block) e = no e
+snap-kind n (Snaps name) e = ap Snaps (same-equal name n e)
+snap-kind n (Reverts name) e = no e

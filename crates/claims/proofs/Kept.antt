@@ -23,20 +23,18 @@ use Rattle.calls.specs.Effect.{reverting, writeStores, snapStores, revertStores
 use Rattle.calls.specs.Step.{step}
 use Rattle.claims.specs.History.{isFormat, formats}
 use Rattle.blocks.proofs.RelinkedLaws.{beta-before}
-use Rattle.blocks.proofs.ChangedLaws.{named-left}
 use Rattle.blocks.proofs.StoreLists.{isStored, stored-length, stored-other, Whole, one-stored}
 use Rattle.calls.proofs.Passed.{WritePassed, SnapPassed, RevertPassed}
 use Rattle.claims.specs.Kinds.{Kind}
 use Rattle.claims.proofs.Changes.{storesBy, Allowed, to-format, to-leave, to-write, to-snap, to-revert}
 use Rattle.claims.proofs.Steps.{step-cases}
-use Rattle.calls.proofs.CardLaws.{active-split, snapshots-snoc, chain-is, snapshots-are, active-is}
+use Rattle.calls.proofs.CardLaws.{active-split, snapshots-snoc, snapshots-are, active-is}
 use Rattle.blocks.proofs.MemberLaws.{member-from, member-fresh}
-use Rattle.calls.proofs.ActiveLaws.{active-rise}
-use Rattle.entries.proofs.PutLaws.{writing-above}
 use Rattle.changes.proofs.WholeLaws.{write-whole, snap-whole, revert-whole}
 use Rattle.changes.proofs.RevertedChain.{before, behind, revert-split, reverted-chain}
 use Rattle.changes.proofs.SnappedChain.{snap-above, snapped-chain}
-use Rattle.changes.proofs.WrittenChain.{written-chain}
+use Rattle.changes.proofs.WrittenChain.{written-chain, write-above}
+use Rattle.blocks.proofs.NamedLaws.{named-left}
 
 -- v stands on t after the descriptors xs, with the blocks below its beta as on s, and the active name is n
 pub record Stands (s : List ℕ) (xs : List Descriptor) (v : Descriptor) (n : List ℕ) (t : List ℕ) : Type 0 where
@@ -87,21 +85,15 @@ module _ (s : List ℕ) (xs : List Descriptor) (v : Descriptor) (n : List ℕ) (
   active-called = ap (λ (x : Descriptor). x .name) stands-active ∙ h .active
 
   -- a write
-  write-above : (l : ℕ) (block : List ℕ) → WritePassed t l block → (p : ℕ) → p < v .beta .0 → isStored (writeStores t l block) p ≡ false
-  unfolding writeStores
-  write-above l block e p q =
-      let d = activeOf (descriptorsOf t) in
-      writing-above t d (active-rise t (descriptorsOf t) (chain-is (chain t) (e .sound))) l block p (omega (arith, active-above)) (foundThrough t d l)
-
-  pub stands-write : (l : ℕ) (block : List ℕ) → WritePassed t l block → Stands s xs v n (storeAll t (writeStores t l block))
+  stands-write : (l : ℕ) (block : List ℕ) → WritePassed t l block → Stands s xs v n (storeAll t (writeStores t l block))
   stands-write l block e =
       let d = activeOf (descriptorsOf t) in
       let x = extendedOf d (need (d .alpha .0) (foundThrough t d l)) in
       stands-by (writeStores t l block) (write-whole t l block e) (snapshotsOf rest ++ (x ∷ [])) (omega (arith, length-append (snapshotsOf rest) (x ∷ [])))
-      (written-chain t l block e ∙ ap Sound (grown (x ∷ []))) (ap (λ (y : Descriptor). y .name) (active-snoc (snapshotsOf rest) x) ∙ active-called) (write-above l block e)
+      (written-chain t l block e ∙ ap Sound (grown (x ∷ []))) (ap (λ (y : Descriptor). y .name) (active-snoc (snapshotsOf rest) x) ∙ active-called) (λ p q. write-above t l block e p (omega (arith, active-above)))
 
   -- a snap
-  pub stands-snap : (name : List ℕ) → SnapPassed t name → Stands s xs v n (storeAll t (snapStores t name))
+  stands-snap : (name : List ℕ) → SnapPassed t name → Stands s xs v n (storeAll t (snapStores t name))
   stands-snap name e =
       let d = activeOf (descriptorsOf t) in
       let old = linkedOf (renamedOf d name) (d .beta) in

@@ -13,8 +13,7 @@ use Rattle.blocks.specs.Descriptor.{renamedOf, linkedOf, reopenedOf}
 use Rattle.blocks.specs.Chain.{Sound, chain, indexOf, named, activeOf}
 use Rattle.blocks.specs.declared.descriptor.Descriptor.{Descriptor}
 use Rattle.blocks.proofs.BoolLaws.{no}
-use Rattle.blocks.proofs.ListLaws.{same-equal}
-use Rattle.blocks.proofs.NamedLaws.{named-one}
+use Rattle.blocks.proofs.NamedLaws.{named-one, named-append, named-left}
 use Rattle.blocks.proofs.ChainLaws.{descriptors-are}
 use Rattle.calls.specs.Call.{Call}
 use Rattle.calls.specs.Parts.{descriptorsOf, snapshotsOf}
@@ -23,11 +22,10 @@ use Rattle.calls.specs.Effect.{writeStores, snapStores, revertStores}
 use Rattle.calls.specs.Step.{step, after, isAccepted}
 use Rattle.claims.specs.History.{isFormat, Standing, more, isSnapOf, Position, Nowhere, At, latestFrom, latestSnap, formats, snapsAs}
 use Rattle.claims.specs.Claims.{Unsnapped, end, then, LastSnap}
-use Rattle.blocks.proofs.ChangedLaws.{named-append, named-left}
 use Rattle.claims.proofs.Kept.{Stands, stands-step}
 use Rattle.claims.proofs.Runs.{standing-length, step-length}
 use Rattle.calls.proofs.Passed.{WritePassed, SnapPassed, RevertPassed}
-use Rattle.claims.specs.Kinds.{Kind, Formats, Leaves, Writes, Snaps, Reverts, kindOf}
+use Rattle.claims.specs.Kinds.{Kind, kindOf}
 use Rattle.claims.proofs.Changes.{storesBy, Allowed, to-format, to-leave, to-write, to-snap, to-revert}
 use Rattle.claims.proofs.Steps.{step-cases}
 use Rattle.calls.proofs.CardLaws.{snapshots-snoc}
@@ -156,12 +154,3 @@ at-by n c ks r (inr f) = let e : f .0 ≡ r = omega (arith, f .1) in subst (λ (
 pub latest-at : (n c : List ℕ) (ks : List Call) (r : ℕ) → latestSnap n c ks ≡ At r → LastSnap n c ks r
 unfolding latestSnap
 latest-at n c ks r e = at-by n c ks r (latest-some n ks c 0 r Nowhere e)
-
--- a snap under the name
-pub snap-kind : (n : List ℕ) (x : Kind) → snapsAs n x ≡ true → x ≡ Snaps n
-unfolding snapsAs
-snap-kind n (Formats format) e = no e
-snap-kind n Leaves e = no e
-snap-kind n (Writes l block) e = no e
-snap-kind n (Snaps name) e = ap Snaps (same-equal name n e)
-snap-kind n (Reverts name) e = no e

@@ -17,8 +17,8 @@ use Rattle.calls.specs.Meaning.{answerOf}
 use Rattle.claims.specs.History.{betaOf, isReam}
 use Rattle.claims.specs.Ledger.{ledgerRows, ledgerNumber, ledgerOf}
 use Rattle.claims.specs.Claims.{blocksNeeded}
-use Rattle.claims.proofs.LedgerFacts.{placeless-first}
 use Rattle.claims.proofs.Owed.{owed}
+use Rattle.calls.proofs.RowLaws.{placeless-first}
 
 -- number, place and room, from the answer
 number-by : (t n : Bool) (a l : Answer) → eqb (l .number) 0 ≡ t → a ≡ pick (t && n) (answer 11 0) l → (a .number ≡ l .number) ⊎ ((l .number ≡ 0) × (a .number ≡ 11))

@@ -6,14 +6,13 @@ use Prim.Native.Nat.{ℕ, suc, _+_, _≤_, _<_}
 use native.Mathlib.Omega.{arith}
 use lib.ListN.{length, drop, getD, length-append}
 use lib.Dec.{eqb, ltb, leb}
-use borrow.Author.Tests.{eqb-true, eqb-false, leb-false, le-ltb, not-true, not-false}
+use borrow.Author.Tests.{leb-false, le-ltb, not-false}
 use Rattle.blocks.specs.Pick.{pick, same}
 use Rattle.blocks.specs.Bytes.{blockCount}
 use Rattle.blocks.specs.Descriptor.{noDescriptor}
 use Rattle.blocks.specs.Chain.{chain, named, activeOf}
 use Rattle.blocks.specs.declared.descriptor.Descriptor.{Descriptor}
-use Rattle.blocks.proofs.Tests.{and-left, and-right}
-use Rattle.blocks.proofs.NamedLaws.{named-one}
+use Rattle.blocks.proofs.NamedLaws.{named-one, named-append}
 use Rattle.calls.specs.declared.answer.Answer.{Answer}
 use Rattle.calls.specs.declared.answer.Target.{Target}
 use Rattle.calls.specs.declared.answer.Target.the-variants.{Active, Snapshot}
@@ -29,11 +28,10 @@ use Rattle.claims.specs.History.{betaOf}
 use Rattle.claims.specs.Ledger.{Volume, ledgerRows, volumeRead, cellRead, namesFrom, ledgerNames, volumeOf, volumesOf, ledgerOf}
 use Rattle.claims.specs.Claims.{blocksNeeded, recordNames, CheckClaim, ListClaim}
 use Rattle.calls.proofs.CardLaws.{chain-is, active-split}
-use Rattle.blocks.proofs.ChangedLaws.{named-append}
 use Rattle.claims.proofs.Lists.{list-claim}
 use Rattle.claims.proofs.CheckClaims.{check-claim}
 use Rattle.calls.proofs.Passed.{read-passed, list-passed}
-use Rattle.calls.proofs.RowLaws.{admitted, admission-0}
+use Rattle.calls.proofs.RowLaws.{admitted, admission-0, placeless-first, placeless}
 use Rattle.blocks.specs.declared.descriptor.Format.{Format}
 use Rattle.calls.proofs.ActiveLaws.{target-member, active-target, chain-some, volume-at, active-last, active-end}
 use Rattle.calls.proofs.CellLaws.{passing-found}
@@ -118,32 +116,6 @@ ledger-lists c p records ok =
           ∙ sym names,
       ap (λ (n : ℕ). drop n (listing .0)) count ∙ listing .4 ∙ sym (ap (λ (n : ℕ). drop n records) count),
     )
-
--- rows that neither name a place nor give 11
-unfoldable pub placeless : List Row → Bool
-placeless [] = true
-placeless (r ∷ rs) = eqb (r .place) 0 && not (eqb (r .number) 11) && placeless rs
-
-abbrev pub Plain : Answer → Type 0
-Plain a = (a .place ≡ 0) × (a .number ≡ 11 → ⊥)
-
-placeless-by : (a b : Answer) (h : Bool) → Plain a → Plain b → Plain (pick h a b)
-placeless-by a b true x y = x
-placeless-by a b false x y = y
-
-placeless-row : (r : Row) (t : Bool) → (eqb (r .place) 0 && not (eqb (r .number) 11) && t) ≡ true → Plain (answer (r .number) (r .place)) × (t ≡ true)
-placeless-row r t e =
-    let z = eqb (r .place) 0 in
-    let n = not (eqb (r .number) 11) in
-    let both = and-left (z && n) t e in
-    ((eqb-true (r .place) 0 (and-left z n both), eqb-false (r .number) 11 (not-true (eqb (r .number) 11) (and-right z n both))), and-right (z && n) t e)
-
-pub placeless-first : (rs : List Row) → placeless rs ≡ true → Plain (firstRow rs)
-unfolding placeless firstRow
-placeless-first [] e = (refl, λ h. absurd (omega (arith, h)))
-placeless-first (r ∷ rs) e =
-    let parts = placeless-row r (placeless rs) e in
-    placeless-by (answer (r .number) (r .place)) (firstRow rs) (r .holds) (parts .0) (placeless-first rs (parts .1))
 
 ream-placeless : (c : List ℕ) (format : Format) → placeless (rowsOf (Ream format) c) ≡ true
 unfolding placeless rowsOf admission reamRows

@@ -17,7 +17,7 @@ use Rattle.calls.specs.Check.{Passes}
 use Rattle.calls.specs.Ladder.{admission, reamRows, readRows, writeRows, snapRows, revertRows, listRows, checkRows}
 use Rattle.calls.specs.Meaning.{meaningOf, rowsOf, answerOf, storesOf, filledOf, givenOf, lentOf}
 use Rattle.calls.specs.Step.{isAccepted}
-use Rattle.calls.proofs.RowLaws.{fresh, holdsOf, rows-numbered, fresh-never, number-given, SameRows}
+use Rattle.calls.proofs.RowLaws.{fresh, holdsOf, rows-numbered, fresh-never, number-given, SameRows, placeless}
 use Rattle.calls.proofs.Passed.{ream-passed, read-passed, write-passed, snap-passed, revert-passed}
 use Rattle.claims.specs.Kinds.{kindOf}
 use Rattle.claims.specs.History.{betaOf, Agree, isReam, isFormat}
@@ -26,7 +26,7 @@ use Rattle.claims.specs.Claims.{blocksNeeded, lentAtEntry, fills, FirstU
 use Rattle.claims.proofs.Agreement.{ream-rows, read-rows, write-rows, snap-rows, revert-rows, list-rows, check-rows, read-filled, list-filled}
 use Rattle.claims.proofs.Places.{ream-six, read-six, write-six, snap-six, revert-six, list-six, check-six}
 use Rattle.claims.proofs.Changes.{storesBy, Allowed, to-format, to-leave, to-write, to-snap, to-revert}
-use Rattle.claims.proofs.LedgerFacts.{placeless, ledgerAnswer, read-answer, write-answer, snap-answer, revert-answer, list-answer, check-answer, ream-place, answer-place}
+use Rattle.claims.proofs.LedgerFacts.{ledgerAnswer, read-answer, write-answer, snap-answer, revert-answer, list-answer, check-answer, ream-place, answer-place}
 use Rattle.blocks.specs.declared.descriptor.Format.{Format}
 
 pub record Owed (k : Call) : Type 0 where

@@ -1,4 +1,4 @@
--- The rollback claim.
+-- What the rollback claim rests on: a revert to a snapshot that stands agrees with the card before its snap, and so do the runs from there.
 use mathlib.Core.Path.{_≡_, refl, sym, ap, _∙_, subst}
 use mathlib.Core.Logic.{_⊎_, inl, inr}
 use mathlib.Core.Bool.{Bool, true, false, _||_}
@@ -24,20 +24,19 @@ use Rattle.calls.specs.Step.{step, after, isAccepted}
 use Rattle.claims.specs.History.{betaOf, Agree, AreBytes, Standing, without, isSnapOf}
 use Rattle.claims.specs.Claims.{Unsnapped, LastSnap, Matched, RevertedAt}
 use Rattle.blocks.proofs.SharedLaws.{shared-bytes}
-use Rattle.calls.proofs.CardLaws.{chain-is}
+use Rattle.calls.proofs.CardLaws.{chain-is, area-kept}
 use Rattle.calls.proofs.StepLaws.{accepted-card, after-append}
 use Rattle.blocks.proofs.StoreLists.{Whole, stored-length, stored-both, blocks-taken}
 use Rattle.claims.proofs.Kept.{Stands, stands-snapshots, stands-active}
 use Rattle.claims.proofs.AgreeStep.{agree-step}
-use Rattle.claims.proofs.Latest.{gone-run, stands-run, snap-kind}
+use Rattle.claims.proofs.Latest.{gone-run, stands-run}
 use Rattle.claims.proofs.Runs.{standing-length, standing-take, standing-drop, after-length, matched-from, without-drop, without-take}
 use Rattle.claims.proofs.Undone.{undone, undone-passed}
 use Rattle.calls.proofs.Passed.{SnapPassed, RevertPassed, revert-passed, revert-accepted}
 use Rattle.claims.specs.Kinds.{Kind, Snaps, kindOf}
-use Rattle.claims.proofs.Changes.{storesBy, Allowed, to-snap}
+use Rattle.claims.proofs.Changes.{storesBy, Allowed, to-snap, snap-kind}
 use Rattle.claims.proofs.Owed.{owed}
 use Rattle.blocks.proofs.MemberLaws.{member-fresh, member-inside, member-rise}
-use Rattle.calls.proofs.ActiveLaws.{area-kept}
 use Rattle.changes.proofs.WholeLaws.{revert-whole}
 use Rattle.changes.proofs.RevertedChain.{before, behind, revert-split, reverted-chain}
 use Rattle.changes.proofs.SnappedChain.{snapped-chain}
@@ -71,22 +70,22 @@ module _ (s : List ℕ) (xs : List Descriptor) (v : Descriptor) (n t : List ℕ)
   made-is : linkedOf (renamedOf (withName (snapshotsOf (descriptorsOf t)) (v .name)) (activeOf (descriptorsOf t) .name)) (physical 0) ≡ w
   made-is = ap (λ (m : List ℕ). linkedOf (renamedOf (withName (snapshotsOf (descriptorsOf t)) (v .name)) m) (physical 0)) name-is ∙ ap (λ (d : Descriptor). linkedOf (renamedOf d n) (physical 0)) with-is
 
-  pub back-chain : chain (storeAll t (revertStores t (v .name))) ≡ Sound (xs ++ (w ∷ []))
+  back-chain : chain (storeAll t (revertStores t (v .name))) ≡ Sound (xs ++ (w ∷ []))
   back-chain =
       reverted-chain t (v .name) e
       ∙ ap (λ (ys : List Descriptor). Sound (ys ++ (linkedOf (renamedOf (withName (snapshotsOf (descriptorsOf t)) (v .name)) (activeOf (descriptorsOf t) .name)) (physical 0) ∷ []))) before-is
       ∙ ap (λ (d : Descriptor). Sound (xs ++ (d ∷ []))) made-is
 
-  pub back-stores : revertStores t (v .name) ≡ store (v .alpha .0) (descriptorBlock w (tailAt t (v .alpha .0))) ∷ []
+  back-stores : revertStores t (v .name) ≡ store (v .alpha .0) (descriptorBlock w (tailAt t (v .alpha .0))) ∷ []
   unfolding revertStores reverting
   back-stores =
       ap (λ (d : Descriptor). store (d .alpha .0) (descriptorBlock (linkedOf (renamedOf d (activeOf (descriptorsOf t) .name)) (physical 0)) (tailAt t (d .alpha .0))) ∷ []) with-is
       ∙ ap (λ (m : List ℕ). store (v .alpha .0) (descriptorBlock (linkedOf (renamedOf v m) (physical 0)) (tailAt t (v .alpha .0))) ∷ []) name-is
 
-  pub back-inside : 512 * v .alpha .0 + 512 ≤ length t
+  back-inside : 512 * v .alpha .0 + 512 ≤ length t
   back-inside = member-inside t (xs ++ (v ∷ h .rest)) xs v (h .rest) (h .is) refl
 
-  pub back-low : v .alpha .0 < v .beta .0
+  back-low : v .alpha .0 < v .beta .0
   back-low =
       member-rise t (xs ++ (v ∷ h .rest)) xs v (h .rest) (h .is) refl
 
@@ -124,7 +123,7 @@ module _ (s : List ℕ) (xs : List Descriptor) (v : Descriptor) (n t : List ℕ)
   same-block : (p : ℕ) → p < v .beta .0 → blockAt after-t p ≡ blockAt after-s p
   same-block p l = rw (← same-stores) (stored-both (length t) p t s refl (at-t .long) whole-t (sym (at-t .blocks p l)))
 
-  pub back-agree : Agree (storeAll t (revertStores t (v .name))) (storeAll s (revertStores s (v .name)))
+  back-agree : Agree (storeAll t (revertStores t (v .name))) (storeAll s (revertStores s (v .name)))
   back-agree =
       let ct = back-chain s xs v n t at-t in-t in
       let cs = back-chain s xs v n s at-s in-s in
@@ -136,7 +135,7 @@ module _ (s : List ℕ) (xs : List Descriptor) (v : Descriptor) (n t : List ℕ)
         below = rw (beta-is after-t ct) (blocks-taken after-t after-s (v .beta .0) same-block);
       }
 
-pub agree-trans : (a b c : List ℕ) → Agree a b → Agree b c → Agree a c
+agree-trans : (a b c : List ℕ) → Agree a b → Agree b c → Agree a c
 agree-trans a b c x y =
     record {
       long = x .long ∙ y .long;

@@ -1,4 +1,4 @@
--- Runs of lists of calls: a run of an append, runs from two cards that agree, and two lists that end alike.
+-- Lists of calls: those without an accepted format, the length that a run keeps, what stays of a list, runs from two cards that agree, and two lists that end alike.
 use mathlib.Core.Path.{_≡_, refl, sym, ap, _∙_}
 use mathlib.Core.Bool.{false}
 use mathlib.Core.List.{List, [], _∷_}

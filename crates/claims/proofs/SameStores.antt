@@ -1,36 +1,28 @@
 -- On two cards that agree, a write, a snap and a revert make the same stores, and store every block that they take.
 use mathlib.Core.Path.{_≡_, refl}
-use mathlib.Core.Logic.{_⊎_, inl, inr}
-use mathlib.Core.Bool.{Bool, true, false}
-use mathlib.Core.List.{List, [], _∷_, _++_}
+use mathlib.Core.List.{List, []}
 use Prim.Native.Nat.{ℕ, zero, suc, _+_, _-_, _≤_, _<_}
 use native.Mathlib.Omega.{arith}
-use lib.Dec.{eqb, ltb}
-use borrow.Author.Tests.{eqb-false, ltb-true, ltb-false}
-use Rattle.blocks.specs.Bytes.{blockAt, store}
-use Rattle.blocks.specs.Descriptor.{costOf, tailAt, descriptorBlock, renamedOf, linkedOf, reopenedOf, copying}
+use Rattle.blocks.specs.Bytes.{blockAt}
+use Rattle.blocks.specs.Descriptor.{costOf, tailAt, copying}
 use Rattle.blocks.specs.Chain.{activeOf, chain}
 use Rattle.blocks.specs.declared.numbers.Physical.{Physical}
 use Rattle.blocks.specs.declared.descriptor.Descriptor.{Descriptor}
-use Rattle.blocks.proofs.BoolLaws.{or-true}
 use Rattle.blocks.proofs.ChainLaws.{cost-least}
-use Rattle.entries.specs.Entry.{find, need}
+use Rattle.entries.specs.Entry.{find}
 use Rattle.entries.specs.declared.find.Found.the-variants.{Entry}
 use Rattle.entries.proofs.EntryLaws.{found-table}
 use Rattle.calls.specs.declared.answer.Target.the-variants.{Active}
-use Rattle.calls.specs.Parts.{descriptorsOf, snapshotsOf, withName, foundThrough}
+use Rattle.calls.specs.Parts.{descriptorsOf, snapshotsOf, withName}
 use Rattle.calls.specs.Effect.{snapping, reverting, writeStores, snapStores, revertStores}
 use Rattle.claims.specs.History.{betaOf, Agree}
 use Rattle.blocks.proofs.SharedLaws.{shared-bytes}
 use Rattle.claims.proofs.Agreement.{agree-below, agree-chain, found-same}
-use Rattle.blocks.proofs.StoreLists.{isStored, stored-join, copies-cover}
 use Rattle.calls.proofs.Passed.{WritePassed, SnapPassed, RevertPassed}
-use Rattle.calls.proofs.ActiveLaws.{active-last, active-target, active-rise}
-use Rattle.blocks.proofs.MemberLaws.{member-long, member-rise, member-upto}
+use Rattle.calls.proofs.ActiveLaws.{active-target, active-rise, active-through, active-long}
 use Rattle.calls.proofs.CardLaws.{chain-is}
-use Rattle.entries.proofs.PutLaws.{writing-covers, writing-same}
-use Rattle.changes.proofs.WholeLaws.{active-through}
-use Rattle.changes.proofs.RevertedChain.{before, behind, revert-split}
+use Rattle.entries.proofs.PutLaws.{writing-same}
+use Rattle.changes.proofs.RevertedChain.{reverted-below}
 
 module _ (s t : List ℕ) (agree : Agree s t) where
   abbrev ds : List Descriptor
@@ -65,18 +57,14 @@ module _ (s t : List ℕ) (agree : Agree s t) where
     abbrev v : Descriptor
     v = withName ss name
 
-    pub v-below : (v .alpha .0 < v .beta .0) × (v .beta .0 ≤ d .beta .0)
-    v-below =
-        (member-rise s (descriptorsOf s) (before ss name) v (behind ss name ++ (d ∷ [])) (chain-is (chain s) (e .sound)) (revert-split s name e), member-upto s (descriptorsOf s) (before ss name) v (behind ss name ++ (d ∷ [])) (chain-is (chain s) (e .sound)) (revert-split s name e))
-
     pub same-revert : revertStores s name ≡ revertStores t name
     unfolding revertStores reverting
-    same-revert = rw (← (agree-chain s t agree), below-tail (v .alpha .0) (omega (arith, v-below .0, v-below .1)))
+    same-revert = rw (← (agree-chain s t agree), below-tail (v .alpha .0) (omega (arith, reverted-below s name e .0, reverted-below s name e .1)))
 
   -- a snap
   module _ (name : List ℕ) (e : SnapPassed s name) where
     d-long : d .alpha .0 + costOf d ≤ d .beta .0
-    d-long = member-long s (descriptorsOf s) (snapshotsOf ds) d [] (chain-is (chain s) (e .sound)) (active-last s (descriptorsOf s) (chain-is (chain s) (e .sound)))
+    d-long = active-long s (descriptorsOf s) (chain-is (chain s) (e .sound))
 
     d-least : 1 ≤ costOf d
     d-least = cost-least (d .layout) (d .volume)
@@ -84,24 +72,6 @@ module _ (s t : List ℕ) (agree : Agree s t) where
     pub same-snap : snapStores s name ≡ snapStores t name
     unfolding snapStores snapping
     same-snap = rw (← (agree-chain s t agree), below-tail (d .alpha .0) (omega (arith, d-long, d-least)), same-copies (d .alpha .0 + 1) (d .beta .0 + 1) (costOf d - 1) (omega (arith, d-long, d-least)))
-
-    snap-by : (p : ℕ) (z : Bool) → eqb (d .beta .0) p ≡ z → d .beta .0 ≤ p → p < d .beta .0 + costOf d → isStored (snapStores s name) p ≡ true
-    unfolding snapStores snapping isStored
-    snap-by p true q h l =
-        rw (stored-join (copying s (d .alpha .0 + 1) (d .beta .0 + 1) (costOf d - 1)) (store (d .beta .0) (descriptorBlock (reopenedOf d) (tailAt s (d .alpha .0))) ∷ store (d .alpha .0) (descriptorBlock (linkedOf (renamedOf d name) (d .beta)) (tailAt s (d .alpha .0))) ∷ []) p, q)
-        (or-true (isStored (copying s (d .alpha .0 + 1) (d .beta .0 + 1) (costOf d - 1)) p))
-    snap-by p false q h l =
-        rw (
-          stored-join (copying s (d .alpha .0 + 1) (d .beta .0 + 1) (costOf d - 1)) (store (d .beta .0) (descriptorBlock (reopenedOf d) (tailAt s (d .alpha .0))) ∷ store (d .alpha .0) (descriptorBlock (linkedOf (renamedOf d name) (d .beta)) (tailAt s (d .alpha .0))) ∷ []) p,
-          copies-cover s (d .alpha .0 + 1) (d .beta .0 + 1) (costOf d - 1) p (omega (arith, eqb-false (d .beta .0) p q)) (omega (arith, d-least)),
-        )
-
-    pub snap-covered : (p : ℕ) → p < d .beta .0 + costOf d → (p < d .beta .0) ⊎ (isStored (snapStores s name) p ≡ true)
-    snap-covered p l = by (ltb p (d .beta .0)) refl
-      where
-        by : (z : Bool) → ltb p (d .beta .0) ≡ z → (p < d .beta .0) ⊎ (isStored (snapStores s name) p ≡ true)
-        by true q = inl (ltb-true p (d .beta .0) q)
-        by false q = inr (snap-by p (eqb (d .beta .0) p) refl (ltb-false p (d .beta .0) q) l)
 
   -- a write
   module _ (l : ℕ) (block : List ℕ) (e : WritePassed s l block) where
@@ -117,7 +87,3 @@ module _ (s t : List ℕ) (agree : Agree s t) where
     pub same-write : writeStores s l block ≡ writeStores t l block
     unfolding writeStores
     same-write = rw (← (agree-chain s t agree), ← found-is) (writing-same s t d l block (below-tail (d .alpha .0) d-low) (find s ds d l) (λ m p q. below-block (m .0) (table-below m p q)))
-
-    pub write-covered : (p : ℕ) → p < d .beta .0 + need (d .alpha .0) (foundThrough s d l) → (p < d .beta .0) ⊎ (isStored (writeStores s l block) p ≡ true)
-    unfolding writeStores
-    write-covered p b = writing-covers s d l block (foundThrough s d l) p b

@@ -27,7 +27,7 @@ use Rattle.changes.proofs.SnappedChain.{snapped-chain}
 use Rattle.changes.proofs.WrittenChain.{written-chain}
 
 -- a card with a sound chain agrees with itself
-pub agree-self : (c : List ℕ) → chainSound (chain c) ≡ true → Agree c c
+agree-self : (c : List ℕ) → chainSound (chain c) ≡ true → Agree c c
 agree-self c ok = record { long = refl; sound = ok; sound′ = ok; beta = refl; below = refl }
 
 abbrev Kept : Descriptor → Descriptor → Type 0

@@ -18,18 +18,17 @@ use Rattle.blocks.proofs.ByteLaws.{part-part, length-blockAt}
 use Rattle.blocks.proofs.ListLaws.{same-self}
 use Rattle.blocks.proofs.DescriptorLaws.{head-length, block-back}
 use Rattle.blocks.specs.Name.{isName}
-use Rattle.blocks.proofs.NamedLaws.{named-one, index-at}
+use Rattle.blocks.proofs.NamedLaws.{named-one, index-at, named-append, named-left}
 use Rattle.blocks.proofs.ChainLaws.{active-snoc, is-sound, descriptors-are}
 use Rattle.blocks.proofs.SoundLaws.{form-mark}
 use Rattle.calls.specs.Parts.{areaBad, descriptorsOf, snapshotsOf, withName}
 use Rattle.calls.specs.Effect.{reverting, snapping, snapStores, revertStores}
 use Rattle.claims.specs.History.{betaOf, Agree, AreBytes}
-use Rattle.blocks.proofs.ChangedLaws.{named-append, named-left}
 use Rattle.blocks.proofs.StoreLists.{Whole, none, isStored, stored-join, stored-length, stored-other, stored-last, blocks-taken, none-stored, one-stored, copies-stored, pair-stored}
 use Rattle.calls.proofs.Passed.{SnapPassed, RevertPassed}
-use Rattle.calls.proofs.CardLaws.{snapshots-snoc, chain-is}
+use Rattle.calls.proofs.CardLaws.{snapshots-snoc, chain-is, area-kept}
 use Rattle.blocks.proofs.MemberLaws.{member-is}
-use Rattle.calls.proofs.ActiveLaws.{active-last, area-kept, active-form, active-inside}
+use Rattle.calls.proofs.ActiveLaws.{active-last, active-form, active-inside}
 use Rattle.changes.proofs.WholeLaws.{snap-whole, revert-whole}
 use Rattle.changes.proofs.RevertedChain.{before, reverted-chain}
 use Rattle.changes.proofs.SnappedChain.{snapped-chain, next-nil, old-fits, tail-whole, old-block}

@@ -9,14 +9,14 @@ use lib.Dec.{eqb, ltb, leb}
 use borrow.Author.Tests.{eq-eqb, ne-eqb, not-true, not-false, ltb-true, eqb-true, eqb-false, le-ltb, ltb-false, leb-true}
 use Rattle.blocks.specs.Pick.{pick}
 use Rattle.blocks.specs.Bytes.{blockCount}
-use Rattle.blocks.specs.Descriptor.{physical, tableCount, cost, costOf}
+use Rattle.blocks.specs.Descriptor.{physical, costOf, tableCount}
 use Rattle.blocks.specs.Chain.{chain, descriptors, activeOf}
 use Rattle.blocks.specs.declared.numbers.Physical.{Physical}
 use Rattle.blocks.specs.declared.descriptor.Descriptor.{Descriptor}
 use Rattle.blocks.proofs.Tests.{and-right, and-left}
 use Rattle.blocks.proofs.BoolLaws.{or-false-left, or-false-both, true-or, no}
 use Rattle.blocks.proofs.SoundLaws.{form-most}
-use Rattle.blocks.proofs.ChainLaws.{cost-least}
+use Rattle.blocks.proofs.ChainLaws.{cost-least, cost-one}
 use Rattle.blocks.proofs.LinkedLaws.{at-alpha, at-long, at-end}
 use Rattle.entries.specs.InPlace.{isDescriptor, isTable, inPlaceAt, inPlace}
 use Rattle.entries.specs.Entry.{tableOf, entryAt, entryFound, find, tableIsNew, need}
@@ -24,10 +24,6 @@ use Rattle.entries.specs.Through.{Through}
 use Rattle.entries.specs.declared.find.Found.{Found}
 use Rattle.entries.specs.declared.find.Found.the-variants.{Misplaced, Entry}
 use Rattle.entries.proofs.RegionLaws.{through-region, in-place-region}
-
-cost-of-1 : (d : Descriptor) → d .layout ≡ 1 → costOf d ≡ 1 + (d .volume + 127) / 128
-unfolding cost tableCount
-cost-of-1 d e = rw (eq-eqb (d .layout) 1 e)
 
 module _ (c starts : List ℕ) (count : ℕ) (d : Descriptor) (t : Through c starts count d) where
   abbrev ds : List Descriptor
@@ -53,10 +49,10 @@ module _ (c starts : List ℕ) (count : ℕ) (d : Descriptor) (t : Through c sta
 
   -- a table block of layout 1, and a set entry in place, are on the card
   pub table-inside : (l : ℕ) → l < d .volume → d .layout ≡ 1 → (m : Physical) → m ≡ physical (tableOf c d (l / 128)) → 512 * m .0 + 512 ≤ length c
-  unfolding tableOf
+  unfolding tableOf tableCount
   table-inside l h e m is =
       let q : m .0 ≡ d .alpha .0 + 1 + l / 128 = ap (λ (x : Physical). x .0) is ∙ rw (eq-eqb (d .layout) 1 e) in
-      omega (arith, through-beta, through-end, cost-of-1 d e)
+      omega (arith, through-beta, through-end, cost-one d e)
 
   pub place-inside : (m : Physical) (b : Bool) → b ≡ inPlaceAt starts (costOf d) (d .beta .0) (m .0) → b ≡ true → (m .0 ≡ 0 → ⊥) → 512 * m .0 + 512 ≤ length c
   unfolding inPlaceAt
@@ -166,8 +162,8 @@ table-by ds d m q m′ p false true false b f hi hz e = rw (entry-table ds d m q
 table-by ds d m q m′ p false false z b f hi hz e = let y : _≡_ {A = ℕ} 0 1 = cc in absurd (omega arith)
 
 own-table : (c starts : List ℕ) (count : ℕ) (d : Descriptor) → Through c starts count d → (l : ℕ) → l < d .volume → d .layout ≡ 1 → tableOf c d (l / 128) < d .beta .0
-unfolding tableOf
-own-table c starts count d t l h e = rw (eq-eqb (d .layout) 1 e) (omega (arith, through-beta c starts count d t, cost-of-1 d e))
+unfolding tableOf tableCount
+own-table c starts count d t l h e = rw (eq-eqb (d .layout) 1 e) (omega (arith, through-beta c starts count d t, cost-one d e))
 
 pub found-table : (c starts : List ℕ) (count : ℕ) (d : Descriptor) → Through c starts count d → (l : ℕ) → l < d .volume → (f : Found) → f ≡ find c (descriptors (chain c)) d l → (m p : Physical) → f ≡ Entry m p → m .0 < d .beta .0
 unfolding find

@@ -16,7 +16,7 @@ use Rattle.blocks.specs.Chain.{chain, descriptors}
 use Rattle.blocks.specs.declared.descriptor.Descriptor.{Descriptor}
 use Rattle.blocks.proofs.BoolLaws.{no, or-assoc, or-nil}
 use Rattle.blocks.proofs.SoundLaws.{form-layout}
-use Rattle.blocks.proofs.ChainLaws.{cost-least}
+use Rattle.blocks.proofs.ChainLaws.{cost-least, cost-one}
 use Rattle.blocks.proofs.LinkedLaws.{at-alpha, at-cost, at-long, at-end}
 use Rattle.entries.specs.InPlace.{isDescriptor, isTable}
 use Rattle.entries.specs.Through.{Through}
@@ -248,16 +248,12 @@ module _ (c starts : List ℕ) (count : ℕ) (d : Descriptor) (t : Through c sta
   unfolding tableCount
   few-tables = omega (arith, through-volume c starts count d t)
 
-  cost-1 : d .layout ≡ 1 → costOf d ≡ 1 + tableCount (d .volume)
-  unfolding cost
-  cost-1 e = rw (eq-eqb (d .layout) 1 e)
-
   pub one-tables-ready : d .layout ≡ 1 → (seen : List ℕ) → length c ≤ 512 * length seen → TablesReady c d n seen
   one-tables-ready e seen long =
       record {
         on-card = through-end c starts count d t;
         flags = omega (arith, through-end c starts count d t);
-        region = omega (arith, through-beta c starts count d t, cost-1 e);
+        region = omega (arith, through-beta c starts count d t, cost-one d e);
         small = small-beta;
         groups = few-tables;
         layout = e;

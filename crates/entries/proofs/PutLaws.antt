@@ -1,30 +1,32 @@
--- Laws of a write through an entry that was found. The data goes to beta or after it, so what is set afterwards is that of the card at entry.
+-- Laws of a write through an entry that was found: what it needs, that new data goes to beta or after it, so that what is set afterwards is that of the card at entry;
+-- that it stores whole blocks, which blocks these are, and that it stores the same on two cards.
 use mathlib.Core.Path.{_≡_, refl, sym, ap, _∙_}
 use mathlib.Core.Bool.{Bool, true, false, not, _&&_}
 use mathlib.Core.List.{List, [], _∷_}
-use Prim.Native.Nat.{ℕ, _+_, _*_, _/_, _≤_, _<_}
+use Prim.Native.Nat.{ℕ, _+_, _*_, _/_, _≤_, _<_, _%_}
 use native.Mathlib.Omega.{arith}
 use lib.ListN.{length}
 use lib.Dec.{eqb, leb, ltb}
-use borrow.Author.Tests.{eq-eqb, ne-eqb, eqb-false, leb-true, ltb-false, ltb-true}
+use borrow.Author.Tests.{eq-eqb, ne-eqb, eqb-false, leb-true, ltb-false, ltb-true, eqb-true}
 use Rattle.blocks.specs.Pick.{pick}
-use Rattle.blocks.specs.Bytes.{blockAt, storeBlock, storeAll, store, Store}
-use Rattle.blocks.specs.Descriptor.{tailAt}
+use Rattle.blocks.specs.Bytes.{blockAt, storeBlock, storeAll, store, Store, zeroBlock}
+use Rattle.blocks.specs.Descriptor.{tailAt, extendedOf}
 use Rattle.blocks.specs.declared.numbers.Physical.{Physical}
 use Rattle.blocks.specs.declared.descriptor.Descriptor.{Descriptor}
-use Rattle.blocks.proofs.ByteLaws.{store-other}
-use Rattle.blocks.proofs.DescriptorLaws.{store-tail}
+use Rattle.blocks.proofs.ByteLaws.{store-other, length-blockAt}
+use Rattle.blocks.proofs.DescriptorLaws.{store-tail, tail-length, block-whole}
 use Rattle.entries.specs.Through.{WriteReady, Through}
-use Rattle.entries.specs.Entry.{tableIsNew, need, setInTable, setInNewTable, writing, find}
+use Rattle.entries.specs.Entry.{tableIsNew, need, setInTable, setInNewTable, writing, find, tailWith}
 use Rattle.entries.specs.declared.find.Found.the-variants.{Entry, Misplaced}
 use Rattle.blocks.specs.Chain.{chain, descriptors}
 use Rattle.blocks.proofs.ChainLaws.{cost-least}
 use Rattle.entries.specs.declared.find.Found.{Found}
-use Rattle.entries.proofs.EntryLaws.{through-beta, through-end, through-volume, found-table, found-entry}
+use Rattle.entries.proofs.EntryLaws.{through-beta, through-end, through-volume, found-table, found-entry, need-more}
 use Rattle.blocks.proofs.Tests.{and-right}
 use Rattle.blocks.proofs.BoolLaws.{or-false-right}
-use Rattle.blocks.proofs.StoreLists.{isStored}
+use Rattle.blocks.proofs.StoreLists.{isStored, Whole, none, also}
 use mathlib.Core.Logic.{_⊎_, inl, inr}
+use Rattle.entries.proofs.SetLaws.{table-length, tail-with-length, source-length}
 
 -- need, where a set entry is not overwritten, says whether the table block is new
 new-by : (s t : Bool) (n : ℕ) → n ≡ pick s 0 (pick t 2 1) → (n ≡ 0 → ⊥) → t ≡ eqb n 2
@@ -35,6 +37,12 @@ new-by false false n e z = sym (ne-eqb n 2 (omega arith))
 need-new : (alpha n : ℕ) (m p : Physical) → n ≡ need alpha (Entry m p) → (n ≡ 0 → ⊥) → tableIsNew alpha (m .0) ≡ eqb n 2
 unfolding need
 need-new alpha n m p e z = new-by (not (eqb (p .0) 0) && leb alpha (p .0)) (tableIsNew alpha (m .0)) n e z
+
+pub need-one : (alpha : ℕ) (m p : Physical) → need alpha (Entry m p) ≡ 1 → tableIsNew alpha (m .0) ≡ false
+need-one alpha m p e = need-new alpha (need alpha (Entry m p)) m p refl (λ z. omega (arith, z, e)) ∙ rw e
+
+pub need-two : (alpha : ℕ) (m p : Physical) → need alpha (Entry m p) ≡ 2 → tableIsNew alpha (m .0) ≡ true
+need-two alpha m p e = need-new alpha (need alpha (Entry m p)) m p refl (λ z. omega (arith, z, e)) ∙ rw e
 
 zero-by : (z a t : Bool) (n : ℕ) → n ≡ pick (not z && a) 0 (pick t 2 1) → n ≡ 0 → z ≡ false
 zero-by false a t n e h = refl
@@ -158,3 +166,40 @@ pub writing-same : (s t : List ℕ) (d : Descriptor) (l : ℕ) (block : List ℕ
 unfolding writing setInTable setInNewTable
 writing-same s t d l block tail (Misplaced h) table = refl
 writing-same s t d l block tail (Entry m p) table = rw (tail, table m p refl)
+
+-- a write through an entry
+module _ (c : List ℕ) (d : Descriptor) (m p : Physical) (l : ℕ) (block : List ℕ) (ready : WriteReady c d (m .0) (p .0) l block) (called : length (d .name) ≡ 16) where
+  alpha-inside : 512 * d .alpha .0 + 512 ≤ length c
+  alpha-inside = omega (arith, ready .region, ready .upto)
+
+  table-inside : 512 * m .0 + 512 ≤ length c
+  table-inside = omega (arith, ready .table, ready .upto)
+
+  set-inside : Whole (length c) (setInTable c d (m .0) l)
+  unfolding setInTable
+  set-inside =
+      also (d .alpha .0) _ (block-whole (extendedOf d 1) (tailAt c (d .alpha .0)) called (tail-length c (d .alpha .0) alpha-inside)) alpha-inside
+      (also (m .0) _ (table-length (blockAt c (m .0)) (l % 128) (d .beta .0) (length-blockAt c (m .0) table-inside) (omega arith)) table-inside none)
+
+  new-set-inside : 512 * d .beta .0 + 512 ≤ length c → Whole (length c) (setInNewTable c d (m .0) l)
+  unfolding setInNewTable
+  new-set-inside h =
+      also (d .beta .0) _ (table-length (pick (eqb (m .0) 0) zeroBlock (blockAt c (m .0))) (l % 128) (d .beta .0 + 1) (source-length c (m .0) (eqb (m .0) 0) (λ e. table-inside)) (omega arith)) h
+      (also (d .alpha .0) _
+      (block-whole (extendedOf d 2) (tailWith (tailAt c (d .alpha .0)) (l / 128) (d .beta .0)) called (tail-with-length (tailAt c (d .alpha .0)) (l / 128) (d .beta .0) (tail-length c (d .alpha .0) alpha-inside) (omega (arith, ready .number))))
+      alpha-inside none)
+
+  module _ (room : d .beta .0 + need (d .alpha .0) (Entry m p) ≤ length c / 512) where
+    made-inside : (t : Bool) → d .beta .0 + pick t 2 1 ≤ length c / 512
+        → Whole (length c) (pick t (store (d .beta .0 + 1) block ∷ setInNewTable c d (m .0) l) (store (d .beta .0) block ∷ setInTable c d (m .0) l))
+    made-inside true h = also (d .beta .0 + 1) block (ready .whole) (omega arith) (new-set-inside (omega arith))
+    made-inside false h = also (d .beta .0) block (ready .whole) (omega arith) set-inside
+
+    entry-by : (z : Bool) → eqb (need (d .alpha .0) (Entry m p)) 0 ≡ z
+        → Whole (length c) (pick z (store (p .0) block ∷ []) (pick (tableIsNew (d .alpha .0) (m .0)) (store (d .beta .0 + 1) block ∷ setInNewTable c d (m .0) l) (store (d .beta .0) block ∷ setInTable c d (m .0) l)))
+    entry-by true e = also (p .0) block (ready .whole) (put-inside c d m p l block ready (need (d .alpha .0) (Entry m p)) refl (eqb-true _ _ e) .1) none
+    entry-by false e = made-inside (tableIsNew (d .alpha .0) (m .0)) (rw (← (need-more (d .alpha .0) m p (eqb-false _ _ e))) room)
+
+    pub entry-inside : Whole (length c) (writing c d (Entry m p) l block)
+    unfolding writing
+    entry-inside = entry-by (eqb (need (d .alpha .0) (Entry m p)) 0) refl

@@ -1,17 +1,17 @@
--- Laws of setting an entry, as the code asks them.
-use mathlib.Core.Path.{_≡_, refl, sym, ap, _∙_}
+-- Laws of setting an entry: in its table block, in Phi, and what the other entries are.
+use mathlib.Core.Path.{_≡_, refl, sym, ap, _∙_, subst}
 use mathlib.Core.Bool.{Bool, true, false}
 use mathlib.Core.List.{List}
-use Prim.Native.Nat.{ℕ, _+_, _*_, _/_, _%_, _≤_, _<_}
+use Prim.Native.Nat.{ℕ, _+_, _*_, _/_, _%_, _≤_, _<_, _^_}
 use native.Mathlib.Omega.{arith}
 use lib.ListN.{length, length-append, length-replicate}
-use lib.Dec.{eqb}
+use lib.Dec.{eqb, ltb}
 use borrow.Author.Tests.{eq-eqb, ne-eqb}
 use Rattle.blocks.specs.Pick.{pick}
-use Rattle.blocks.specs.Bytes.{le32, splice, storeBlock, storeAll, blockAt, zeroBlock, part}
+use Rattle.blocks.specs.Bytes.{le32, splice, storeBlock, storeAll, blockAt, zeroBlock, part, u32At}
 use Rattle.blocks.specs.Descriptor.{headBytes, tailAt, descriptorBlock, extendedOf}
 use Rattle.blocks.specs.declared.descriptor.Descriptor.{Descriptor}
-use Rattle.blocks.proofs.ByteLaws.{length-le32, length-splice, length-blockAt, splice-past, put-block, put-stored, store-same, store-other, store-over, part-before}
+use Rattle.blocks.proofs.ByteLaws.{length-le32, length-splice, length-blockAt, splice-past, put-block, put-stored, store-same, store-other, store-over, part-before, u32-in, number-other}
 use Rattle.blocks.proofs.DescriptorLaws.{block-length, head-length, store-tail, tail-length}
 use Rattle.entries.specs.Entry.{tableWith, tailWith, setInTable, setInNewTable}
 
@@ -35,12 +35,10 @@ phi-length : (c : List ℕ) (p : ℕ) (d : Descriptor) (i m : ℕ) → 512 * p +
 unfolding descriptorBlock
 phi-length c p d i m h n l = length-append (headBytes d) (tailWith (tailAt c p) i m) ∙ omega (arith, n, tail-with-length (tailAt c p) i m (tail-length c p h) l)
 
-old-length : (c : List ℕ) (m : ℕ) → 512 * m + 512 ≤ length c → length (pick (eqb m 0) zeroBlock (blockAt c m)) ≡ 512
-old-length c m h = by (eqb m 0)
-  where
-    by : (t : Bool) → length (pick t zeroBlock (blockAt c m)) ≡ 512
-    by true = length-replicate {A = ℕ} 512 0
-    by false = length-blockAt c m h
+-- the table block that a new one is made from: all nil, or a copy
+pub source-length : (c : List ℕ) (m : ℕ) (z : Bool) → (z ≡ false → 512 * m + 512 ≤ length c) → length (pick z zeroBlock (blockAt c m)) ≡ 512
+source-length c m true h = length-replicate {A = ℕ} 512 0
+source-length c m false h = length-blockAt c m (h refl)
 
 -- an entry put into its table block
 pub entry-put : (c x : List ℕ) (m j q : ℕ) → 512 * m + 512 ≤ length c → j < 128 → x ≡ splice c (512 * m + 4 * j) (le32 q) → x ≡ storeBlock c m (tableWith (blockAt c m) j q)
@@ -100,7 +98,7 @@ module _ (c c₂ : List ℕ) (d : Descriptor) (m l : ℕ) (in-alpha : 512 * d .a
     new = tableWith (pick (eqb m 0) zeroBlock (blockAt c m)) (l % 128) (d .beta .0 + 1)
 
     new-length : length new ≡ 512
-    new-length = table-length (pick (eqb m 0) zeroBlock (blockAt c m)) (l % 128) (d .beta .0 + 1) (old-length c m in-m) (omega arith)
+    new-length = table-length (pick (eqb m 0) zeroBlock (blockAt c m)) (l % 128) (d .beta .0 + 1) (source-length c m (eqb m 0) (λ e. in-m)) (omega arith)
 
     pub new-table-set : (c₁ : List ℕ) → (d .alpha .0 ≡ d .beta .0 → ⊥) → c₁ ≡ storeBlock c (d .beta .0) new
         → c₂ ≡ storeBlock c₁ (d .alpha .0) (descriptorBlock e (tailWith (tailAt c₁ (d .alpha .0)) (l / 128) (d .beta .0))) → c₂ ≡ storeAll c (setInNewTable c d m l)
@@ -127,3 +125,26 @@ module _ (tail : List ℕ) (i m : ℕ) (few-entries : i < 112) (tail-whole : len
   pub put-reserved : part (tailWith tail i m) 0 24 ≡ part tail 0 24
   unfolding tailWith
   put-reserved = part-before tail (24 + 4 * i) (le32 m) put-fits 0 24 (omega arith)
+
+-- Phi in the tail of a descriptor block
+module _ (tail : List ℕ) (i v : ℕ) (few : i < 112) (whole : length tail ≡ 472) where
+  pub tail-set : v < 2 ^ 32 → u32At (tailWith tail i v) (24 + 4 * i) ≡ v
+  unfolding tailWith
+  tail-set h = u32-in tail (24 + 4 * i) v (omega arith) h
+
+  pub tail-other : (k : ℕ) → (k ≡ i → ⊥) → u32At (tailWith tail i v) (24 + 4 * k) ≡ u32At tail (24 + 4 * k)
+  unfolding tailWith
+  tail-other k h = number-other tail 24 i v (omega arith) k h (ltb k i) refl
+
+-- the entries of a table block
+module _ (table : List ℕ) (j v : ℕ) (few : j < 128) (whole : length table ≡ 512) where
+  pub with-set : v < 2 ^ 32 → u32At (tableWith table j v) (4 * j) ≡ v
+  unfolding tableWith
+  with-set h = u32-in table (4 * j) v (omega arith) h
+
+  pub with-other : (k : ℕ) → (k ≡ j → ⊥) → u32At (tableWith table j v) (4 * k) ≡ u32At table (4 * k)
+  unfolding tableWith
+  with-other k h =
+      let e : (n : ℕ) → 0 + 4 * n ≡ 4 * n = λ n. omega arith in
+      subst (λ (x : ℕ). u32At (splice table x (le32 v)) (4 * k) ≡ u32At table (4 * k)) (e j)
+      (subst (λ (x : ℕ). u32At (splice table (0 + 4 * j) (le32 v)) x ≡ u32At table x) (e k) (number-other table 0 j v (omega arith) k h (ltb k j) refl))
