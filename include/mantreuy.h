@@ -81,10 +81,11 @@
  *
  * A call returns the number of its answer, and stores the place of the answer
  * in *place. Accepted is number 0, place 0. Any other number is a refusal, and
- * then no byte of the card or of another buffer is altered; only *place is
- * stored. The place is 0 unless it is stated below; it is the number of a block
- * of the card. Where several refusals apply, the one that stands first in the
- * list of the call is given.
+ * then no byte of the card or of another buffer is altered. *place is not such
+ * a buffer: it is the second half of the answer, and every call stores it,
+ * accepted or refused. The place is 0 unless it is stated below; it is the
+ * number of a block of the card. Where several refusals apply, the one that
+ * stands first in the list of the call is given.
  *
  *    1  MANTREUY_BAD_AREA        the card's length is no multiple of 512, or N is
  *                                outside 2..65,536

@@ -5,13 +5,4 @@ pub mod ByteLaws
 pub mod ListLaws
 pub mod NameLaws
 pub mod DescriptorLaws
-pub mod SoundLaws
-pub mod NamedLaws
-pub mod ChainLaws
-pub mod LinkedLaws
 pub mod StoreLists
-pub mod StoredLaws
-pub mod SharedLaws
-pub mod RelinkedLaws
-pub mod MemberLaws
-pub mod ChangedLaws

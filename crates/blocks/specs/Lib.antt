@@ -3,5 +3,3 @@ pub mod Pick
 pub mod Bytes
 pub mod Name
 pub mod Descriptor
-pub mod Chain
-pub mod Walk

@@ -10,9 +10,9 @@ use lib.Seq.{take-suc, take-length}
 use Rattle.blocks.specs.Pick.{pick}
 use Rattle.blocks.specs.Bytes.{le32, splice}
 use Rattle.blocks.specs.Descriptor.{noDescriptor, descriptorAt}
-use Rattle.blocks.specs.Chain.{chain, startsOf, regionsOf}
+use Rattle.chains.specs.Chain.{chain, startsOf, regionsOf}
 use Rattle.blocks.specs.declared.descriptor.Descriptor.{Descriptor}
-use Rattle.blocks.specs.declared.chain.Regions.{Regions}
+use Rattle.chains.specs.declared.chain.Regions.{Regions}
 use Rattle.blocks.proofs.ByteLaws.{put-next, splice-join, splice-start, length-le32, length-part}
 use Rattle.calls.specs.declared.answer.Record.{Record}
 use Rattle.calls.specs.declared.list.Filling.{Filling}

@@ -10,11 +10,11 @@ use borrow.Author.Tests.{eqb-false}
 use Rattle.blocks.specs.Pick.{pick}
 use Rattle.blocks.specs.Bytes.{blockAt, zeroBlock}
 use Rattle.blocks.specs.Descriptor.{noDescriptor}
-use Rattle.blocks.specs.Chain.{chain}
+use Rattle.chains.specs.Chain.{chain}
 use Rattle.blocks.specs.declared.numbers.Physical.{Physical}
 use Rattle.blocks.specs.declared.descriptor.Descriptor.{Descriptor}
-use Rattle.blocks.proofs.SoundLaws.{form-layout}
-use Rattle.blocks.proofs.SharedLaws.{Below}
+use Rattle.chains.proofs.SoundLaws.{form-layout}
+use Rattle.chains.proofs.SharedLaws.{Below}
 use Rattle.entries.specs.Entry.{find}
 use Rattle.entries.specs.Rules.{entryOf, Rules}
 use Rattle.entries.specs.declared.find.Found.{Found}

@@ -9,10 +9,10 @@ use lib.ListN.{length, drop, getD, drop-of-length-le}
 use lib.Seq.{drop-cons}
 use Rattle.blocks.specs.Pick.{pick}
 use Rattle.blocks.specs.Descriptor.{physical, noDescriptor, costOf, descriptorAt}
-use Rattle.blocks.specs.Chain.{chain, descriptors, regionsOf}
+use Rattle.chains.specs.Chain.{chain, descriptors, regionsOf}
 use Rattle.blocks.specs.declared.numbers.Physical.{Physical}
 use Rattle.blocks.specs.declared.descriptor.Descriptor.{Descriptor}
-use Rattle.blocks.specs.declared.chain.Regions.{Regions}
+use Rattle.chains.specs.declared.chain.Regions.{Regions}
 use Rattle.entries.specs.Through.{Through}
 use Rattle.entries.specs.Naming.{namings, checkOne}
 use Rattle.entries.specs.declared.check.Verdict.{Verdict}

@@ -12,10 +12,10 @@ use borrow.Author.Tests.{lt-ltb, le-ltb, not-true, not-false, eq-eqb, ne-eqb}
 use Rattle.blocks.specs.Pick.{pick}
 use Rattle.blocks.specs.Bytes.{storeAll}
 use Rattle.blocks.specs.Descriptor.{physical, noDescriptor}
-use Rattle.blocks.specs.Chain.{activeOf, Chain, Sound, Unsound, chain, startsOf, regionsOf}
+use Rattle.chains.specs.Chain.{activeOf, Chain, Sound, Unsound, chain, startsOf, regionsOf}
 use Rattle.blocks.specs.declared.descriptor.Descriptor.{Descriptor}
-use Rattle.blocks.specs.declared.chain.Regions.{Regions}
-use Rattle.blocks.proofs.LinkedLaws.{starts-long, region-of, found-inside, found-descriptor}
+use Rattle.chains.specs.declared.chain.Regions.{Regions}
+use Rattle.chains.proofs.LinkedLaws.{starts-long, region-of, found-inside, found-descriptor}
 use Rattle.calls.specs.declared.answer.Answer.{Answer}
 use Rattle.calls.specs.declared.answer.Record.{Record}
 use Rattle.calls.specs.declared.list.Filling.{Filling}

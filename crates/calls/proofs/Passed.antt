@@ -9,7 +9,7 @@ use borrow.Author.Tests.{eqb-true, ltb-false, leb-false, not-false}
 use Rattle.blocks.specs.Bytes.{blockSize, blockCount}
 use Rattle.blocks.specs.Name.{isName}
 use Rattle.blocks.specs.Descriptor.{costOf, costIn}
-use Rattle.blocks.specs.Chain.{chain, chainSound, named, activeOf}
+use Rattle.chains.specs.Chain.{chain, chainSound, named, activeOf}
 use Rattle.entries.specs.Entry.{need}
 use Rattle.calls.specs.declared.answer.Target.{Target}
 use Rattle.calls.specs.declared.answer.Record.{Record}

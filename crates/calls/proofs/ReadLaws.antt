@@ -11,13 +11,13 @@ use Rattle.blocks.specs.Pick.{pick}
 use Rattle.blocks.specs.Bytes.{blockCount, blockAt, zeroBlock, splice, storeAll}
 use Rattle.blocks.specs.Name.{isName}
 use Rattle.blocks.specs.Descriptor.{descriptorAt}
-use Rattle.blocks.specs.Chain.{chain, descriptors, named, descriptorsAt, regionsOf, indexOf}
+use Rattle.chains.specs.Chain.{chain, descriptors, named, descriptorsAt, regionsOf, indexOf}
 use Rattle.blocks.specs.declared.numbers.Physical.{Physical}
 use Rattle.blocks.specs.declared.descriptor.Descriptor.{Descriptor}
-use Rattle.blocks.specs.declared.chain.Regions.{Regions}
+use Rattle.chains.specs.declared.chain.Regions.{Regions}
 use Rattle.blocks.proofs.ByteLaws.{splice-whole}
-use Rattle.blocks.proofs.NamedLaws.{index-le}
-use Rattle.blocks.proofs.ChainLaws.{region-volume}
+use Rattle.chains.proofs.NamedLaws.{index-le}
+use Rattle.chains.proofs.ChainLaws.{region-volume}
 use Rattle.entries.specs.Entry.{find}
 use Rattle.entries.proofs.RegionLaws.{through-region}
 use Rattle.entries.specs.declared.find.Found.{Found}

@@ -10,9 +10,9 @@ use borrow.Author.Tests.{lt-ltb, le-ltb}
 use Rattle.blocks.specs.Bytes.{storeBlock, storeAll}
 use Rattle.blocks.specs.Name.{isName}
 use Rattle.blocks.specs.Descriptor.{physical, descriptorAt, tailAt, descriptorBlock, renamedOf, linkedOf}
-use Rattle.blocks.specs.Chain.{chain, descriptors, indexOf, named, descriptorsAt, regionsOf, activeOf}
+use Rattle.chains.specs.Chain.{chain, descriptors, indexOf, named, descriptorsAt, regionsOf, activeOf}
 use Rattle.blocks.specs.declared.descriptor.Descriptor.{Descriptor}
-use Rattle.blocks.specs.declared.chain.Regions.{Regions}
+use Rattle.chains.specs.declared.chain.Regions.{Regions}
 use Rattle.calls.specs.Call.{Revert, answer, accepted}
 use Rattle.calls.specs.Parts.{areaBad, snapshotsOf, withName}
 use Rattle.calls.specs.Ladder.{admission, firstRow, revertRows}

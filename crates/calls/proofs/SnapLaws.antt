@@ -10,9 +10,9 @@ use borrow.Author.Tests.{lt-ltb, le-ltb, le-leb, lt-leb}
 use Rattle.blocks.specs.Bytes.{Store, store, part, blockCount, blockAt, storeBlock, storeAll}
 use Rattle.blocks.specs.Name.{isName}
 use Rattle.blocks.specs.Descriptor.{costOf, tailAt, descriptorBlock, renamedOf, linkedOf, reopenedOf, copying}
-use Rattle.blocks.specs.Chain.{chain, descriptors, named, descriptorsAt, regionsOf}
+use Rattle.chains.specs.Chain.{chain, descriptors, named, descriptorsAt, regionsOf}
 use Rattle.blocks.specs.declared.descriptor.Descriptor.{Descriptor}
-use Rattle.blocks.specs.declared.chain.Regions.{Regions}
+use Rattle.chains.specs.declared.chain.Regions.{Regions}
 use Rattle.blocks.proofs.ByteLaws.{store-other, store-length, length-blockAt}
 use Rattle.blocks.proofs.DescriptorLaws.{head-length, block-length, tail-block, store-tail}
 use Rattle.calls.specs.Call.{Snap, answer, accepted}

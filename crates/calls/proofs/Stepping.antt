@@ -4,7 +4,7 @@ use Rattle.blocks.specs.Pick.{same, allZero}
 use Rattle.blocks.specs.Bytes.{splice, u32At, le32, blockCount, blockAt, storeBlock, storeAll}
 use Rattle.blocks.specs.Name.{nameByte, nameLength, isName, isText, padded}
 use Rattle.blocks.specs.Descriptor.{tableCount, cost, descriptorAt, headBytes, descriptorBlock, reservedOk, phiOk, clearing, copying, opening}
-use Rattle.blocks.specs.Chain.{formOk, regionOk, indexOf, named, sound, chainFrom, chain, chainSound, descriptors, chainPlace, activeOf}
+use Rattle.chains.specs.Chain.{formOk, regionOk, indexOf, named, sound, chainFrom, chain, chainSound, descriptors, chainPlace, activeOf}
 use Rattle.entries.specs.InPlace.{isDescriptor, isTable, inPlace}
 use Rattle.entries.specs.Entry.{entryAt, phiAt, tableOf, entryFound, find, tableIsNew, need, tableWith, tailWith, setInTable, setInNewTable, writing}
 use Rattle.calls.specs.Parts.{areaBad, snapshotsOf, targetOf, isMisplaced, holderOf, blockFound}

@@ -7,7 +7,7 @@ use Rattle.blocks.specs.Bytes.{Store, store, blockCount, storeAll}
 use Rattle.blocks.specs.Name.{noName}
 use Rattle.blocks.specs.Descriptor.{physical, costOf, tailAt, descriptorBlock, renamedOf, linkedOf, reopenedOf, copying}
 use Rattle.blocks.specs.declared.descriptor.Descriptor.{Descriptor}
-use Rattle.blocks.specs.Chain.{activeOf}
+use Rattle.chains.specs.Chain.{activeOf}
 use Rattle.entries.specs.Entry.{need, writing}
 use Rattle.entries.specs.declared.find.Found.{Found}
 use Rattle.calls.specs.declared.answer.Answer.{Answer}

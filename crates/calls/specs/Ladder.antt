@@ -8,7 +8,7 @@ use Rattle.blocks.specs.Pick.{pick}
 use Rattle.blocks.specs.Bytes.{blockSize, blockCount}
 use Rattle.blocks.specs.Name.{isName}
 use Rattle.blocks.specs.Descriptor.{costOf, mostVolume, costIn}
-use Rattle.blocks.specs.Chain.{chain, chainSound, chainPlace, named, activeOf}
+use Rattle.chains.specs.Chain.{chain, chainSound, chainPlace, named, activeOf}
 use Rattle.entries.specs.Entry.{need}
 use Rattle.calls.specs.declared.answer.Answer.{Answer}
 use Rattle.calls.specs.declared.answer.Target.{Target}

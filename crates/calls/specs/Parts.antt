@@ -7,7 +7,7 @@ use lib.Dec.{eqb, ltb}
 use Rattle.blocks.specs.Pick.{pick}
 use Rattle.blocks.specs.Bytes.{blockSize, fewestBlocks, mostBlocks, blockCount, blockAt, zeroBlock}
 use Rattle.blocks.specs.Descriptor.{noDescriptor}
-use Rattle.blocks.specs.Chain.{indexOf, chain, descriptors, activeOf}
+use Rattle.chains.specs.Chain.{indexOf, chain, descriptors, activeOf}
 use Rattle.blocks.specs.declared.descriptor.Descriptor.{Descriptor}
 use Rattle.entries.specs.Entry.{find}
 use Rattle.entries.specs.declared.find.Found.{Found}

@@ -100,9 +100,9 @@ writes2 =
     (fullPhi (descriptor 2 130 0 5 0 fs) 1 3 10 ++ table 0 2 ++ counted 2 ++ table 0 4 ++ counted 100)
     -- need 2, the table block below alpha: a copy of it at beta, the data after it; the snapshot's table block stays
     ∷ change
-    (withPhi (descriptor 2 130 0 4 4 mon) 1 0 ++ fullTable 2 3 20 ++ counted 2 ++ counted 3 ++ fullPhi (descriptor 2 130 4 5 0 fs) 1 0 10 ++ counted 50 ++ counted 60)
+    (withPhi (descriptor 2 130 0 4 4 mon) 3 0 ++ counted 1 ++ counted 2 ++ fullTable 1 2 20 ++ fullPhi (descriptor 2 130 4 5 0 fs) 3 0 10 ++ counted 50 ++ counted 60)
     (Write 1 (counted 100))
-    (withPhi (descriptor 2 130 0 4 4 mon) 1 0 ++ fullTable 2 3 20 ++ counted 2 ++ counted 3 ++ fullPhi (descriptor 2 130 4 7 0 fs) 5 0 10 ++ fullTable 2 6 20 ++ counted 100)
+    (withPhi (descriptor 2 130 0 4 4 mon) 3 0 ++ counted 1 ++ counted 2 ++ fullTable 1 2 20 ++ fullPhi (descriptor 2 130 4 7 0 fs) 5 0 10 ++ fullTable 1 6 20 ++ counted 100)
     ∷ []
 
 -- Snaps follow no entry, so tables and Phi may hold any bytes here.

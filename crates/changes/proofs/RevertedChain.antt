@@ -9,18 +9,18 @@ use lib.ListN.{length, take, drop, length-append}
 use lib.Seq.{split-at}
 use Rattle.blocks.specs.Bytes.{blockAt, store, storeAll, blockCount}
 use Rattle.blocks.specs.Descriptor.{physical, noDescriptor, tailAt, descriptorBlock, renamedOf, linkedOf}
-use Rattle.blocks.specs.Chain.{named, Sound, chain, activeOf, indexOf}
+use Rattle.chains.specs.Chain.{named, Sound, chain, activeOf, indexOf}
 use Rattle.blocks.specs.declared.descriptor.Descriptor.{Descriptor}
 use Rattle.blocks.proofs.DescriptorLaws.{Fits, tail-length, fits-of}
-use Rattle.blocks.proofs.NamedLaws.{index-below, named-left}
+use Rattle.chains.proofs.NamedLaws.{index-below, named-left}
 use Rattle.calls.specs.Parts.{descriptorsOf, snapshotsOf, withName}
 use Rattle.calls.specs.Effect.{reverting, revertStores}
 use Rattle.calls.proofs.CardLaws.{card-most, chain-is}
 use Rattle.calls.proofs.Passed.{RevertPassed}
-use Rattle.blocks.proofs.StoredLaws.{block-long}
-use Rattle.blocks.proofs.ChangedLaws.{changed-last}
+use Rattle.chains.proofs.StoredLaws.{block-long}
+use Rattle.chains.proofs.ChangedLaws.{changed-last}
 use Rattle.blocks.proofs.StoreLists.{Whole, none, stored-length, stored-other, stored-last, count-kept, none-stored, one-stored}
-use Rattle.blocks.proofs.MemberLaws.{member-inside, member-long, member-end, member-rise, member-layout, member-volume, member-reserved, member-phi, member-upto}
+use Rattle.chains.proofs.MemberLaws.{member-inside, member-long, member-end, member-rise, member-layout, member-volume, member-reserved, member-phi, member-upto}
 use Rattle.calls.proofs.ActiveLaws.{active-last, active-name, active-fresh, snapshots-few}
 use Rattle.changes.proofs.WholeLaws.{revert-whole}
 

@@ -11,21 +11,21 @@ use Rattle.blocks.specs.Pick.{same}
 use Rattle.blocks.specs.Bytes.{blockCount, blockAt, Store, store, storeAll}
 use Rattle.blocks.specs.Name.{isName}
 use Rattle.blocks.specs.Descriptor.{costOf, descriptorAt, tailAt, descriptorBlock, renamedOf, linkedOf, reopenedOf, copying}
-use Rattle.blocks.specs.Chain.{named, sound, Sound, chain, activeOf}
+use Rattle.chains.specs.Chain.{named, sound, Sound, chain, activeOf}
 use Rattle.blocks.specs.declared.descriptor.Descriptor.{Descriptor}
 use Rattle.blocks.proofs.BoolLaws.{no, or-false-right, or-true}
 use Rattle.blocks.proofs.ListLaws.{same-equal, same-self}
 use Rattle.blocks.proofs.DescriptorLaws.{Fits, tail-length, fits-of}
-use Rattle.blocks.proofs.NamedLaws.{named-one, named-append, named-left}
-use Rattle.blocks.proofs.ChainLaws.{cost-least}
-use Rattle.blocks.proofs.LinkedLaws.{last, more, chain-linked}
+use Rattle.chains.proofs.NamedLaws.{named-one, named-append, named-left}
+use Rattle.chains.proofs.ChainLaws.{cost-least}
+use Rattle.chains.proofs.LinkedLaws.{last, more, chain-linked}
 use Rattle.calls.specs.Parts.{areaBad, descriptorsOf, snapshotsOf}
 use Rattle.calls.specs.Effect.{snapping, snapStores}
 use Rattle.calls.proofs.Passed.{SnapPassed}
-use Rattle.blocks.proofs.SharedLaws.{linked-chain}
-use Rattle.blocks.proofs.RelinkedLaws.{relinked}
-use Rattle.blocks.proofs.StoredLaws.{block-long, stored-descriptor, stored-form, region-ok}
-use Rattle.blocks.proofs.ChangedLaws.{changed-first, changed-ok}
+use Rattle.chains.proofs.SharedLaws.{linked-chain}
+use Rattle.chains.proofs.RelinkedLaws.{relinked}
+use Rattle.chains.proofs.StoredLaws.{block-long, stored-descriptor, stored-form, region-ok}
+use Rattle.chains.proofs.ChangedLaws.{changed-first, changed-ok}
 use Rattle.blocks.proofs.StoreLists.{Whole, none, also, whole-append, isStored, stored-join, stored-length, stored-other, stored-last, inside-copying, count-kept, none-stored, one-stored, copies-stored, pair-stored, copies-cover}
 use Rattle.calls.proofs.ActiveLaws.{active-last, active-name, active-fresh, active-next, active-form, active-long, active-rise, active-inside, active-layout, active-volume, active-reserved, active-phi}
 use Rattle.calls.proofs.CardLaws.{chain-is, card-most}

@@ -8,11 +8,11 @@ use lib.ListN.{length, getD, replicate, length-replicate}
 use Rattle.blocks.specs.Bytes.{blockCount}
 use Rattle.blocks.specs.Name.{isName}
 use Rattle.blocks.specs.Descriptor.{physical, costOf, descriptorAt, firstOf, tailAt, descriptorBlock, renamedOf, linkedOf, reopenedOf, opening, costIn}
-use Rattle.blocks.specs.Chain.{chain, chainSound, indexOf, named, regionsOf, activeOf}
+use Rattle.chains.specs.Chain.{chain, chainSound, indexOf, named, regionsOf, activeOf}
 use Rattle.blocks.specs.declared.descriptor.Descriptor.{Descriptor}
-use Rattle.blocks.specs.declared.chain.Regions.{Regions}
-use Rattle.blocks.proofs.NamedLaws.{index-below}
-use Rattle.blocks.proofs.ChainLaws.{cost-least, regions-ok}
+use Rattle.chains.specs.declared.chain.Regions.{Regions}
+use Rattle.chains.proofs.NamedLaws.{index-below}
+use Rattle.chains.proofs.ChainLaws.{cost-least, regions-ok}
 use Rattle.blocks.proofs.DescriptorLaws.{tail-length, block-whole}
 use Rattle.blocks.proofs.NameLaws.{name-size}
 use Rattle.entries.specs.Entry.{find, need, writing}

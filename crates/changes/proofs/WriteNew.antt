@@ -11,14 +11,14 @@ use borrow.Author.Tests.{ne-eqb, eqb-true, eqb-false, ltb-true, ltb-false}
 use Rattle.blocks.specs.Pick.{pick}
 use Rattle.blocks.specs.Bytes.{u32At, blockCount, blockAt, zeroBlock, Store, store, storeAll}
 use Rattle.blocks.specs.Descriptor.{extendedOf, tableCount, noDescriptor, tailAt, descriptorBlock}
-use Rattle.blocks.specs.Chain.{Sound, chain, activeOf}
+use Rattle.chains.specs.Chain.{Sound, chain, activeOf}
 use Rattle.blocks.specs.declared.numbers.Physical.{Physical}
 use Rattle.blocks.specs.declared.descriptor.Descriptor.{Descriptor}
 use Rattle.blocks.proofs.BoolLaws.{no}
 use Rattle.blocks.proofs.ByteLaws.{u32-part, number-of, zero-number, blocks-long}
 use Rattle.blocks.proofs.DescriptorLaws.{Fits, tail-length}
-use Rattle.blocks.proofs.SoundLaws.{form-layout}
-use Rattle.blocks.proofs.LinkedLaws.{active-at}
+use Rattle.chains.proofs.SoundLaws.{form-layout}
+use Rattle.chains.proofs.LinkedLaws.{active-at}
 use Rattle.blocks.proofs.NameLaws.{name-size}
 use Rattle.entries.specs.InPlace.{inPlace}
 use Rattle.entries.specs.Entry.{entryAt, phiAt, tableOf, find, tableIsNew, need, tableWith, tailWith, setInNewTable, writing}
@@ -31,7 +31,7 @@ use Rattle.calls.specs.Parts.{descriptorsOf, snapshotsOf, foundThrough}
 use Rattle.calls.specs.Check.{Passes}
 use Rattle.calls.specs.Effect.{writeStores}
 use Rattle.calls.proofs.CardLaws.{card-most, chain-is, active-split}
-use Rattle.blocks.proofs.StoredLaws.{stored-bytes, block-tail}
+use Rattle.chains.proofs.StoredLaws.{stored-bytes, block-tail}
 use Rattle.blocks.proofs.StoreLists.{Whole, isStored, stored-length, stored-other, none-stored, not-stored, stored-among}
 use Rattle.entries.proofs.FoundLaws.{found-holder, found-own}
 use Rattle.entries.proofs.LocalLaws.{Region}

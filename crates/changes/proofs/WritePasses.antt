@@ -9,7 +9,7 @@ use Rattle.blocks.specs.Pick.{pick}
 use Rattle.blocks.specs.Bytes.{storeAll}
 use Rattle.blocks.specs.Descriptor.{extendedOf}
 use Rattle.blocks.specs.declared.numbers.Physical.{Physical}
-use Rattle.blocks.specs.Chain.{activeOf}
+use Rattle.chains.specs.Chain.{activeOf}
 use Rattle.blocks.proofs.BoolLaws.{no}
 use Rattle.entries.specs.Entry.{tableIsNew, need}
 use Rattle.entries.specs.declared.find.Found.{Found}

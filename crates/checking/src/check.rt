@@ -14,7 +14,7 @@ ghost use mathlib.Core.Bool.{true, false};
 ghost use Prim.Native.Nat.{ℕ, _*_, _≤_};
 ghost use lib.ListN.{length, getD};
 ghost use Rattle.blocks.specs.Descriptor.{physical, costOf};
-ghost use Rattle.blocks.specs.Chain.{chain as chainOf, descriptors, regionsOf};
+ghost use Rattle.chains.specs.Chain.{chain as chainOf, descriptors, regionsOf};
 ghost use Rattle.entries.specs.Marks.{openingsFlagged};
 ghost use Rattle.calls.specs.Call.{Check, None};
 ghost use Rattle.calls.specs.Parts.{areaBad};

@@ -11,17 +11,17 @@ use borrow.Author.Tests.{eq-eqb, ne-eqb, le-leb, lt-leb, lt-ltb, le-ltb, eqb-tru
 use Rattle.blocks.specs.Pick.{pick}
 use Rattle.blocks.specs.Bytes.{u32At, le32, splice, store, blockCount, blockAt, zeroBlock, storeBlock, storeAll}
 use Rattle.blocks.specs.Descriptor.{physical, tableCount, cost, costOf, noDescriptor, descriptorAt, headBytes, tailAt, descriptorBlock, renamedOf, linkedOf, extendedOf, reopenedOf, copying}
-use Rattle.blocks.specs.Chain.{chain, chainSound, indexOf, named, regionsOf, activeOf}
+use Rattle.chains.specs.Chain.{chain, chainSound, indexOf, named, regionsOf, activeOf}
 use Rattle.blocks.specs.declared.descriptor.Descriptor.{Descriptor}
-use Rattle.blocks.specs.declared.chain.Regions.{Regions}
+use Rattle.chains.specs.declared.chain.Regions.{Regions}
 use Rattle.blocks.proofs.Tests.{and-left}
 use Rattle.blocks.proofs.BoolLaws.{no, or-true}
 use Rattle.blocks.proofs.ByteLaws.{u32-part, store-length, store-same, store-other, length-blockAt}
 use Rattle.blocks.proofs.DescriptorLaws.{head-length, block-back, tail-length, block-whole}
-use Rattle.blocks.proofs.NamedLaws.{index-below}
-use Rattle.blocks.proofs.ChainLaws.{cost-least, regions-ok}
-use Rattle.blocks.proofs.LinkedLaws.{at-alpha, RegionAt}
-use Rattle.blocks.proofs.SoundLaws.{form-mark}
+use Rattle.chains.proofs.NamedLaws.{index-below}
+use Rattle.chains.proofs.ChainLaws.{cost-least, regions-ok}
+use Rattle.chains.proofs.LinkedLaws.{at-alpha, RegionAt}
+use Rattle.chains.proofs.SoundLaws.{form-mark}
 use Rattle.blocks.proofs.NameLaws.{name-size}
 use Rattle.entries.specs.InPlace.{isDescriptor, inPlace}
 use Rattle.entries.specs.Entry.{entryAt, phiAt, tableOf, entryFound, find, tableIsNew, need, tableWith, tailWith, setInTable, setInNewTable, writing}
@@ -43,7 +43,7 @@ use Rattle.claims.specs.Claims.{AlgorithmClaim}
 use Rattle.calls.proofs.CardLaws.{card-through, card-snapshot, card-snapshot-count, chain-is}
 use Rattle.calls.proofs.Passed.{read-passed, write-passed, snap-passed, revert-passed}
 use Rattle.calls.proofs.StepLaws.{accepted-card}
-use Rattle.blocks.proofs.StoredLaws.{form-name}
+use Rattle.chains.proofs.StoredLaws.{form-name}
 use Rattle.blocks.proofs.StoreLists.{stored-append, copied-in, copied-out, stored-length, inside-copying}
 use Rattle.entries.proofs.TableLaws.{entry-in, phi-in}
 use Rattle.calls.proofs.ActiveLaws.{active-volume, active-name, active-through}

@@ -11,12 +11,12 @@ use lib.Dec.{eqb, ltb, leb}
 use borrow.Author.Tests.{eq-eqb, ne-eqb, le-ltb, le-leb, eqb-true, eqb-false, ltb-true, ltb-false, leb-true}
 use Rattle.blocks.specs.Pick.{pick}
 use Rattle.blocks.specs.Descriptor.{physical, tableCount, noDescriptor}
-use Rattle.blocks.specs.Chain.{chain, chainSound}
+use Rattle.chains.specs.Chain.{chain, chainSound}
 use Rattle.blocks.specs.declared.numbers.Physical.{Physical}
 use Rattle.blocks.specs.declared.descriptor.Descriptor.{Descriptor}
 use Rattle.blocks.proofs.BoolLaws.{no, or-true, and-false}
-use Rattle.blocks.proofs.SoundLaws.{form-most, form-layout}
-use Rattle.blocks.proofs.LinkedLaws.{chain-linked, linked-at}
+use Rattle.chains.proofs.SoundLaws.{form-most, form-layout}
+use Rattle.chains.proofs.LinkedLaws.{chain-linked, linked-at}
 use Rattle.entries.specs.InPlace.{inPlace}
 use Rattle.entries.specs.Entry.{entryAt, phiAt, tableOf}
 use Rattle.entries.specs.Naming.{Naming, tableNamings, tablesNamings, phiNamings, namings, among, atFault, firstFault, checkOne}

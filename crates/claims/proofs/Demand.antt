@@ -4,10 +4,10 @@ use mathlib.Core.Bool.{true, false}
 use mathlib.Core.List.{List}
 use Prim.Native.Nat.{ℕ, suc, _<_}
 use lib.ListN.{take}
-use Rattle.blocks.specs.Chain.{chain, chainSound, named}
+use Rattle.chains.specs.Chain.{chain, chainSound, named}
 use Rattle.blocks.specs.declared.descriptor.Descriptor.{Descriptor}
 use Rattle.blocks.proofs.BoolLaws.{no}
-use Rattle.blocks.proofs.NamedLaws.{named-none}
+use Rattle.chains.proofs.NamedLaws.{named-none}
 use Rattle.calls.specs.Call.{Call}
 use Rattle.calls.specs.Parts.{descriptorsOf, snapshotsOf}
 use Rattle.claims.specs.History.{AreBytes, Standing, Position, Nowhere, At, latestSnap, without, formattable, formatted}

@@ -14,16 +14,16 @@ use Rattle.blocks.specs.Pick.{pick, allZero}
 use Rattle.blocks.specs.Bytes.{part, u32At, splice, store, blockCount, blockAt, zeroBlock, storeBlock, storeAll}
 use Rattle.blocks.specs.Name.{isName}
 use Rattle.blocks.specs.Descriptor.{mark, tableCount, cost, firstOf, noDescriptor, descriptorAt, descriptorBlock, reservedOk, phiOk, clearing, opening, costIn}
-use Rattle.blocks.specs.Chain.{formOk, sound, Sound, chain, chainSound, descriptors, activeOf}
+use Rattle.chains.specs.Chain.{formOk, sound, Sound, chain, chainSound, descriptors, activeOf}
 use Rattle.blocks.specs.declared.descriptor.Descriptor.{Descriptor}
 use Rattle.blocks.proofs.Tests.{and-left, and-right}
 use Rattle.blocks.proofs.ByteLaws.{length-splice, splice-after, store-length, store-same, store-other, u32-part, zero-number}
 use Rattle.blocks.proofs.ListLaws.{same-self}
 use Rattle.blocks.proofs.NameLaws.{drop-replicate, name-size}
 use Rattle.blocks.proofs.DescriptorLaws.{Fits, block-whole}
-use Rattle.blocks.proofs.NamedLaws.{named-none}
-use Rattle.blocks.proofs.ChainLaws.{cost-least}
-use Rattle.blocks.proofs.LinkedLaws.{last}
+use Rattle.chains.proofs.NamedLaws.{named-none}
+use Rattle.chains.proofs.ChainLaws.{cost-least}
+use Rattle.chains.proofs.LinkedLaws.{last}
 use Rattle.entries.specs.InPlace.{inPlace}
 use Rattle.entries.specs.Entry.{entryAt, phiAt, tableOf}
 use Rattle.entries.specs.Rules.{entryOf, PhiRules, TableRules, Rules}
@@ -33,11 +33,11 @@ use Rattle.claims.specs.History.{formattable, formatted}
 use Rattle.claims.specs.Ledger.{cellsFrom, volumeOf, volumesOf, ledgerOf}
 use Rattle.claims.specs.Claims.{FormatClaim}
 use Rattle.calls.proofs.CardLaws.{card-most}
-use Rattle.blocks.proofs.SharedLaws.{linked-chain}
-use Rattle.blocks.proofs.StoredLaws.{block-tail, stored-descriptor, stored-bytes, stored-mark, region-ok}
+use Rattle.chains.proofs.SharedLaws.{linked-chain}
+use Rattle.chains.proofs.StoredLaws.{block-tail, stored-descriptor, stored-bytes, stored-mark, region-ok}
 use Rattle.blocks.proofs.StoreLists.{isStored, stored-length, stored-other, stored-append, stored-one, inside-clearing}
 use Rattle.blocks.specs.declared.descriptor.Format.{Format}
-use Rattle.blocks.proofs.MemberLaws.{layout-small}
+use Rattle.chains.proofs.MemberLaws.{layout-small}
 use Rattle.entries.proofs.TableLaws.{table-own, table-phi}
 use Rattle.calls.proofs.CellLaws.{cell-rules, blockNamed}
 

@@ -12,29 +12,29 @@ use lib.Dec.{leb}
 use borrow.Author.Tests.{leb-true, leb-false}
 use Rattle.blocks.specs.Bytes.{blockAt, storeAll, Store}
 use Rattle.blocks.specs.Descriptor.{physical, renamedOf, linkedOf, extendedOf, reopenedOf}
-use Rattle.blocks.specs.Chain.{Sound, chain, indexOf, named, activeOf}
+use Rattle.chains.specs.Chain.{Sound, chain, indexOf, named, activeOf}
 use Rattle.blocks.specs.declared.descriptor.Descriptor.{Descriptor}
 use Rattle.blocks.proofs.BoolLaws.{no}
-use Rattle.blocks.proofs.ChainLaws.{active-snoc, descriptors-are}
+use Rattle.chains.proofs.ChainLaws.{active-snoc, descriptors-are}
 use Rattle.entries.specs.Entry.{need}
 use Rattle.calls.specs.Call.{Call}
 use Rattle.calls.specs.Parts.{descriptorsOf, snapshotsOf, withName, foundThrough}
 use Rattle.calls.specs.Effect.{reverting, writeStores, snapStores, revertStores}
 use Rattle.calls.specs.Step.{step}
 use Rattle.claims.specs.History.{isFormat, formats}
-use Rattle.blocks.proofs.RelinkedLaws.{beta-before}
+use Rattle.chains.proofs.RelinkedLaws.{beta-before}
 use Rattle.blocks.proofs.StoreLists.{isStored, stored-length, stored-other, Whole, one-stored}
 use Rattle.calls.proofs.Passed.{WritePassed, SnapPassed, RevertPassed}
 use Rattle.claims.specs.Kinds.{Kind}
 use Rattle.claims.proofs.Changes.{storesBy, Allowed, to-format, to-leave, to-write, to-snap, to-revert}
 use Rattle.claims.proofs.Steps.{step-cases}
 use Rattle.calls.proofs.CardLaws.{active-split, snapshots-snoc, snapshots-are, active-is}
-use Rattle.blocks.proofs.MemberLaws.{member-from, member-fresh}
+use Rattle.chains.proofs.MemberLaws.{member-from, member-fresh}
 use Rattle.changes.proofs.WholeLaws.{write-whole, snap-whole, revert-whole}
 use Rattle.changes.proofs.RevertedChain.{before, behind, revert-split, reverted-chain}
 use Rattle.changes.proofs.SnappedChain.{snap-above, snapped-chain}
 use Rattle.changes.proofs.WrittenChain.{written-chain, write-above}
-use Rattle.blocks.proofs.NamedLaws.{named-left}
+use Rattle.chains.proofs.NamedLaws.{named-left}
 
 -- v stands on t after the descriptors xs, with the blocks below its beta as on s, and the active name is n
 pub record Stands (s : List ℕ) (xs : List Descriptor) (v : Descriptor) (n : List ℕ) (t : List ℕ) : Type 0 where

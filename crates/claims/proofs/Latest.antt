@@ -10,11 +10,11 @@ use lib.Seq.{append-snoc}
 use Rattle.blocks.specs.Pick.{pick, same}
 use Rattle.blocks.specs.Bytes.{storeAll}
 use Rattle.blocks.specs.Descriptor.{renamedOf, linkedOf, reopenedOf}
-use Rattle.blocks.specs.Chain.{Sound, chain, indexOf, named, activeOf}
+use Rattle.chains.specs.Chain.{Sound, chain, indexOf, named, activeOf}
 use Rattle.blocks.specs.declared.descriptor.Descriptor.{Descriptor}
 use Rattle.blocks.proofs.BoolLaws.{no}
-use Rattle.blocks.proofs.NamedLaws.{named-one, named-append, named-left}
-use Rattle.blocks.proofs.ChainLaws.{descriptors-are}
+use Rattle.chains.proofs.NamedLaws.{named-one, named-append, named-left}
+use Rattle.chains.proofs.ChainLaws.{descriptors-are}
 use Rattle.calls.specs.Call.{Call}
 use Rattle.calls.specs.Parts.{descriptorsOf, snapshotsOf}
 use Rattle.calls.specs.Meaning.{answerOf}

@@ -10,9 +10,9 @@ use borrow.Author.Tests.{leb-false, le-ltb, not-false}
 use Rattle.blocks.specs.Pick.{pick, same}
 use Rattle.blocks.specs.Bytes.{blockCount}
 use Rattle.blocks.specs.Descriptor.{noDescriptor}
-use Rattle.blocks.specs.Chain.{chain, named, activeOf}
+use Rattle.chains.specs.Chain.{chain, named, activeOf}
 use Rattle.blocks.specs.declared.descriptor.Descriptor.{Descriptor}
-use Rattle.blocks.proofs.NamedLaws.{named-one, named-append}
+use Rattle.chains.proofs.NamedLaws.{named-one, named-append}
 use Rattle.calls.specs.declared.answer.Answer.{Answer}
 use Rattle.calls.specs.declared.answer.Target.{Target}
 use Rattle.calls.specs.declared.answer.Target.the-variants.{Active, Snapshot}

@@ -7,10 +7,10 @@ use native.Mathlib.Omega.{arith}
 use lib.ListN.{length, getD, take}
 use Rattle.blocks.specs.Pick.{pick, same}
 use Rattle.blocks.specs.Descriptor.{noDescriptor}
-use Rattle.blocks.specs.Chain.{indexOf, named, activeOf}
+use Rattle.chains.specs.Chain.{indexOf, named, activeOf}
 use Rattle.blocks.specs.declared.descriptor.Descriptor.{Descriptor}
 use Rattle.blocks.proofs.BoolLaws.{no}
-use Rattle.blocks.proofs.NamedLaws.{named-none, named-cons}
+use Rattle.chains.proofs.NamedLaws.{named-none, named-cons}
 use Rattle.calls.specs.Parts.{withName, foundThrough, blockFound, descriptorsOf, snapshotsOf}
 use Rattle.claims.specs.Ledger.{Volume, hasVolume, volumeNamed, cellsFrom, volumeOf, volumesOf, volumesBefore, ledgerOf}
 

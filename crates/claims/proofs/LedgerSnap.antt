@@ -9,9 +9,9 @@ use lib.Dec.{eqb}
 use Rattle.blocks.specs.Bytes.{storeAll}
 use Rattle.blocks.specs.Descriptor.{noDescriptor, renamedOf, linkedOf, reopenedOf}
 use Rattle.blocks.specs.declared.descriptor.Descriptor.{Descriptor}
-use Rattle.blocks.specs.Chain.{activeOf, chain}
-use Rattle.blocks.proofs.SoundLaws.{form-layout}
-use Rattle.blocks.proofs.ChainLaws.{active-snoc, descriptors-are}
+use Rattle.chains.specs.Chain.{activeOf, chain}
+use Rattle.chains.proofs.SoundLaws.{form-layout}
+use Rattle.chains.proofs.ChainLaws.{active-snoc, descriptors-are}
 use Rattle.entries.specs.Entry.{find}
 use Rattle.entries.specs.Rules.{entryOf, Rules}
 use Rattle.calls.specs.Parts.{descriptorsOf, snapshotsOf, foundThrough, blockFound}

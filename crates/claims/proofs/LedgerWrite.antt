@@ -10,10 +10,10 @@ use Rattle.blocks.specs.Pick.{pick}
 use Rattle.blocks.specs.Bytes.{blockAt, zeroBlock, storeAll}
 use Rattle.blocks.specs.Descriptor.{noDescriptor, extendedOf}
 use Rattle.blocks.specs.declared.descriptor.Descriptor.{Descriptor}
-use Rattle.blocks.specs.Chain.{activeOf, chain, Sound}
-use Rattle.blocks.proofs.SoundLaws.{form-layout}
-use Rattle.blocks.proofs.LinkedLaws.{active-at}
-use Rattle.blocks.proofs.ChainLaws.{active-snoc, descriptors-are}
+use Rattle.chains.specs.Chain.{activeOf, chain, Sound}
+use Rattle.chains.proofs.SoundLaws.{form-layout}
+use Rattle.chains.proofs.LinkedLaws.{active-at}
+use Rattle.chains.proofs.ChainLaws.{active-snoc, descriptors-are}
 use Rattle.entries.specs.Entry.{need, find}
 use Rattle.entries.specs.Rules.{entryOf, Rules}
 use Rattle.entries.proofs.EntryLaws.{placed-below}

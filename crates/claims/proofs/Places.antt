@@ -12,11 +12,11 @@ use borrow.Author.Tests.{eqb-true, eqb-false, eq-eqb, ne-eqb, leb-false, lt-leb,
 use Rattle.blocks.specs.Pick.{pick}
 use Rattle.blocks.specs.Name.{isName}
 use Rattle.blocks.specs.Descriptor.{physical, descriptorAt}
-use Rattle.blocks.specs.Chain.{sound, Chain, Unsound, Sound, chainFrom, chain, chainSound, chainPlace, named, activeOf}
+use Rattle.chains.specs.Chain.{sound, Chain, Unsound, Sound, chainFrom, chain, chainSound, chainPlace, named, activeOf}
 use Rattle.blocks.specs.declared.descriptor.Descriptor.{Descriptor}
 use Rattle.blocks.proofs.Tests.{and-left, and-right}
 use Rattle.blocks.proofs.BoolLaws.{no}
-use Rattle.blocks.proofs.SoundLaws.{form-layout}
+use Rattle.chains.proofs.SoundLaws.{form-layout}
 use Rattle.entries.specs.InPlace.{inPlace}
 use Rattle.entries.specs.Entry.{entryAt, phiAt, tableOf, entryFound, find}
 use Rattle.entries.specs.declared.find.Found.the-variants.{Misplaced, Entry}

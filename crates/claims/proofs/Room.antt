@@ -4,9 +4,9 @@ use mathlib.Core.Bool.{true}
 use mathlib.Core.List.{List}
 use Prim.Native.Nat.{ℕ}
 use Rattle.blocks.specs.Bytes.{storeAll}
-use Rattle.blocks.specs.Chain.{Sound, chain}
+use Rattle.chains.specs.Chain.{Sound, chain}
 use Rattle.blocks.specs.declared.descriptor.Descriptor.{Descriptor}
-use Rattle.blocks.proofs.ChainLaws.{descriptors-are}
+use Rattle.chains.proofs.ChainLaws.{descriptors-are}
 use Rattle.calls.specs.Call.{Call, Write, Snap, Revert}
 use Rattle.calls.specs.Parts.{descriptorsOf}
 use Rattle.calls.specs.Meaning.{answerOf, storesOf}

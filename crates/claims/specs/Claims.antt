@@ -12,7 +12,7 @@ use lib.Dec.{eqb}
 use Rattle.blocks.specs.Bytes.{blockSize, blockCount, blockAt, zeroBlock}
 use Rattle.blocks.specs.Name.{isName}
 use Rattle.blocks.specs.Descriptor.{physical, noDescriptor, tableSize, tailSize, tableCount, costOf, firstOf, descriptorAt, descriptorBlock, renamedOf, linkedOf, extendedOf, reopenedOf, costIn}
-use Rattle.blocks.specs.Chain.{Sound, Unsound, sound, chain, chainSound, indexOf, named, activeOf}
+use Rattle.chains.specs.Chain.{Sound, Unsound, sound, chain, chainSound, indexOf, named, activeOf}
 use Rattle.blocks.specs.declared.descriptor.Descriptor.{Descriptor}
 use Rattle.entries.specs.InPlace.{inPlace}
 use Rattle.entries.specs.Entry.{entryAt, phiAt, need}

@@ -9,7 +9,7 @@ use Rattle.blocks.specs.Pick.{pick, same}
 use Rattle.blocks.specs.Bytes.{blockSize, blockCount, storeAll}
 use Rattle.blocks.specs.Name.{isName}
 use Rattle.blocks.specs.Descriptor.{mostVolume, opening, costIn}
-use Rattle.blocks.specs.Chain.{chain, chainSound, activeOf}
+use Rattle.chains.specs.Chain.{chain, chainSound, activeOf}
 use Rattle.calls.specs.Call.{Call}
 use Rattle.calls.specs.Parts.{areaBad, descriptorsOf}
 use Rattle.calls.specs.Meaning.{answerOf}

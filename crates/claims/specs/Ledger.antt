@@ -7,7 +7,7 @@ use lib.Dec.{ltb, leb}
 use Rattle.blocks.specs.Pick.{pick, same}
 use Rattle.blocks.specs.Name.{isName, noName}
 use Rattle.blocks.specs.declared.descriptor.Descriptor.{Descriptor}
-use Rattle.blocks.specs.Chain.{activeOf}
+use Rattle.chains.specs.Chain.{activeOf}
 use Rattle.calls.specs.declared.answer.Target.{Target}
 use Rattle.calls.specs.declared.answer.Target.the-variants.{Active, Snapshot}
 use Rattle.calls.specs.Call.{Call, Ream, Read, Write, Snap, Revert, Listing, Check}

@@ -14,7 +14,7 @@ use Rattle.calls.specs.Call.{Call, Ream, Read, Write, Snap, Revert, Listing, Ch
 use Rattle.calls.specs.Meaning.{answerOf}
 use Rattle.claims.specs.Bench.{Value, area, ones, fs, mon, tue, lent}
 use Rattle.claims.specs.Example.{blank}
-use Rattle.samples.specs.Samples.{descriptor, bare, withTailByte, table, literal, snapText, oneByte, long, wed, oneBlock, first, one, two, twoNames, second1, second2, apart1, apart2, three, four, empty, threeSnapshots, reading, readingFrom, only, showingBeta, showingBlock, refusing}
+use Rattle.samples.specs.Samples.{descriptor, bare, withTailByte, table, literal, snapText, oneByte, long, wed, oneBlock, first, one, two, twoNames, second1, second2, apart1, apart2, later, tabled, three, four, empty, threeSnapshots, reading, readingFrom, only, showingBeta, showingBlock, refusing}
 
 unfoldable pub areaEdges : List Value
 areaEdges =
@@ -105,9 +105,15 @@ formEdges =
     ∷ only (first 2 0 fs) (Listing []) 6 0
     ∷ only (first 2 14336 fs) (Listing []) 14 0
     ∷ only (first 2 14337 fs) (Listing []) 6 0
-    -- no name; a name with another byte
+    -- in layout 1, with a beta that is in order: L 0, 14,336 and 14,337
+    ∷ only (tabled 0 2) (Listing []) 6 0
+    ∷ only (tabled 14336 113) (Listing []) 14 0
+    ∷ only (tabled 14337 114) (Listing []) 6 0
+    -- no name; a name with another byte; in layout 2, in layout 1
     ∷ only (first 2 1 noName) (Listing []) 6 0
     ∷ only (first 2 1 (oneByte 47)) (Listing []) 6 0
+    ∷ only (first 1 1 noName) (Listing []) 6 0
+    ∷ only (first 1 1 (oneByte 47)) (Listing []) 6 0
     -- byte 40, 50 or 63 is set
     ∷ only (withTailByte 0 (descriptor 2 1 0 2 0 fs) ++ zeroBlock) (Listing []) 6 0
     ∷ only (withTailByte 10 (descriptor 2 1 0 2 0 fs) ++ zeroBlock) (Listing []) 6 0
@@ -159,6 +165,12 @@ chainEdges =
     ∷ only (two 2 1 1 4 fs) (Listing []) 6 1
     ∷ showingBeta (two 2 1 1 2 fs) (Listing (blank ∷ blank ∷ [])) 2
     ∷ only (two 2 1 1 1 fs) (Listing []) 6 1
+    -- its next is beta, block 2 and block 3; above beta, below it; beta = N
+    ∷ only (later 2 2) (Listing (blank ∷ blank ∷ [])) 14 0
+    ∷ only (later 3 3) (Listing (blank ∷ blank ∷ [])) 14 0
+    ∷ only (later 2 3) (Listing []) 6 1
+    ∷ only (later 3 2) (Listing []) 6 1
+    ∷ only (later 4 4) (Listing []) 6 1
     -- the third descriptor has a name of its own, that of the first, that of the second
     ∷ only (three fs) (Listing (blank ∷ blank ∷ [])) 14 0
     ∷ only (three mon) (Listing []) 6 2
@@ -223,6 +235,11 @@ orderEdges =
     -- 7 before 8, and the active name is no snapshot's
     ∷ only (four 1 3 1 2 0) (Read Snapshot fs 9 lent) 7 0
     ∷ only (four 1 3 1 2 0) (reading 1) 8 0
+    -- far above L
+    ∷ only (four 1 3 1 2 0) (reading 14336) 8 0
+    ∷ only (four 1 3 1 2 0) (reading 4294967295) 8 0
+    ∷ only (four 1 3 1 2 0) (Write 14336 ones) 8 0
+    ∷ only (four 1 3 1 2 0) (Write 4294967295 ones) 8 0
     -- 9 before 8; 8 before 11
     ∷ only (four 2 4 1 2 4) (Write 2 []) 9 0
     ∷ only (four 2 4 1 2 4) (Write 2 ones) 8 0

@@ -10,14 +10,14 @@ use borrow.Author.Tests.{eq-eqb, ne-eqb, not-true, not-false, ltb-true, eqb-true
 use Rattle.blocks.specs.Pick.{pick}
 use Rattle.blocks.specs.Bytes.{blockCount}
 use Rattle.blocks.specs.Descriptor.{physical, costOf, tableCount}
-use Rattle.blocks.specs.Chain.{chain, descriptors, activeOf}
+use Rattle.chains.specs.Chain.{chain, descriptors, activeOf}
 use Rattle.blocks.specs.declared.numbers.Physical.{Physical}
 use Rattle.blocks.specs.declared.descriptor.Descriptor.{Descriptor}
 use Rattle.blocks.proofs.Tests.{and-right, and-left}
 use Rattle.blocks.proofs.BoolLaws.{or-false-left, or-false-both, true-or, no}
-use Rattle.blocks.proofs.SoundLaws.{form-most}
-use Rattle.blocks.proofs.ChainLaws.{cost-least, cost-one}
-use Rattle.blocks.proofs.LinkedLaws.{at-alpha, at-long, at-end}
+use Rattle.chains.proofs.SoundLaws.{form-most}
+use Rattle.chains.proofs.ChainLaws.{cost-least, cost-one}
+use Rattle.chains.proofs.LinkedLaws.{at-alpha, at-long, at-end}
 use Rattle.entries.specs.InPlace.{isDescriptor, isTable, inPlaceAt, inPlace}
 use Rattle.entries.specs.Entry.{tableOf, entryAt, entryFound, find, tableIsNew, need}
 use Rattle.entries.specs.Through.{Through}

@@ -12,3 +12,4 @@ pub mod LocalLaws
 pub mod FoundLaws
 pub mod ExtendedLaws
 pub mod RulesLaws
+pub mod InPlaceRules

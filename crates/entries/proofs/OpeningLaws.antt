@@ -12,12 +12,12 @@ use borrow.Author.Tests.{eq-eqb, ne-eqb, lt-ltb, le-ltb, le-leb, lt-leb, eqb-tru
 use Rattle.blocks.specs.Pick.{pick}
 use Rattle.blocks.specs.Bytes.{blockCount}
 use Rattle.blocks.specs.Descriptor.{tableCount, cost, costOf, noDescriptor}
-use Rattle.blocks.specs.Chain.{chain, descriptors}
+use Rattle.chains.specs.Chain.{chain, descriptors}
 use Rattle.blocks.specs.declared.descriptor.Descriptor.{Descriptor}
 use Rattle.blocks.proofs.BoolLaws.{no, or-assoc, or-nil}
-use Rattle.blocks.proofs.SoundLaws.{form-layout}
-use Rattle.blocks.proofs.ChainLaws.{cost-least, cost-one}
-use Rattle.blocks.proofs.LinkedLaws.{at-alpha, at-cost, at-long, at-end}
+use Rattle.chains.proofs.SoundLaws.{form-layout}
+use Rattle.chains.proofs.ChainLaws.{cost-least, cost-one}
+use Rattle.chains.proofs.LinkedLaws.{at-alpha, at-cost, at-long, at-end}
 use Rattle.entries.specs.InPlace.{isDescriptor, isTable}
 use Rattle.entries.specs.Through.{Through}
 use Rattle.entries.specs.Naming.{among, tablesNamings, phiNamings, namings, checkOne}

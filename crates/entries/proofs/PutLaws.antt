@@ -18,8 +18,8 @@ use Rattle.blocks.proofs.DescriptorLaws.{store-tail, tail-length, block-whole}
 use Rattle.entries.specs.Through.{WriteReady, Through}
 use Rattle.entries.specs.Entry.{tableIsNew, need, setInTable, setInNewTable, writing, find, tailWith}
 use Rattle.entries.specs.declared.find.Found.the-variants.{Entry, Misplaced}
-use Rattle.blocks.specs.Chain.{chain, descriptors}
-use Rattle.blocks.proofs.ChainLaws.{cost-least}
+use Rattle.chains.specs.Chain.{chain, descriptors}
+use Rattle.chains.proofs.ChainLaws.{cost-least}
 use Rattle.entries.specs.declared.find.Found.{Found}
 use Rattle.entries.proofs.EntryLaws.{through-beta, through-end, through-volume, found-table, found-entry, need-more}
 use Rattle.blocks.proofs.Tests.{and-right}

@@ -9,10 +9,10 @@ use lib.Dec.{eqb, ltb, leb}
 use borrow.Author.Tests.{ne-eqb, lt-ltb, le-ltb, le-leb, lt-leb, eqb-true, eqb-false, ltb-true, ltb-false, leb-true, leb-false}
 use Rattle.blocks.specs.Pick.{pick}
 use Rattle.blocks.specs.Descriptor.{tableCount, cost, costOf, noDescriptor, descriptorAt}
-use Rattle.blocks.specs.Chain.{Sound, chain, descriptors, ends, startsOf}
+use Rattle.chains.specs.Chain.{Sound, chain, descriptors, ends, startsOf}
 use Rattle.blocks.specs.declared.descriptor.Descriptor.{Descriptor}
 use Rattle.blocks.proofs.BoolLaws.{or-nil, and-false-mid}
-use Rattle.blocks.proofs.LinkedLaws.{Linked, last, more, chain-linked, sound-alpha, sound-cost, sound-long, sound-next, regionStart, region-start-zero, region-start-suc, region-start-listed, linked-rise, RegionAt, linked-at, at-cost, starts-long, regions-sound}
+use Rattle.chains.proofs.LinkedLaws.{Linked, last, more, chain-linked, sound-alpha, sound-cost, sound-long, sound-next, regionStart, region-start-zero, region-start-suc, region-start-listed, linked-rise, RegionAt, linked-at, at-cost, starts-long, regions-sound}
 use Rattle.entries.specs.InPlace.{isDescriptor, isTable, inPlace, regionOf, inPlaceAt}
 use Rattle.entries.specs.Through.{RisingRegions, Through}
 

@@ -6,7 +6,7 @@ use Prim.Native.Nat.{ℕ, _*_, _≤_, _<_}
 use lib.ListN.{length, getD}
 use Rattle.blocks.specs.Bytes.{mostBytes, blockSize}
 use Rattle.blocks.specs.Descriptor.{physical, mostVolume, descriptorAt}
-use Rattle.blocks.specs.Chain.{chain, regionsOf}
+use Rattle.chains.specs.Chain.{chain, regionsOf}
 use Rattle.blocks.specs.declared.descriptor.Descriptor.{Descriptor}
 
 -- the first count + 1 starts rise from block 0 to where the last region ends, which is not below beta

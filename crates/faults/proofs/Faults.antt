@@ -4,7 +4,7 @@ use mathlib.Core.List.{List, [], _∷_, map}
 use Prim.Native.Nat.{ℕ}
 use Rattle.calls.specs.Call.{Check}
 use Rattle.claims.specs.Bench.{expected, computed}
-use Rattle.faults.specs.Faults.{entryEdges, openingEdges, tableEdges, faultEdges, walkEdges, threeEdges, passingEdges, faults}
+use Rattle.faults.specs.Faults.{entryEdges, openingEdges, tableEdges, faultEdges, walkEdges, laterEdges, threeEdges, passingEdges, faults}
 use Rattle.samples.proofs.FastCheck.{runningOnce}
 use Rattle.samples.proofs.AsSaid.{AsSaid, _and_, quickly}
 use Rattle.samples.specs.Samples.{snapped, old, pair, tables2, named4, shared4, region6, only}
@@ -28,6 +28,10 @@ fault-edges = quickly _ refl
 walk-edges : AsSaid walkEdges
 unfolding runningOnce walkEdges
 walk-edges = quickly _ refl
+
+later-edges : AsSaid laterEdges
+unfolding runningOnce laterEdges
+later-edges = quickly _ refl
 
 three-edges : AsSaid threeEdges
 unfolding runningOnce threeEdges
@@ -85,6 +89,7 @@ whole =
     and table-edges
     and fault-edges
     and walk-edges
+    and later-edges
     and three-edges
     and passing-edges
 

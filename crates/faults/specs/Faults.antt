@@ -5,7 +5,7 @@ use Rattle.blocks.specs.Bytes.{zeroBlock}
 use Rattle.calls.specs.Call.{Write, Check}
 use Rattle.calls.specs.Step.{step}
 use Rattle.claims.specs.Bench.{Value, ones, fs, mon, tue, lent}
-use Rattle.samples.specs.Samples.{descriptor, withPhi, table, wed, four, snapped, old, plain, pair, threeSnapshots, tables1, tables2, three1, three2, named4, shared4, region6, lastEntry, lastPhi, reading, readingFrom, only, showingBeta, showingBlock}
+use Rattle.samples.specs.Samples.{descriptor, withPhi, table, wed, four, snapped, old, after1, after2, plain, pair, threeSnapshots, tables1, tables2, three1, three2, named4, shared4, region6, lastEntry, lastPhi, reading, readingFrom, only, showingBeta, showingBlock}
 
 unfoldable pub entryEdges : List Value
 entryEdges =
@@ -127,6 +127,19 @@ walkEdges =
     ∷ only (tables2 129 1 9 0 0 0) Check 10 0
     ∷ []
 
+unfoldable pub laterEdges : List Value
+laterEdges =
+    -- under an alpha above 0, layout 1: two entries name one block; an entry past L
+    only (after1 2 4 4) Check 10 3
+    ∷ only (after1 1 0 4) Check 10 3
+    -- layout 2: two entries name one block; an entry names its own table block; an entry past L; one of Phi past n; Phi names one block twice
+    ∷ only (after2 2 2 0 3 3) Check 10 2
+    ∷ only (after2 2 2 0 2 0) Check 10 2
+    ∷ only (after2 1 2 0 0 3) Check 10 2
+    ∷ only (after2 1 0 2 0 0) Check 10 1
+    ∷ only (after2 129 2 2 0 0) Check 10 1
+    ∷ []
+
 unfoldable pub threeEdges : List Value
 threeEdges =
     -- three tables: one block named in the second and in the third, in layout 1 and in layout 2; the third table block named in the second, then by Phi
@@ -160,5 +173,6 @@ faults =
     ++ tableEdges
     ++ faultEdges
     ++ walkEdges
+    ++ laterEdges
     ++ threeEdges
     ++ passingEdges

@@ -14,7 +14,7 @@ ghost use lib.ListN.{length};
 ghost use Rattle.blocks.specs.Pick.{pick};
 ghost use Rattle.blocks.specs.Bytes.{blockSize};
 ghost use Rattle.blocks.specs.Descriptor.{tableSize, phiSize, physical};
-ghost use Rattle.blocks.specs.Chain.{chain, descriptors};
+ghost use Rattle.chains.specs.Chain.{chain, descriptors};
 ghost use Rattle.entries.specs.Through.{Through};
 ghost use Rattle.entries.specs.Entry.{tableOf, entryAt, entryFound, find as finding, tableIsNew, need as needing};
 

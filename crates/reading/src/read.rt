@@ -21,7 +21,7 @@ ghost use lib.Dec.{eqb};
 ghost use Rattle.blocks.specs.Pick.{pick};
 ghost use Rattle.blocks.specs.Bytes.{zeroBlock, blockAt, blockSize};
 ghost use Rattle.blocks.specs.Name.{isName};
-ghost use Rattle.blocks.specs.Chain.{chain as chainOf, descriptors, descriptorsAt};
+ghost use Rattle.chains.specs.Chain.{chain as chainOf, descriptors, descriptorsAt};
 ghost use Rattle.entries.specs.Through.{Through};
 ghost use Rattle.entries.specs.Entry.{find as finding};
 ghost use Rattle.calls.specs.Call.{Read, Block};

@@ -1,6 +1,6 @@
 -- How the cards and the values of the computed tables are written: a card block by block, a value by what it shows.
 use mathlib.Core.List.{List, [], _∷_, _++_}
-use Prim.Native.Nat.{ℕ}
+use Prim.Native.Nat.{ℕ, _*_, _-_}
 use lib.ListN.{replicate, set}
 use Rattle.blocks.specs.Bytes.{le32, zeroBlock}
 use Rattle.blocks.specs.Name.{padded, noName}
@@ -89,6 +89,14 @@ apart2 beta next = bare (descriptor 2 1 0 beta next mon) ++ zeroBlock ++ bare (d
 abbrev pub three : List ℕ → List ℕ
 three name = bare (descriptor 2 1 0 1 1 mon) ++ bare (descriptor 2 1 1 2 2 tue) ++ bare (descriptor 2 1 2 3 0 name)
 
+-- four blocks: the snapshot mon, a descriptor in block 1 with its beta and next, one in block 2, one in block 3
+abbrev pub later : ℕ → ℕ → List ℕ
+later beta next = bare (descriptor 2 1 0 1 1 mon) ++ bare (descriptor 2 1 1 beta next tue) ++ bare (descriptor 2 1 2 4 0 wed) ++ bare (descriptor 2 1 3 4 0 fs)
+
+-- layout 1: a descriptor with its L and a beta after its n table blocks, in as many blocks
+abbrev pub tabled : ℕ → ℕ → List ℕ
+tabled volume beta = bare (descriptor 1 volume 0 beta 0 fs) ++ replicate (512 * (beta - 1)) 0
+
 -- four blocks, layout 2: Phi's first entry, then a table block with two entries, a block of ones, a block of nines
 abbrev pub four : ℕ → ℕ → ℕ → ℕ → ℕ → List ℕ
 four volume beta m p q = withPhi (descriptor 2 volume 0 beta 0 fs) m 0 ++ table p q ++ ones ++ lent
@@ -96,6 +104,14 @@ four volume beta m p q = withPhi (descriptor 2 volume 0 beta 0 fs) m 0 ++ table 
 -- four blocks, layout 2: the snapshot mon, the active store with Phi's first entry, a table block with its first entry, a block of nines
 abbrev pub snapped : ℕ → ℕ → List ℕ
 snapped m p = bare (descriptor 2 1 0 1 1 mon) ++ withPhi (descriptor 2 1 1 4 0 fs) m 0 ++ table p 0 ++ lent
+
+-- after the snapshot mon, the active store with its L and its table's first two entries: layout 1, six blocks; layout 2, four blocks, with the first two
+-- entries of Phi
+abbrev pub after1 : ℕ → ℕ → ℕ → List ℕ
+after1 volume p q = bare (descriptor 1 volume 0 2 2 mon) ++ zeroBlock ++ bare (descriptor 1 volume 2 6 0 fs) ++ table p q ++ ones ++ lent
+
+abbrev pub after2 : ℕ → ℕ → ℕ → ℕ → ℕ → List ℕ
+after2 volume m n p q = bare (descriptor 2 volume 0 1 1 mon) ++ withPhi (descriptor 2 volume 1 4 0 fs) m n ++ table p q ++ lent
 
 -- four blocks, layout 2: the snapshot mon, a table block below the active alpha, the active store from block 2 on, a block of ones
 abbrev pub old : ℕ → List ℕ

@@ -1,6 +1,5 @@
 // The walk along the chain of descriptors, for any bytes whatever.
 use blocks::bytes;
-use blocks::chain::Regions;
 use blocks::descriptor;
 use blocks::descriptor::Descriptor;
 use blocks::name;
@@ -13,6 +12,7 @@ use blocks::sizes::NAME_SIZE;
 use blocks::sizes::NAME_START;
 use blocks::sizes::PHI_START;
 use blocks::sizes::STARTS_SIZE;
+use chains::chain::Regions;
 ghost use mathlib.Core.Path.{_≡_};
 ghost use mathlib.Core.Bool.{true, _&&_};
 ghost use mathlib.Core.List.{[], _∷_};
@@ -23,8 +23,8 @@ ghost use Rattle.blocks.specs.Pick.{pick, same};
 ghost use Rattle.blocks.specs.Bytes.{blockSize, part};
 ghost use Rattle.blocks.specs.Name.{isName};
 ghost use Rattle.blocks.specs.Descriptor.{physical, mark, mostVolume, descriptorAt, reservedOk};
-ghost use Rattle.blocks.specs.Chain.{formOk, regionOk, indexOf, named, descriptorsAt, chain, regionsOf, Unsound, Sound};
-ghost use Rattle.blocks.specs.Walk.{Hashed};
+ghost use Rattle.chains.specs.Chain.{formOk, regionOk, indexOf, named, descriptorsAt, chain, regionsOf, Unsound, Sound};
+ghost use Rattle.chains.specs.Walk.{Hashed};
 
 // Whether block `p` begins with the mark.
 fn has_mark(card: &[u8], p: Physical) -> bool

@@ -4,7 +4,7 @@ use Prim.Native.Nat.{_≤_, _-_}
 use native.Mathlib.Omega.{arith}
 use lib.ListN.{length, drop}
 use borrow.Author.Needs.{needs}
-use Rattle.blocks.specs.Chain.{chain, descriptors}
+use Rattle.chains.specs.Chain.{chain, descriptors}
 use Rattle.calls.specs.Check.{takingChain}
 use Rattle.calls.proofs.CheckCardLaws.{chain-few, chain-ready, chain-ask, chain-end, chain-more, chain-stop, chain-told}
 use Rattle.checking.proofs.check.check_chain.Statement.{statement}

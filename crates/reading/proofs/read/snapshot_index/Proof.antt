@@ -1,7 +1,7 @@
 -- `snapshot_index` meets its contract, by its test.
 use native.Mathlib.Omega.{arith}
 use borrow.Author.Needs.{needs}
-use Rattle.blocks.proofs.NamedLaws.{descriptors-counted}
+use Rattle.chains.proofs.NamedLaws.{descriptors-counted}
 use Rattle.calls.proofs.ReadLaws.{index-none, index-some}
 use Rattle.reading.proofs.read.snapshot_index.Statement.{statement}
 use Rattle.reading.proofs.read.snapshot_index.Tie as tie

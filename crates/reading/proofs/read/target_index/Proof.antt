@@ -3,7 +3,7 @@ use mathlib.Core.Path.{_≡_}
 use Rattle.calls.specs.declared.answer.Target.the-variants.{Active, Snapshot}
 use native.Mathlib.Omega.{arith}
 use borrow.Author.Needs.{needs}
-use Rattle.blocks.proofs.NamedLaws.{descriptors-counted}
+use Rattle.chains.proofs.NamedLaws.{descriptors-counted}
 use Rattle.calls.proofs.ReadLaws.{index-active}
 use Rattle.reading.proofs.read.target_index.Statement.{statement}
 use Rattle.reading.proofs.read.target_index.Tie as tie

@@ -3,8 +3,8 @@ use mathlib.Core.Path.{_≡_, sym, _∙_}
 use Prim.Native.Nat.{_≤_, _-_}
 use native.Mathlib.Omega.{arith}
 use lib.ListN.{take}
-use Rattle.blocks.specs.Chain.{indexOf, descriptorsAt}
-use Rattle.blocks.proofs.NamedLaws.{indexFrom, index-start, index-stop, index-more, index-end}
+use Rattle.chains.specs.Chain.{indexOf, descriptorsAt}
+use Rattle.chains.proofs.NamedLaws.{indexFrom, index-start, index-stop, index-more, index-end}
 use Rattle.walking.proofs.chain.index_of.Statement.{statement}
 use Rattle.walking.proofs.chain.index_of.Tie as tie
 

@@ -1,6 +1,6 @@
 -- `is_named` meets its contract: a descriptor has the name where its index is one of theirs.
 use borrow.Author.Needs.{needs}
-use Rattle.blocks.proofs.NamedLaws.{named-index}
+use Rattle.chains.proofs.NamedLaws.{named-index}
 use Rattle.walking.proofs.chain.is_named.Statement.{statement}
 use Rattle.walking.proofs.chain.is_named.Tie as tie
 

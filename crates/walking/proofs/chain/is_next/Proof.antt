@@ -6,10 +6,10 @@ use native.Mathlib.Omega.{arith}
 use lib.Dec.{eqb}
 use borrow.Author.Needs.{needs}
 use borrow.Author.Tests.{eqb-true, not-true, not-false}
-use Rattle.blocks.specs.Chain.{formOk}
+use Rattle.chains.specs.Chain.{formOk}
 use Rattle.blocks.proofs.BoolLaws.{no, and-true, and-false}
-use Rattle.blocks.proofs.ChainLaws.{region-layout, region-volume}
-use Rattle.blocks.proofs.SoundLaws.{form-layout, form-least, form-most}
+use Rattle.chains.proofs.ChainLaws.{region-layout, region-volume}
+use Rattle.chains.proofs.SoundLaws.{form-layout, form-least, form-most}
 use Rattle.walking.proofs.chain.is_next.Statement.{statement}
 use Rattle.walking.proofs.chain.is_next.Tie as tie
 

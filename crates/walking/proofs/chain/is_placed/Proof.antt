@@ -1,5 +1,5 @@
 -- `is_placed` meets its contract, by its tests.
-use Rattle.blocks.specs.Chain.{regionOk}
+use Rattle.chains.specs.Chain.{regionOk}
 use Rattle.blocks.proofs.Tests.{tests}
 use borrow.Author.Needs.{needs}
 use Rattle.walking.proofs.chain.is_placed.Statement.{statement}

@@ -1,6 +1,6 @@
 -- `single` meets its contract by computation.
 use borrow.Author.Needs.{needs}
-use Rattle.blocks.specs.Chain.{regionsOf, activeOf, ends, startsOf}
+use Rattle.chains.specs.Chain.{regionsOf, activeOf, ends, startsOf}
 use Rattle.walking.proofs.chain.single.Statement.{statement}
 use Rattle.walking.proofs.chain.single.Tie as tie
 

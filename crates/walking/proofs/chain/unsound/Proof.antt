@@ -1,5 +1,5 @@
 -- `unsound` meets its contract by computation.
-use Rattle.blocks.specs.Chain.{regionsOf}
+use Rattle.chains.specs.Chain.{regionsOf}
 use Rattle.blocks.specs.Descriptor.{cost}
 use mathlib.Core.Path.{refl}
 use Rattle.walking.proofs.chain.unsound.Statement.{statement}

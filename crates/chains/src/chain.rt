@@ -1,7 +1,7 @@
 // The result of a walk along the chain.
-use crate::descriptor::Descriptor;
-use crate::numbers::Physical;
-use crate::sizes::STARTS_SIZE;
+use blocks::descriptor::Descriptor;
+use blocks::numbers::Physical;
+use blocks::sizes::STARTS_SIZE;
 
 // What a walk along the chain finds. Where every descriptor is sound, `active` is the last, and region k of the chain runs
 // from block `starts[k]` up to `starts[k + 1]`, for k below `count`; otherwise `place` is the block of the unsound descriptor.

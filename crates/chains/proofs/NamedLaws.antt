@@ -9,11 +9,11 @@ use lib.ListN.{length, take, drop, getD, length-take, drop-of-length-le}
 use lib.Seq.{drop-cons, getD-take, length-take-le}
 use lib.Dec.{ltb}
 use borrow.Author.Tests.{lt-ltb, le-ltb, ltb-true, ltb-false}
 use Rattle.blocks.specs.Pick.{pick, same}
 use Rattle.blocks.specs.Descriptor.{descriptorAt}
-use Rattle.blocks.specs.Chain.{indexOf, named, descriptorsAt}
+use Rattle.chains.specs.Chain.{indexOf, named, descriptorsAt}
 use Rattle.blocks.specs.declared.descriptor.Descriptor.{Descriptor}
 use Rattle.blocks.proofs.BoolLaws.{or-false-both, or-nil, or-assoc, or-false-left}
 
 -- the index with j of the descriptors passed
 unfoldable pub indexFrom : List ℕ → List ℕ → ℕ → List ℕ → ℕ → ℕ

@@ -9,15 +9,15 @@ use lib.ListN.{length, take, getD, replicate, List·getD-append, length-append, 
 use lib.Seq.{append-snoc, take-append-le}
 use lib.Dec.{eqb}
 use borrow.Author.Tests.{eq-eqb, ne-eqb, eqb-true, eqb-false}
 use Rattle.blocks.specs.Pick.{pick}
 use Rattle.blocks.specs.Bytes.{blockCount}
 use Rattle.blocks.specs.Descriptor.{physical, costOf, noDescriptor, descriptorAt}
-use Rattle.blocks.specs.Chain.{activeOf, formOk, regionOk, named, sound, Chain, Unsound, Sound, descriptorsAt, chainFrom, chain, descriptors, ends, startsOf, regionsOf}
+use Rattle.chains.specs.Chain.{activeOf, formOk, regionOk, named, sound, Chain, Unsound, Sound, descriptorsAt, chainFrom, chain, descriptors, ends, startsOf, regionsOf}
 use Rattle.blocks.specs.declared.numbers.Physical.{Physical}
 use Rattle.blocks.specs.declared.descriptor.Descriptor.{Descriptor}
-use Rattle.blocks.specs.declared.chain.Regions.{Regions}
+use Rattle.chains.specs.declared.chain.Regions.{Regions}
 use Rattle.blocks.proofs.Tests.{and-left, and-right}
-use Rattle.blocks.proofs.ChainLaws.{region-layout, region-volume, region-alpha, region-long, region-end, region-next, length-ends, cost-least}
+use Rattle.chains.proofs.ChainLaws.{region-layout, region-volume, region-alpha, region-long, region-end, region-next, length-ends, cost-least}
 
 -- the descriptors from block p on, after the earlier ones
 pub data Linked (c : List ℕ) : List Descriptor → ℕ → List Descriptor → Type 0 where

@@ -8,18 +8,18 @@ use native.Mathlib.Omega.{arith}
 use lib.ListN.{length, length-append}
 use lib.Dec.{eqb}
 use borrow.Author.Tests.{eqb-true, eqb-false}
 use Rattle.blocks.specs.Bytes.{part, blockCount, blockAt}
 use Rattle.blocks.specs.Name.{isName}
 use Rattle.blocks.specs.Descriptor.{costOf, descriptorAt, descriptorBlock, reservedOk, phiOk}
-use Rattle.blocks.specs.Chain.{named, sound, Sound, chain}
+use Rattle.chains.specs.Chain.{named, sound, Sound, chain}
 use Rattle.blocks.specs.declared.descriptor.Descriptor.{Descriptor}
 use Rattle.blocks.proofs.DescriptorLaws.{Fits}
-use Rattle.blocks.proofs.ChainLaws.{region-layout, region-volume}
-use Rattle.blocks.proofs.LinkedLaws.{last, chain-linked}
-use Rattle.blocks.proofs.SharedLaws.{linked-chain, shared-descriptor}
-use Rattle.blocks.proofs.RelinkedLaws.{relinked}
-use Rattle.blocks.proofs.StoredLaws.{stored-descriptor, stored-form, region-ok}
-use Rattle.blocks.proofs.MemberLaws.{member-region, member-form, member-inside}
+use Rattle.chains.proofs.ChainLaws.{region-layout, region-volume}
+use Rattle.chains.proofs.LinkedLaws.{last, chain-linked}
+use Rattle.chains.proofs.SharedLaws.{linked-chain, shared-descriptor}
+use Rattle.chains.proofs.RelinkedLaws.{relinked}
+use Rattle.chains.proofs.StoredLaws.{stored-descriptor, stored-form, region-ok}
+use Rattle.chains.proofs.MemberLaws.{member-region, member-form, member-inside}
 
 -- a descriptor of a chain, by its place in the list
 module _ (s : List ℕ) (ds xs : List Descriptor) (d : Descriptor) (ys : List Descriptor) (sound-s : chain s ≡ Sound ds) (split : ds ≡ xs ++ (d ∷ ys)) where

@@ -6,13 +6,13 @@ use Prim.Native.Nat.{ℕ, _*_, _≤_, _<_}
 use native.Mathlib.Omega.{arith}
 use lib.ListN.{length, length-append}
 use lib.Seq.{append-snoc}
 use Rattle.blocks.specs.Bytes.{blockAt}
 use Rattle.blocks.specs.Descriptor.{descriptorAt}
-use Rattle.blocks.specs.Chain.{sound}
+use Rattle.chains.specs.Chain.{sound}
 use Rattle.blocks.specs.declared.descriptor.Descriptor.{Descriptor}
-use Rattle.blocks.proofs.ChainLaws.{cost-least}
-use Rattle.blocks.proofs.LinkedLaws.{Linked, last, more, sound-alpha, sound-long, sound-next, linked-some}
-use Rattle.blocks.proofs.SharedLaws.{shared-descriptor, shared-sound}
+use Rattle.chains.proofs.ChainLaws.{cost-least}
+use Rattle.chains.proofs.LinkedLaws.{Linked, last, more, sound-alpha, sound-long, sound-next, linked-some}
+use Rattle.chains.proofs.SharedLaws.{shared-descriptor, shared-sound}
 
 -- where the descriptors of a chain stand
 module _ (s : List ℕ) where

@@ -7,14 +7,14 @@ use native.Mathlib.Omega.{arith}
 use lib.ListN.{take, drop}
 use lib.Dec.{eqb, ltb, leb}
 use borrow.Author.Tests.{eq-eqb, ne-eqb, lt-ltb, le-leb, lt-leb, eqb-false, ltb-true, leb-true, not-true, not-false}
 use Rattle.blocks.specs.Pick.{same, allZero}
 use Rattle.blocks.specs.Bytes.{part}
 use Rattle.blocks.specs.Name.{isName}
 use Rattle.blocks.specs.Descriptor.{mark, descriptorAt, reservedOk, phiOk}
-use Rattle.blocks.specs.Chain.{formOk}
+use Rattle.chains.specs.Chain.{formOk}
 use Rattle.blocks.specs.declared.descriptor.Descriptor.{Descriptor}
 use Rattle.blocks.proofs.Tests.{and-left, and-right}
 use Rattle.blocks.proofs.ListLaws.{same-equal}
 
 -- the name where it stands
 pub called-at : (c : List ℕ) (p : ℕ) (n : Bool) → n ≡ isName (take (512 * p + 40 - (512 * p + 24)) (drop (512 * p + 24) c)) → n ≡ isName (descriptorAt c p .name)

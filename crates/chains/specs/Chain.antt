@@ -4,12 +4,12 @@ use mathlib.Core.List.{List, [], _∷_, _++_}
 use Prim.Native.Nat.{ℕ, zero, suc, _+_, _*_, _-_}
 use lib.ListN.{length, replicate}
 use lib.Dec.{eqb, ltb, leb}
 use Rattle.blocks.specs.Pick.{pick, same}
 use Rattle.blocks.specs.Bytes.{blockSize, part, blockCount}
 use Rattle.blocks.specs.Name.{isName}
 use Rattle.blocks.specs.Descriptor.{physical, mark, mostVolume, phiStart, headSize, reservedSize, phiBytes, costOf, descriptorAt, reservedOk, phiOk, noDescriptor}
 use Rattle.blocks.specs.declared.descriptor.Descriptor.{Descriptor}
-use Rattle.blocks.specs.declared.chain.Regions.{Regions}
+use Rattle.chains.specs.declared.chain.Regions.{Regions}
 
 -- the most descriptors of a chain
 abbrev pub mostDescriptors : ℕ

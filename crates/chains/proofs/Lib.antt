@@ -1,0 +1,11 @@
+-- Laws of the definitions of specs/, which the proofs of the crates above cite.
+pub mod SoundLaws
+pub mod NamedLaws
+pub mod ChainLaws
+pub mod LinkedLaws
+pub mod StoredLaws
+pub mod SharedLaws
+pub mod RelinkedLaws
+pub mod MemberLaws
+pub mod ChangedLaws
+pub mod SoundRules
