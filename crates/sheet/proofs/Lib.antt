@@ -2,4 +2,6 @@
 pub mod SheetLaws
 pub mod PrintLaws
 pub mod TurnLaws
+pub mod RunningSheet
 pub mod ExampleSheet
+pub mod ShortSheets
