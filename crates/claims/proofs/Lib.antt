@@ -27,6 +27,7 @@ pub mod SoundStep
 pub mod CardBytes
 pub mod Rollback
 pub mod Demand
+pub mod Answered
 pub mod NotEmpty
 pub mod LedgerAnswers
 pub mod LedgerSnap

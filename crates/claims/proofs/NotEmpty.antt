@@ -1,18 +1,27 @@
--- Demand 3 speaks of something: 01's worked example, in both layouts, has all that it asks, and what it says of that example. The visit mon is taken at
--- position 1 and the revert to it stands at position 6; the shorter list is the write before them, then the read and the listing after them.
+-- Demand 3 speaks of something: two lists of calls, each in both layouts, have all that it asks, and what it says of them. In 01's worked example the visit mon is taken at
+-- position 1 and the revert to it stands at position 6; the shorter list is the write before them, then the read and the listing after them. In the second list calls of every
+-- kind, refused ones too, stand between the snap of mon at position 1 and the revert to it at position 11, and six calls after that.
 use mathlib.Core.Path.{_≡_, refl, sym, ap, _∙_, subst}
 use mathlib.Core.Bool.{true}
-use mathlib.Core.List.{List, []}
-use Prim.Native.Nat.{ℕ, zero, suc, _<_}
+use mathlib.Core.List.{List, [], _∷_, _++_, map}
+use Prim.Native.Nat.{ℕ, zero, suc, _*_, _<_}
 use native.Mathlib.Omega.{arith}
-use lib.ListN.{take, replicate}
-use Rattle.claims.specs.History.{AreBytes, Standing, none, more, isReam, isFormat, writtenBy, formattable, isSnapOf, Position, Nowhere, At, latestFrom, latestSnap, without}
+use lib.ListN.{length, take, drop, replicate}
+use Rattle.blocks.specs.Bytes.{blockSize}
+use Rattle.blocks.specs.Descriptor.{asFormat}
+use Rattle.blocks.specs.declared.descriptor.Format.{Format}
+use Rattle.calls.specs.Call.{Call, Outcome, accepted}
+use Rattle.calls.specs.Step.{after}
+use Rattle.claims.specs.History.{AreBytes, Standing, none, more, isReam, isFormat, writtenBy, formattable, formatted, isSnapOf, Position, Nowhere, At, latestSnap, without}
 use Rattle.claims.specs.Claims.{Matched, RevertedAt, Demand3}
 use Rattle.claims.specs.Bench.{area, fs, mon}
-use Rattle.claims.specs.Example.{exampleCard, exampleCalls}
+use Rattle.claims.specs.Example.{exampleCard, exampleCalls, exampleOutcomes}
+use Rattle.claims.specs.SecondExample.{secondCard, secondCalls, secondAnswers}
 use Rattle.claims.proofs.Running.{running}
+use Rattle.claims.proofs.Example.{example-layout-1, example-layout-2}
+use Rattle.claims.proofs.Runs.{standing-length, standing-take}
 use Rattle.claims.proofs.Demand.{demand-3}
-use Rattle.blocks.specs.Descriptor.{asFormat}
+use Rattle.claims.proofs.Answered.{answers, reverted-by, latestBy, latest-by, check-among}
 
 fill-bytes : (n v : ℕ) → v < 256 → AreBytes (replicate n v)
 fill-bytes zero v h i = omega arith
@@ -22,14 +31,31 @@ fill-bytes (suc n) v h (suc i) = fill-bytes n v h i
 nil-bytes : AreBytes []
 nil-bytes i = omega arith
 
--- the area is bytes; the calls are reads, writes of bytes, snaps, reverts and lists
-area-bytes : AreBytes (area 16)
-area-bytes = fill-bytes 8192 7 (omega arith)
+block-bytes : (v : ℕ) → v < 256 → AreBytes (replicate 512 v)
+block-bytes v h = fill-bytes 512 v h
 
+-- the areas are bytes
+area-bytes : (n : ℕ) → AreBytes (area n)
+area-bytes n = fill-bytes (blockSize * n) 7 (omega arith)
+
+positionOf : Position → ℕ
+positionOf Nowhere = 0
+positionOf (At i) = i
+
+-- demand 3 of a list in which the revert to v at position k is accepted, and the latest accepted snap of v is at position i
+matched : (n : ℕ) (format : Format) → formattable (area n) format ≡ true → (ks : List Call) → Standing (formatted (area n) format) ks
+    → (k : ℕ) (v : List ℕ) → RevertedAt (formatted (area n) format) ks k v → (i : ℕ) → latestSnap v (formatted (area n) format) (take k ks) ≡ At i
+    → Matched (formatted (area n) format) ks (suc k) (without ks i k) i
+unfolding Demand3 positionOf
+matched n format can ks standing k v reverted i latest =
+    let r = demand-3 (area n) format (area-bytes n) can ks standing k v reverted in
+    subst (λ (j : ℕ). Matched (formatted (area n) format) ks (suc k) (without ks j k) j) (ap positionOf (sym (r .2) ∙ latest)) (r .4)
+
+-- 01's worked example. Its calls are reads, writes of bytes, snaps, reverts and lists
 pub example-standing : (c : List ℕ) → Standing c exampleCalls
 unfolding exampleCalls isFormat isReam writtenBy
 example-standing c =
-    more refl (fill-bytes 512 7 (omega arith)) (more refl nil-bytes (more refl (fill-bytes 512 9 (omega arith)) (more refl nil-bytes (more refl nil-bytes (more refl nil-bytes
+    more refl (block-bytes 7 (omega arith)) (more refl nil-bytes (more refl (block-bytes 9 (omega arith)) (more refl nil-bytes (more refl nil-bytes (more refl nil-bytes
     (more refl nil-bytes (more refl nil-bytes (more refl nil-bytes none))))))))
 
 -- the area can be formatted so
@@ -41,38 +67,110 @@ pub can-layout-2 : formattable (area 16) (asFormat 2 200 fs) ≡ true
 unfolding running formattable
 can-layout-2 = refl
 
--- the revert is accepted
+-- every call is accepted
+answers-layout-1 : answers exampleCalls (exampleCard 1) ≡ replicate 9 accepted
+unfolding exampleOutcomes
+answers-layout-1 = ap (λ (os : List Outcome). map (λ (o : Outcome). o .answer) os) example-layout-1
+
+answers-layout-2 : answers exampleCalls (exampleCard 2) ≡ replicate 9 accepted
+unfolding exampleOutcomes
+answers-layout-2 = ap (λ (os : List Outcome). map (λ (o : Outcome). o .answer) os) example-layout-2
+
+-- the revert among them
+module _ (layout : ℕ) (said : answers exampleCalls (exampleCard layout) ≡ replicate 9 accepted) where
+  example-reverted : RevertedAt (exampleCard layout) exampleCalls 6 mon
+  unfolding exampleCalls
+  example-reverted = reverted-by exampleCalls (exampleCard layout) (replicate 9 accepted) said 6 mon (omega arith) refl refl
+
+  -- the visit's latest accepted snap
+  example-latest : latestSnap mon (exampleCard layout) (take 6 exampleCalls) ≡ At 1
+  unfolding running exampleCalls latestBy isSnapOf
+  example-latest = latest-by mon 6 exampleCalls (exampleCard layout) (replicate 9 accepted) said
+
+  -- demand 3 of the example
+  example-matched : formattable (area 16) (asFormat layout 200 fs) ≡ true → Matched (exampleCard layout) exampleCalls 7 (without exampleCalls 1 6) 1
+  example-matched can = matched 16 (asFormat layout 200 fs) can exampleCalls (example-standing (exampleCard layout)) 6 mon example-reverted 1 example-latest
+
 pub reverted-layout-1 : RevertedAt (exampleCard 1) exampleCalls 6 mon
-unfolding running exampleCalls
-reverted-layout-1 = record { inside = omega arith; is = refl; accepted-there = refl }
+reverted-layout-1 = example-reverted 1 answers-layout-1
 
 pub reverted-layout-2 : RevertedAt (exampleCard 2) exampleCalls 6 mon
-unfolding running exampleCalls
-reverted-layout-2 = record { inside = omega arith; is = refl; accepted-there = refl }
-
--- the visit's latest accepted snap
-latest-layout-1 : latestSnap mon (exampleCard 1) (take 6 exampleCalls) ≡ At 1
-unfolding running exampleCalls latestSnap latestFrom isSnapOf
-latest-layout-1 = refl
-
-latest-layout-2 : latestSnap mon (exampleCard 2) (take 6 exampleCalls) ≡ At 1
-unfolding running exampleCalls latestSnap latestFrom isSnapOf
-latest-layout-2 = refl
-
-positionOf : Position → ℕ
-positionOf Nowhere = 0
-positionOf (At i) = i
-
--- demand 3 of the example
-module _ (layout : ℕ) (can : formattable (area 16) (asFormat layout 200 fs) ≡ true) (reverted : RevertedAt (exampleCard layout) exampleCalls 6 mon) (latest : latestSnap mon (exampleCard layout) (take 6 exampleCalls) ≡ At 1) where
-  matched : Matched (exampleCard layout) exampleCalls 7 (without exampleCalls 1 6) 1
-  unfolding Demand3 positionOf
-  matched =
-      let r = demand-3 (area 16) (asFormat layout 200 fs) area-bytes can exampleCalls (example-standing (exampleCard layout)) 6 mon reverted in
-      subst (λ (i : ℕ). Matched (exampleCard layout) exampleCalls 7 (without exampleCalls i 6) i) (ap positionOf (sym (r .2) ∙ latest)) (r .4)
+reverted-layout-2 = example-reverted 2 answers-layout-2
 
 pub forgotten-layout-1 : Matched (exampleCard 1) exampleCalls 7 (without exampleCalls 1 6) 1
-forgotten-layout-1 = matched 1 can-layout-1 reverted-layout-1 latest-layout-1
+forgotten-layout-1 = example-matched 1 answers-layout-1 can-layout-1
 
 pub forgotten-layout-2 : Matched (exampleCard 2) exampleCalls 7 (without exampleCalls 1 6) 1
-forgotten-layout-2 = matched 2 can-layout-2 reverted-layout-2 latest-layout-2
+forgotten-layout-2 = example-matched 2 answers-layout-2 can-layout-2
+
+-- The second list. Its reams are refused on a card of eight blocks, in whatever layout it is
+pub second-standing-1 : Standing (secondCard 1) secondCalls
+unfolding running secondCalls isFormat isReam writtenBy
+second-standing-1 =
+    more refl (block-bytes 7 (omega arith)) (more refl nil-bytes (more refl nil-bytes (more refl nil-bytes (more refl nil-bytes (more refl nil-bytes
+    (more refl nil-bytes (more refl (block-bytes 9 (omega arith)) (more refl nil-bytes (more refl (block-bytes 11 (omega arith)) (more refl nil-bytes (more refl nil-bytes
+    (more refl nil-bytes (more refl nil-bytes (more refl nil-bytes (more refl (block-bytes 5 (omega arith)) (more refl nil-bytes (more refl nil-bytes none)))))))))))))))))
+
+same-length : length (secondCard 1) ≡ length (secondCard 2)
+unfolding running
+same-length = refl
+
+pub second-standing-2 : Standing (secondCard 2) secondCalls
+second-standing-2 = standing-length (secondCard 1) (secondCard 2) same-length secondCalls second-standing-1
+
+pub second-can-1 : formattable (area 8) (asFormat 1 1 fs) ≡ true
+unfolding running formattable
+second-can-1 = refl
+
+pub second-can-2 : formattable (area 8) (asFormat 2 1 fs) ≡ true
+unfolding running formattable
+second-can-2 = refl
+
+-- what the calls answer. All but the check are computed
+abbrev beforeCheck : List Call
+beforeCheck = take 2 secondCalls
+
+abbrev afterCheck : List Call
+afterCheck = drop 3 secondCalls
+
+computed-1 : answers beforeCheck (secondCard 1) ++ (accepted ∷ answers afterCheck (after beforeCheck (secondCard 1))) ≡ secondAnswers
+unfolding running secondCalls secondAnswers
+computed-1 = refl
+
+computed-2 : answers beforeCheck (secondCard 2) ++ (accepted ∷ answers afterCheck (after beforeCheck (secondCard 2))) ≡ secondAnswers
+unfolding running secondCalls secondAnswers
+computed-2 = refl
+
+module _ (layout : ℕ) (can : formattable (area 8) (asFormat layout 1 fs) ≡ true) (standing : Standing (secondCard layout) secondCalls)
+    (computed : answers beforeCheck (secondCard layout) ++ (accepted ∷ answers afterCheck (after beforeCheck (secondCard layout))) ≡ secondAnswers) where
+  second-said : answers secondCalls (secondCard layout) ≡ secondAnswers
+  unfolding secondCalls
+  second-said = check-among (area 8) (asFormat layout 1 fs) can beforeCheck afterCheck (standing-take (secondCard layout) secondCalls 2 standing) ∙ computed
+
+  -- the revert to mon is accepted, and its visit's latest accepted snap is the first: the second is refused
+  second-reverted : RevertedAt (secondCard layout) secondCalls 11 mon
+  unfolding secondCalls secondAnswers
+  second-reverted = reverted-by secondCalls (secondCard layout) secondAnswers second-said 11 mon (omega arith) refl refl
+
+  second-latest : latestSnap mon (secondCard layout) (take 11 secondCalls) ≡ At 1
+  unfolding running secondCalls secondAnswers latestBy isSnapOf
+  second-latest = latest-by mon 11 secondCalls (secondCard layout) secondAnswers second-said
+
+  -- demand 3 of the second list
+  second-matched : Matched (secondCard layout) secondCalls 12 (without secondCalls 1 11) 1
+  second-matched = matched 8 (asFormat layout 1 fs) can secondCalls standing 11 mon second-reverted 1 second-latest
+
+pub second-answers : (answers secondCalls (secondCard 1) ≡ secondAnswers) × (answers secondCalls (secondCard 2) ≡ secondAnswers)
+second-answers = (second-said 1 second-can-1 second-standing-1 computed-1, second-said 2 second-can-2 second-standing-2 computed-2)
+
+pub second-reverted-1 : RevertedAt (secondCard 1) secondCalls 11 mon
+second-reverted-1 = second-reverted 1 second-can-1 second-standing-1 computed-1
+
+pub second-reverted-2 : RevertedAt (secondCard 2) secondCalls 11 mon
+second-reverted-2 = second-reverted 2 second-can-2 second-standing-2 computed-2
+
+pub second-forgotten-1 : Matched (secondCard 1) secondCalls 12 (without secondCalls 1 11) 1
+second-forgotten-1 = second-matched 1 second-can-1 second-standing-1 computed-1
+
+pub second-forgotten-2 : Matched (secondCard 2) secondCalls 12 (without secondCalls 1 11) 1
+second-forgotten-2 = second-matched 2 second-can-2 second-standing-2 computed-2

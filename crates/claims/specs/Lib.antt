@@ -6,3 +6,4 @@ pub mod Ledger
 pub mod Claims
 pub mod Bench
 pub mod Example
+pub mod SecondExample
