@@ -85,6 +85,10 @@ readFs = 111 ∷ 112 ∷ 61 ∷ 114 ∷ 101 ∷ 97 ∷ 100 ∷ 32 ∷ 102 ∷ 11
 abbrev readMon : List ℕ
 readMon = 111 ∷ 112 ∷ 61 ∷ 114 ∷ 101 ∷ 97 ∷ 100 ∷ 32 ∷ 102 ∷ 114 ∷ 111 ∷ 109 ∷ 61 ∷ 109 ∷ 111 ∷ 110 ∷ 32 ∷ 98 ∷ 108 ∷ 111 ∷ 99 ∷ 107 ∷ 61 ∷ 48 ∷ 10 ∷ []
 
+-- `op=read from=A block=x`
+abbrev readX : List ℕ
+readX = 111 ∷ 112 ∷ 61 ∷ 114 ∷ 101 ∷ 97 ∷ 100 ∷ 32 ∷ 102 ∷ 114 ∷ 111 ∷ 109 ∷ 61 ∷ 65 ∷ 32 ∷ 98 ∷ 108 ∷ 111 ∷ 99 ∷ 107 ∷ 61 ∷ 120 ∷ 10 ∷ []
+
 -- `op=ream layout=2 blocks=1 volume=1 name=fs`
 abbrev ream1 : List ℕ
 ream1 = 111 ∷ 112 ∷ 61 ∷ 114 ∷ 101 ∷ 97 ∷ 109 ∷ 32 ∷ 108 ∷ 97 ∷ 121 ∷ 111 ∷ 117 ∷ 116 ∷ 61 ∷ 50 ∷ 32 ∷ 98 ∷ 108 ∷ 111 ∷ 99 ∷ 107 ∷ 115 ∷ 61 ∷ 49 ∷ 32 ∷ 118 ∷ 111 ∷ 108 ∷ 117 ∷ 109 ∷ 101 ∷ 61 ∷ 49 ∷ 32 ∷ 110 ∷ 97 ∷ 109 ∷ 101 ∷ 61 ∷ 102 ∷ 115 ∷ 10 ∷ []
@@ -222,6 +226,8 @@ shortSheets =
     ∷ record { sheet = snapAlone ++ checkLine; prints = malformed1 }
     -- a line of 127 bytes, of which 114 are no name; one byte more
     ∷ record { sheet = snapKey ++ letters 114 ++ lineFeed ++ snapKey ++ letters 115 ++ lineFeed; prints = refused4 ++ malformed2 }
+    -- a line that is not of the form, though what would be its name is none
+    ∷ record { sheet = readX; prints = malformed1 }
     -- 16,384 bytes are a sheet, here of empty lines; one byte more is too long
     ∷ record { sheet = replicate 16384 10; prints = malformed1 }
     ∷ record { sheet = replicate 16385 10; prints = malformed0 }
