@@ -78,31 +78,31 @@ pub fn need(alpha: Physical, found: Found) -> u32
 {
     match found {
         Found::Misplaced(_) => 0,
-        Found::Entry(m, p) => entry_need(alpha.0, m.0, p.0),
+        Found::Entry(m, p) => entry_need(alpha, m, p),
     }
 }
 
 // The same for the table block `m` and the entry `p`.
-fn entry_need(alpha: u32, m: u32, p: u32) -> u32
-    ensures { λ r. ⌜ r ≡ needing alpha (Found.Entry (physical m) (physical p)) ⌝ }
+fn entry_need(alpha: Physical, m: Physical, p: Physical) -> u32
+    ensures { λ r. ⌜ r ≡ needing (alpha .0) (Found.Entry m p) ⌝ }
 {
-    if p == 0 {
+    if p.0 == 0 {
         return fresh_need(alpha, m);
     }
-    if alpha <= p {
+    if alpha.0 <= p.0 {
         return 0;
     }
     fresh_need(alpha, m)
 }
 
 // The data block, and the table block where that is new.
-fn fresh_need(alpha: u32, m: u32) -> u32
-    ensures { λ r. ⌜ r ≡ pick (tableIsNew alpha m) 2 1 ⌝ }
+fn fresh_need(alpha: Physical, m: Physical) -> u32
+    ensures { λ r. ⌜ r ≡ pick (tableIsNew (alpha .0) (m .0)) 2 1 ⌝ }
 {
-    if m == 0 {
+    if m.0 == 0 {
         return 2;
     }
-    if m < alpha {
+    if m.0 < alpha.0 {
         return 2;
     }
     1

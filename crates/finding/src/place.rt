@@ -10,16 +10,16 @@ ghost use Rattle.entries.specs.InPlace.{regionOf, inPlaceAt};
 ghost use Rattle.entries.specs.Through.{RisingRegions};
 
 // The index of the region that contains block `p`. The regions rise, so that each step halves those that are left.
-fn region_of(starts: &[u32], count: usize, p: u32) -> usize
-    requires { ⌜ RisingRegions (now starts) count 0 × (p < getD (now starts) count 0) ⌝ }
-    ensures { λ r. ⌜ r ≡ regionOf (now (starts .entry)) p ⌝ }
+fn region_of(starts: &[u32], count: usize, p: Physical) -> usize
+    requires { ⌜ RisingRegions (now starts) count 0 × (p .0 < getD (now starts) count 0) ⌝ }
+    ensures { λ r. ⌜ r ≡ regionOf (now (starts .entry)) (p .0) ⌝ }
     ensures { λ r. ⌜ r < count ⌝ }
 {
     let mut low = 0;
     let mut high = count;
     while 1 < high - low {
         let middle = low + (high - low) / 2;
-        if starts[middle] <= p {
+        if starts[middle] <= p.0 {
             low = middle;
         } else {
             high = middle;
@@ -40,7 +40,7 @@ pub fn in_place(starts: &[u32], count: usize, d: Descriptor, p: Physical) -> boo
     if d.beta.0 <= q {
         return false;
     }
-    let k = region_of(starts, count, q);
+    let k = region_of(starts, count, p);
     let start = starts[k] as usize;
     let cost = descriptor::opening_cost(d.layout, d.volume) as usize;
     start + cost <= q as usize

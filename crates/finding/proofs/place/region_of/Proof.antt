@@ -7,7 +7,7 @@ use Rattle.finding.proofs.place.region_of.Statement.{statement}
 use Rattle.finding.proofs.place.region_of.Tie as tie
 
 abbrev Inv-loop : tie.InvT-loop
-Inv-loop starts count p low₀ high₀ low high = (low < high) × (high ≤ count) × (getD starts low 0 ≤ p) × (p < getD starts high 0)
+Inv-loop starts count p low₀ high₀ low high = (low < high) × (high ≤ count) × (getD starts low 0 ≤ p .0) × (p .0 < getD starts high 0)
 
 abbrev μ-loop : tie.MeasureT-loop
 μ-loop starts count p low₀ high₀ low high = high - low
