@@ -71,7 +71,7 @@ pub fn record_of(card: &[u8], starts: &[u32], n: usize, k: usize) -> Record
     let start = starts[k];
     let end = starts[k + 1];
     let name = descriptor::name_at(card, Physical(start));
-    let next = chain::next_of(end, k, n);
+    let next = chain::next_of(Physical(end), k, n);
     Record {
         name,
         alpha: start,

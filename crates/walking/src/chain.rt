@@ -182,12 +182,12 @@ fn is_repeated(
     is_named(card, starts, k, name)
 }
 
-fn unsound(p: u32) -> Regions
-    ensures { λ r. ⌜ r ≡ regionsOf (Unsound p) ⌝ }
+fn unsound(p: Physical) -> Regions
+    ensures { λ r. ⌜ r ≡ regionsOf (Unsound (p .0)) ⌝ }
 {
     Regions {
         sound: false,
-        place: Physical(p),
+        place: p,
         active: Descriptor {
             layout: 0,
             volume: 0,
@@ -269,11 +269,11 @@ pub fn walk_chain(card: &[u8]) -> Regions
 {
     let n = card.len() / BLOCK_SIZE;
     if n == 0 {
-        return unsound(0);
+        return unsound(Physical(0));
     }
     let first = descriptor::read_descriptor(card, Physical(0));
     if !is_right(card, first, n, Physical(0), first) {
-        return unsound(0);
+        return unsound(Physical(0));
     }
     let mut p = first.next.0;
     if p == 0 {
@@ -289,11 +289,11 @@ pub fn walk_chain(card: &[u8]) -> Regions
     let mut k: usize = 1;
     while k < MOST_DESCRIPTORS {
         if !is_next(card, first, n, Physical(p), d) {
-            return unsound(p);
+            return unsound(Physical(p));
         }
         let name = d.name;
         if is_repeated(card, &starts, k, &hashes, name) {
-            return unsound(p);
+            return unsound(Physical(p));
         }
         hashes[name::hash(name)] = true;
         let beta = d.beta.0;
@@ -312,18 +312,18 @@ pub fn walk_chain(card: &[u8]) -> Regions
         p = next;
         d = descriptor::read_descriptor(card, Physical(p));
     }
-    unsound(p)
+    unsound(Physical(p))
 }
 
 // The next of region `k` of `count`, which ends at block `end`.
-pub fn next_of(end: u32, k: usize, count: usize) -> Physical
+pub fn next_of(end: Physical, k: usize, count: usize) -> Physical
     requires { ⌜ k < count ⌝ }
-    ensures { λ r. ⌜ r ≡ physical (pick (eqb (k + 1) count) 0 end) ⌝ }
+    ensures { λ r. ⌜ r ≡ physical (pick (eqb (k + 1) count) 0 (end .0)) ⌝ }
 {
     if k + 1 == count {
         return Physical(0);
     }
-    Physical(end)
+    end
 }
 
 // The descriptor of region `k`, by what the walk found: of its bytes the name alone is read again.
@@ -345,7 +345,7 @@ pub fn descriptor_of(
         volume: active.volume,
         alpha: Physical(start),
         beta: Physical(end),
-        next: next_of(end, k, count),
+        next: next_of(Physical(end), k, count),
         name,
     }
 }
