@@ -94,17 +94,17 @@ fn cut_write(a: &[u8], b: &[u8]) -> Line
 }
 
 // A read of block `l` from what the text names.
-fn read_from(from: &[u8], l: u32) -> Line
-    ensures { λ r. ⌜ r ≡ readFrom (now (from .entry)) l ⌝ }
+fn read_from(from: &[u8], l: Logical) -> Line
+    ensures { λ r. ⌜ r ≡ readFrom (now (from .entry)) (l .0) ⌝ }
 {
     if bytes::same_bytes(from, b"*") {
         return Line {
-            call: SheetCall::Read(Target::Active, Logical(l)),
+            call: SheetCall::Read(Target::Active, l),
             name: [0u8; NAME_SIZE],
         };
     }
     Line {
-        call: SheetCall::Read(Target::Snapshot, Logical(l)),
+        call: SheetCall::Read(Target::Snapshot, l),
         name: name::pad_name(from),
     }
 }
@@ -117,7 +117,7 @@ fn cut_read(a: &[u8], b: &[u8]) -> Line
         return not_formed();
     }
     match number::read_pair(b, b"block=") {
-        Number::Is(n) => read_from(&a[5..], n),
+        Number::Is(n) => read_from(&a[5..], Logical(n)),
         Number::Not => not_formed(),
     }
 }
