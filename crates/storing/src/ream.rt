@@ -19,14 +19,14 @@ ghost use Rattle.calls.specs.Call.{Ream, None};
 ghost use Rattle.calls.specs.Step.{step, done};
 
 // The `n` blocks from block `first` are zeros.
-fn clear_blocks(card: &mut [u8], first: u32, n: u32)
-    requires { ⌜ (blockSize * (first + n) ≤ length (now card)) × (first + n < 4294967296) ⌝ }
-    ensures { λ _. ⌜ now (card .exit) ≡ storeAll (now (card .entry)) (clearing first n) ⌝ }
+fn clear_blocks(card: &mut [u8], first: Physical, n: u32)
+    requires { ⌜ (blockSize * (first .0 + n) ≤ length (now card)) × (first .0 + n < 4294967296) ⌝ }
+    ensures { λ _. ⌜ now (card .exit) ≡ storeAll (now (card .entry)) (clearing (first .0) n) ⌝ }
 {
     let zeros = [0u8; BLOCK_SIZE];
     let mut i: u32 = 0;
     while i < n {
-        let p = Physical(first + i);
+        let p = Physical(first.0 + i);
         bytes::store_block(card, p, &zeros);
         i += 1;
     }
@@ -90,6 +90,6 @@ fn open_card(card: &mut [u8], format: Format, cost: u32)
         name,
     };
     let b = fresh_block(first);
-    clear_blocks(card, 1, cost - 1);
+    clear_blocks(card, Physical(1), cost - 1);
     bytes::store_block(card, Physical(0), &b);
 }

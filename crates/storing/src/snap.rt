@@ -21,14 +21,14 @@ ghost use Rattle.calls.specs.Effect.{snapping};
 ghost use Rattle.calls.specs.Step.{step, done};
 
 // The `n` blocks from block `to` are copies of those from block `from`, which stand before them.
-fn copy_blocks(card: &mut [u8], from: u32, to: u32, n: u32)
-    requires { ⌜ (from + n ≤ «to») × (blockSize * («to» + n) ≤ length (now card)) × («to» + n < 4294967296) ⌝ }
-    ensures { λ _. ⌜ now (card .exit) ≡ storeAll (now (card .entry)) (copying (now (card .entry)) from «to» n) ⌝ }
+fn copy_blocks(card: &mut [u8], from: Physical, to: Physical, n: u32)
+    requires { ⌜ (from .0 + n ≤ «to» .0) × (blockSize * («to» .0 + n) ≤ length (now card)) × («to» .0 + n < 4294967296) ⌝ }
+    ensures { λ _. ⌜ now (card .exit) ≡ storeAll (now (card .entry)) (copying (now (card .entry)) (from .0) («to» .0) n) ⌝ }
 {
     let mut i: u32 = 0;
     while i < n {
-        let a = Physical(from + i);
-        let b = Physical(to + i);
+        let a = Physical(from.0 + i);
+        let b = Physical(to.0 + i);
         bytes::copy_block(card, a, b);
         i += 1;
     }
@@ -43,7 +43,9 @@ fn take_snapshot(card: &mut [u8], d: Descriptor, cost: u32, name: [u8; NAME_SIZE
     let beta = d.beta;
     let opened = d.reopened();
     let closed = d.renamed(name).linked(beta);
-    copy_blocks(card, alpha.0 + 1, beta.0 + 1, cost - 1);
+    let from = Physical(alpha.0 + 1);
+    let to = Physical(beta.0 + 1);
+    copy_blocks(card, from, to, cost - 1);
     descriptor::store_descriptor(card, alpha, beta, opened);
     descriptor::put_descriptor(card, alpha, closed);
 }

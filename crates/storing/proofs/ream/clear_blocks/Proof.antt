@@ -11,7 +11,7 @@ use Rattle.storing.proofs.ream.clear_blocks.Statement.{statement}
 use Rattle.storing.proofs.ream.clear_blocks.Tie as tie
 
 abbrev Inv-loop : tie.InvT-loop
-Inv-loop card₀ first n zeros i₀ card i = (i ≤ n) × (length card ≡ length card₀) × (card ≡ storeAll card₀ (clearing first i))
+Inv-loop card₀ first n zeros i₀ card i = (i ≤ n) × (length card ≡ length card₀) × (card ≡ storeAll card₀ (clearing (first .0) i))
 
 abbrev μ-loop : tie.MeasureT-loop
 μ-loop card₀ first n zeros i₀ card i = n - i
@@ -26,7 +26,7 @@ slice-aggregate-store-block : tie.Need-slice-aggregate-store-block Inv-loop μ-l
 slice-aggregate-store-block c = search needs
 
 store-block-requires : tie.Need-store-block-requires Inv-loop μ-loop
-store-block-requires c κs = (search needs, omega (arith, c .before .before .before .loop .inv .1))
+store-block-requires c κs = (search needs, omega (arith, c .before .before .before .before .loop .inv .1))
 
 add-i : tie.Need-add-i Inv-loop μ-loop
 add-i c = omega arith
@@ -37,7 +37,7 @@ loop-less c = omega arith
 loop-again : tie.Need-loop-again Inv-loop μ-loop
 loop-again c =
     let t = c .before .before in
-    let l = t .before .before .before .before in
+    let l = t .before .before .before .before .before in
     (omega arith, t .store-block .kept .0 ∙ l .loop .inv .1, cleared-more _ _ _ _ _ (l .loop .inv .2) (t .store-block .ensures))
 
 same-length : tie.Need-same-length Inv-loop μ-loop

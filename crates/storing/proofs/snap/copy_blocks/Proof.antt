@@ -10,7 +10,7 @@ use Rattle.storing.proofs.snap.copy_blocks.Statement.{statement}
 use Rattle.storing.proofs.snap.copy_blocks.Tie as tie
 
 abbrev Inv-loop : tie.InvT-loop
-Inv-loop card₀ from to n i₀ card i = (i ≤ n) × (length card ≡ length card₀) × (card ≡ storeAll card₀ (copying card₀ from «to» i))
+Inv-loop card₀ from to n i₀ card i = (i ≤ n) × (length card ≡ length card₀) × (card ≡ storeAll card₀ (copying card₀ (from .0) («to» .0) i))
 
 abbrev μ-loop : tie.MeasureT-loop
 μ-loop card₀ from to n i₀ card i = n - i
@@ -25,7 +25,7 @@ add-t9-2 : tie.Need-add-t9-2 Inv-loop μ-loop
 add-t9-2 c = omega arith
 
 copy-block-requires : tie.Need-copy-block-requires Inv-loop μ-loop
-copy-block-requires c κs = let l = c .before .before .loop .inv .1 in (omega (arith, l), omega (arith, l))
+copy-block-requires c κs = let l = c .before .before .before .before .loop .inv .1 in (omega (arith, l), omega (arith, l))
 
 add-i : tie.Need-add-i Inv-loop μ-loop
 add-i c = omega arith
@@ -36,7 +36,7 @@ loop-less c = omega arith
 loop-again : tie.Need-loop-again Inv-loop μ-loop
 loop-again c =
     let t = c .before .before in
-    let l = t .before .before .before in
+    let l = t .before .before .before .before .before in
     let s = l .before .before in (
       omega arith,
       t .copy-block .kept .0 ∙ l .loop .inv .1,
