@@ -16,7 +16,7 @@ ghost use lib.ListN.{length, getD, replicate};
 ghost use lib.Dec.{ltb};
 ghost use Rattle.blocks.specs.Pick.{pick, allZero};
 ghost use Rattle.blocks.specs.Bytes.{blockSize, part};
-ghost use Rattle.blocks.specs.Descriptor.{tableSize, phiSize, phiStart, phiBytes};
+ghost use Rattle.blocks.specs.Descriptor.{physical, tableSize, phiSize, phiStart, phiBytes};
 ghost use Rattle.entries.specs.Naming.{tableNamings, tablesNamings, phiNamings, namings};
 ghost use Rattle.entries.specs.Marks.{takes, taking, flagged, openingsFlagged, nextTurn, nextFlags, takingAll, namedTable, TableReady, TablesReady, PhiReady, CheckReady};
 ghost use Rattle.entries.specs.declared.check.Verdict.the-variants.{Passed, Fault};
@@ -25,20 +25,20 @@ ghost use Rattle.entries.specs.declared.check.Verdict.the-variants.{Passed, Fau
 const OPENING: u8 = 255;
 
 // Takes an entry of value `v`: says whether it is nil, or counted, below `limit` and not flagged in this turn. A set entry that is taken is flagged.
-fn take_entry(seen: &mut [u8], turn: u8, limit: u32, counted: bool, v: u32) -> bool
-    requires { ⌜ limit ≤ length (now seen) ⌝ }
-    ensures { λ r. ⌜ (r ≡ takes (now (seen .entry)) turn limit counted v) × (now (seen .exit) ≡ taking (now (seen .entry)) turn limit counted v) ⌝ }
+fn take_entry(seen: &mut [u8], turn: u8, limit: Physical, counted: bool, v: Physical) -> bool
+    requires { ⌜ limit .0 ≤ length (now seen) ⌝ }
+    ensures { λ r. ⌜ (r ≡ takes (now (seen .entry)) turn (limit .0) counted (v .0)) × (now (seen .exit) ≡ taking (now (seen .entry)) turn (limit .0) counted (v .0)) ⌝ }
 {
-    if v == 0 {
+    if v.0 == 0 {
         return true;
     }
     if !counted {
         return false;
     }
-    if limit <= v {
+    if limit.0 <= v.0 {
         return false;
     }
-    let at = v as usize;
+    let at = v.0 as usize;
     if turn <= seen[at] {
         return false;
     }
@@ -58,13 +58,14 @@ fn clear_flags(seen: &mut [u8])
 }
 
 // Flags the `n` blocks from block `from` as those of an opening.
-fn mark_blocks(seen: &mut [u8], from: usize, n: usize)
-    requires { ⌜ from + n ≤ length (now seen) ⌝ }
-    ensures { λ _. ⌜ now (seen .exit) ≡ flagged (now (seen .entry)) from n ⌝ }
+fn mark_blocks(seen: &mut [u8], from: Physical, n: usize)
+    requires { ⌜ from .0 + n ≤ length (now seen) ⌝ }
+    ensures { λ _. ⌜ now (seen .exit) ≡ flagged (now (seen .entry)) (from .0) n ⌝ }
 {
+    let first = from.0 as usize;
     let mut i = 0;
     while i < n {
-        seen[from + i] = OPENING;
+        seen[first + i] = OPENING;
         i += 1;
     }
 }
@@ -76,8 +77,8 @@ pub fn mark_openings(seen: &mut [u8], starts: &[u32], count: usize, cost: usize)
 {
     let mut k = 0;
     while k < count {
-        let from = starts[k] as usize;
-        mark_blocks(seen, from, cost);
+        let from = starts[k];
+        mark_blocks(seen, Physical(from), cost);
         k += 1;
     }
 }
@@ -96,10 +97,10 @@ pub fn next_turn(seen: &mut [u8], starts: &[u32], count: usize, cost: usize, tur
 }
 
 // Where the set entries of table block `m` must stay below: alpha if the table is an old one, else beta.
-fn limit_of(alpha: u32, beta: u32, m: u32) -> u32
-    ensures { λ r. ⌜ r ≡ pick (ltb m alpha) alpha beta ⌝ }
+fn limit_of(alpha: Physical, beta: Physical, m: Physical) -> Physical
+    ensures { λ r. ⌜ r ≡ physical (pick (ltb (m .0) (alpha .0)) (alpha .0) (beta .0)) ⌝ }
 {
-    if m < alpha {
+    if m.0 < alpha.0 {
         return alpha;
     }
     beta
@@ -121,12 +122,12 @@ fn check_table(card: &[u8], d: Descriptor, i: u32, m: Physical, seen: &mut [u8],
     ensures { λ r. ⌜ record { verdict = pick r Passed (Fault m); flags = now (seen .exit) } ≡ takingAll d turn (now (seen .entry)) (tableNamings (now (card .entry)) d i (m .0) tableSize 0) ⌝ }
 {
     let left = counted_from(d.volume, TABLE_SIZE * i);
-    let limit = limit_of(d.alpha.0, d.beta.0, m.0);
+    let limit = limit_of(d.alpha, d.beta, m);
     let mut j: u32 = 0;
     while j < TABLE_SIZE {
         let v = find::entry_at(card, m, j);
         let counted = j < left;
-        if !take_entry(seen, turn, limit, counted, v.0) {
+        if !take_entry(seen, turn, limit, counted, v) {
             return false;
         }
         j += 1;
@@ -179,7 +180,7 @@ fn check_phi(card: &[u8], d: Descriptor, n: u32, seen: &mut [u8], turn: u8) -> V
     let mut i: u32 = 0;
     while i < n {
         let table = find::table_of(card, d, i);
-        if !take_entry(seen, turn, d.beta.0, true, table.0) {
+        if !take_entry(seen, turn, d.beta, true, table) {
             return Verdict::Fault(alpha);
         }
         if !check_named(card, d, i, table, seen, turn) {

@@ -1,5 +1,5 @@
 -- `check_table` meets its contract: after j turns j entries have been taken.
-use mathlib.Core.Path.{_≡_, refl, _∙_}
+use mathlib.Core.Path.{_≡_, refl, _∙_, ap}
 use Prim.Native.Nat.{_*_, _≤_, _-_}
 use native.Mathlib.Omega.{arith}
 use lib.ListN.{length}
@@ -8,6 +8,7 @@ use borrow.Author.Needs.{needs}
 use borrow.Author.Tests.{not-true, not-false}
 use Rattle.blocks.specs.Pick.{pick}
 use Rattle.blocks.specs.declared.descriptor.Descriptor.{Descriptor}
+use Rattle.blocks.specs.declared.numbers.Physical.{Physical}
 use Rattle.entries.specs.Naming.{tableNamings}
 use Rattle.entries.specs.Marks.{takingAll}
 use Rattle.entries.proofs.CheckLaws.{limit-low, table-more, table-stop, table-end}
@@ -18,7 +19,7 @@ abbrev Inv-loop : tie.InvT-loop
 Inv-loop card i m seen₀ turn left limit j₀ seen j =
     (j ≤ 128)
     × (length seen ≡ length seen₀)
-    × ((d : Descriptor) → left ≡ d .volume - 128 * i → limit ≡ pick (ltb (m .0) (d .alpha .0)) (d .alpha .0) (d .beta .0)
+    × ((d : Descriptor) → left ≡ d .volume - 128 * i → limit .0 ≡ pick (ltb (m .0) (d .alpha .0)) (d .alpha .0) (d .beta .0)
     → takingAll d turn seen₀ (tableNamings card d i (m .0) 128 0) ≡ takingAll d turn seen (tableNamings card d i (m .0) (128 - j) j))
 
 abbrev μ-loop : tie.MeasureT-loop
@@ -43,7 +44,7 @@ take-entry-requires : tie.Need-take-entry-requires Inv-loop μ-loop
 take-entry-requires c κs =
     let l = c .before .before .before in
     let s = l .before .before .before .before .before in
-    omega (arith, limit-low (s .args .d) (s .args .m .0) (s .pre .rising), l .before .limit-of .ensures, s .pre .flags, l .loop .inv .1)
+    omega (arith, limit-low (s .args .d) (s .args .m .0) (s .pre .rising), ap (λ (p : Physical). p .0) (l .before .limit-of .ensures), s .pre .flags, l .loop .inv .1)
 
 same-length : tie.Need-same-length Inv-loop μ-loop
 same-length c = let t = c .before .before .before in t .take-entry .kept .0 ∙ t .before .before .before .before .loop .inv .1
@@ -53,7 +54,8 @@ returns c =
     let t = c .before .before .before in
     let l = t .before .before .before .before in
     let n = l .before .before in
-    table-stop _ _ _ _ _ _ _ _ (l .loop .inv .2 _ (n .counted-from .ensures) (l .before .limit-of .ensures)) (omega arith) _ (l .before .limit-of .ensures) _ (n .counted-from .ensures) _ (t .before .before .entry-at .ensures) _ _ (t .take-entry .ensures) (not-true _ (c .if1 .taken))
+    let e = ap (λ (p : Physical). p .0) (l .before .limit-of .ensures) in
+    table-stop _ _ _ _ _ _ _ _ (l .loop .inv .2 _ (n .counted-from .ensures) e) (omega arith) _ e _ (n .counted-from .ensures) _ (t .before .before .entry-at .ensures) _ _ (t .take-entry .ensures) (not-true _ (c .if1 .taken))
 
 add-j : tie.Need-add-j Inv-loop μ-loop
 add-j c = omega arith
@@ -77,7 +79,8 @@ returns-2 : tie.Need-returns-2 Inv-loop μ-loop
 returns-2 c =
     let l = c .before in
     let n = l .before .before in
-    table-end _ _ _ _ _ _ _ _ (l .loop .inv .2 _ (n .counted-from .ensures) (l .before .limit-of .ensures)) (omega arith)
+    let e = ap (λ (p : Physical). p .0) (l .before .limit-of .ensures) in
+    table-end _ _ _ _ _ _ _ _ (l .loop .inv .2 _ (n .counted-from .ensures) e) (omega arith)
 
 pub check-table-spec : {M : Type 1} → statement M
 check-table-spec =

@@ -3,16 +3,20 @@ use mathlib.Core.Path.{_≡_, refl}
 use Prim.Native.Nat.{_≤_, _-_}
 use native.Mathlib.Omega.{arith}
 use lib.ListN.{length, length-set}
+use borrow.Author.Needs.{needs}
 use Rattle.entries.specs.Marks.{flagged}
 use Rattle.entries.proofs.MarkLaws.{flagged-more, flagged-all}
 use Rattle.judging.proofs.check.mark_blocks.Statement.{statement}
 use Rattle.judging.proofs.check.mark_blocks.Tie as tie
 
 abbrev Inv-loop : tie.InvT-loop
-Inv-loop seen₀ from n i₀ seen i = (i ≤ n) × (length seen ≡ length seen₀) × (seen ≡ flagged seen₀ from i)
+Inv-loop seen₀ n first i₀ seen i = (i ≤ n) × (length seen ≡ length seen₀) × (seen ≡ flagged seen₀ first i)
 
 abbrev μ-loop : tie.MeasureT-loop
-μ-loop seen₀ from n i₀ seen i = n - i
+μ-loop seen₀ n first i₀ seen i = n - i
+
+cast-first : tie.Need-cast-first Inv-loop μ-loop
+cast-first c = search needs
 
 loop-holds : tie.Need-loop-holds Inv-loop μ-loop
 unfolding flagged
@@ -47,6 +51,7 @@ mark-blocks-spec =
     (tie.spec
     Inv-loop
     μ-loop
+    cast-first
     loop-holds
     add-seen
     slice-write-seen

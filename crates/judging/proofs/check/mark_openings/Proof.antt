@@ -24,9 +24,6 @@ mul-from c = omega arith
 shared-slice-read-from : tie.Need-shared-slice-read-from Inv-loop μ-loop
 shared-slice-read-from c = omega arith
 
-cast-from : tie.Need-cast-from Inv-loop μ-loop
-cast-from c = omega (arith, c .shared-slice-known2 .given (c .before .before .loop .k))
-
 mark-blocks-requires : tie.Need-mark-blocks-requires Inv-loop μ-loop
 mark-blocks-requires c κs =
     let l = c .before .before .before in
@@ -59,7 +56,6 @@ mark-openings-spec =
     loop-holds
     mul-from
     shared-slice-read-from
-    cast-from
     mark-blocks-requires
     add-k
     loop-less
