@@ -4,6 +4,7 @@
 use blocks::bytes;
 use blocks::descriptor;
 use blocks::descriptor::Descriptor;
+use blocks::numbers::Logical;
 use blocks::numbers::Physical;
 use blocks::sizes::BLOCK_SIZE;
 use blocks::sizes::PHI_START;
@@ -106,14 +107,14 @@ fn limit_of(alpha: Physical, beta: Physical, m: Physical) -> Physical
     beta
 }
 
-// How many entries stand before L from entry `first` on.
-fn counted_from(volume: u32, first: u32) -> u32
-    ensures { λ r. ⌜ r ≡ volume - first ⌝ }
+// How many entries stand before L from that of logical block `first` on.
+fn counted_from(volume: u32, first: Logical) -> u32
+    ensures { λ r. ⌜ r ≡ volume - first .0 ⌝ }
 {
-    if volume < first {
+    if volume < first.0 {
         return 0;
     }
-    volume - first
+    volume - first.0
 }
 
 // Takes the 128 entries of table block `m`, the table of group `i`, up to the first at fault.
@@ -121,7 +122,8 @@ fn check_table(card: &[u8], d: Descriptor, i: u32, m: Physical, seen: &mut [u8],
     requires { ⌜ TableReady (now card) d i (m .0) (now seen) ⌝ }
     ensures { λ r. ⌜ record { verdict = pick r Passed (Fault m); flags = now (seen .exit) } ≡ takingAll d turn (now (seen .entry)) (tableNamings (now (card .entry)) d i (m .0) tableSize 0) ⌝ }
 {
-    let left = counted_from(d.volume, TABLE_SIZE * i);
+    let first = TABLE_SIZE * i;
+    let left = counted_from(d.volume, Logical(first));
     let limit = limit_of(d.alpha, d.beta, m);
     let mut j: u32 = 0;
     while j < TABLE_SIZE {

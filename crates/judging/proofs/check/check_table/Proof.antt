@@ -16,17 +16,17 @@ use Rattle.judging.proofs.check.check_table.Statement.{statement}
 use Rattle.judging.proofs.check.check_table.Tie as tie
 
 abbrev Inv-loop : tie.InvT-loop
-Inv-loop card i m seen₀ turn left limit j₀ seen j =
+Inv-loop card i m seen₀ turn first left limit j₀ seen j =
     (j ≤ 128)
     × (length seen ≡ length seen₀)
     × ((d : Descriptor) → left ≡ d .volume - 128 * i → limit .0 ≡ pick (ltb (m .0) (d .alpha .0)) (d .alpha .0) (d .beta .0)
     → takingAll d turn seen₀ (tableNamings card d i (m .0) 128 0) ≡ takingAll d turn seen (tableNamings card d i (m .0) (128 - j) j))
 
 abbrev μ-loop : tie.MeasureT-loop
-μ-loop card i m seen₀ turn left limit j₀ seen j = 128 - j
+μ-loop card i m seen₀ turn first left limit j₀ seen j = 128 - j
 
-mul-counted-from : tie.Need-mul-counted-from Inv-loop μ-loop
-mul-counted-from c = omega (arith, c .before .before .pre .group)
+mul-first : tie.Need-mul-first Inv-loop μ-loop
+mul-first c = omega (arith, c .before .before .pre .group)
 
 counted-from-requires : tie.Need-counted-from-requires Inv-loop μ-loop
 counted-from-requires c κs = search needs
@@ -88,7 +88,7 @@ check-table-spec =
     (tie.spec
     Inv-loop
     μ-loop
-    mul-counted-from
+    mul-first
     counted-from-requires
     limit-of-requires
     loop-holds
