@@ -6,12 +6,14 @@ use Prim.Native.Nat.{ℕ, _-_}
 use lib.ListN.{length}
 use Rattle.blocks.specs.Bytes.{storeAll}
 use Rattle.blocks.proofs.BoolLaws.{no}
-use Rattle.calls.specs.Call.{Call}
+use Rattle.calls.specs.Call.{Call, Ream, Read, Write, Snap, Revert, Listing, Check}
 use Rattle.calls.specs.Meaning.{answerOf}
 use Rattle.calls.specs.Step.{step, isAccepted}
-use Rattle.claims.specs.Claims.{lentAtEntry, leaves, storesNothing, fills, FrameClaim}
+use Rattle.claims.specs.Claims.{lentAtEntry, leaves, storesNothing, fills, blocksTaken, blocksNeeded, FrameClaim, ByNameClaim}
+use Rattle.claims.specs.History.{formats, isReam}
 use Rattle.claims.specs.Kinds.{Kind, Formats, Leaves, Writes, Snaps, Reverts, kindOf}
 use Rattle.blocks.proofs.StoreLists.{stored-length}
+use Rattle.entries.proofs.EntryLaws.{need-most}
 use Rattle.claims.proofs.Changes.{storesBy}
 use Rattle.claims.proofs.Steps.{stores-inside}
 use Rattle.claims.proofs.Owed.{owed}
@@ -47,3 +49,17 @@ frame-claim k c = (
   λ q. same-kept k c q (isAccepted (answerOf k c)) refl,
   λ q. lent-kept k c q (isAccepted (answerOf k c)) refl,
 )
+
+-- the same of each call by its name
+pub by-name-claim : ByNameClaim
+unfolding ByNameClaim FrameClaim storesNothing leaves fills lentAtEntry blocksNeeded blocksTaken isReam formats
+by-name-claim c =
+    record {
+      ream = λ format. (frame-claim (Ream format) c .2 refl, refl, refl);
+      read = λ target name l block. (frame-claim (Read target name l block) c .1 refl, refl, refl);
+      write = λ l block. (frame-claim (Write l block) c .2 refl, need-most _ _, refl);
+      snap = λ name. (frame-claim (Snap name) c .2 refl, refl, refl);
+      revert = λ name. (frame-claim (Revert name) c .2 refl, refl, refl);
+      list = λ records. (frame-claim (Listing records) c .1 refl, refl, refl);
+      check = (frame-claim Check c .1 refl, frame-claim Check c .2 refl, refl, refl);
+    }

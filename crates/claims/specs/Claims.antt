@@ -134,6 +134,27 @@ FrameClaim =
     × (storesNothing k ≡ true → step k c .card ≡ c)
     × (fills k ≡ false → step k c .outcome .lent ≡ lentAtEntry k)
 
+-- What the definitions by kind say of each call by its name, on a card c, so that none of them can be narrowed: a read, a listing and a check alter no
+-- byte of the card; a ream, a write, a snap, a revert and a check alter nothing that is lent; "A write takes at most two blocks; a snap takes c", and no
+-- other call takes a block; a ream, and it alone, is a format.
+pub record ByName (c : List ℕ) : Type 0 where
+  pub ream : (format : Format) → let k = Ream format in
+      (step k c .outcome .lent ≡ None) × (blocksNeeded k c ≡ 0) × (isReam k ≡ true)
+  pub read : (target : Target) (name : List ℕ) (l : ℕ) (block : List ℕ) → let k = Read target name l block in
+      (step k c .card ≡ c) × (blocksNeeded k c ≡ 0) × (isReam k ≡ false)
+  pub write : (l : ℕ) (block : List ℕ) → let k = Write l block in
+      (step k c .outcome .lent ≡ Block block) × (blocksNeeded k c ≤ 2) × (isReam k ≡ false)
+  pub snap : (name : List ℕ) → let k = Snap name in
+      (step k c .outcome .lent ≡ None) × (blocksNeeded k c ≡ costOf (activeOf (descriptorsOf c))) × (isReam k ≡ false)
+  pub revert : (name : List ℕ) → let k = Revert name in
+      (step k c .outcome .lent ≡ None) × (blocksNeeded k c ≡ 0) × (isReam k ≡ false)
+  pub list : (records : List Record) → let k = Listing records in
+      (step k c .card ≡ c) × (blocksNeeded k c ≡ 0) × (isReam k ≡ false)
+  pub check : (step Check c .card ≡ c) × (step Check c .outcome .lent ≡ None) × (blocksNeeded Check c ≡ 0) × (isReam Check ≡ false)
+
+unfoldable pub ByNameClaim : Type 0
+ByNameClaim = (c : List ℕ) → ByName c
+
 -- An accepted listing gives each descriptor's own name, alpha, beta and next, and leaves the records after them.
 unfoldable pub ListClaim : Type 0
 ListClaim =

@@ -176,6 +176,17 @@ found-table c starts count d t l h f is m p e =
 pub found-entry : (c starts : List ℕ) (count : ℕ) (d : Descriptor) → Through c starts count d → (l : ℕ) (f : Found) → f ≡ find c (descriptors (chain c)) d l → (m p : Physical) → f ≡ Entry m p → (p .0 ≡ 0 → ⊥) → p .0 < d .beta .0
 found-entry c starts count d t l f is m p e n = placed-below (descriptors (chain c)) d (p .0) (find-placed c (descriptors (chain c)) d l m p (sym is ∙ e)) n
 
+-- no need is above 2
+most-by : (s new : Bool) → pick s 0 (pick new 2 1) ≤ 2
+most-by true new = omega arith
+most-by false true = omega arith
+most-by false false = omega arith
+
+pub need-most : (alpha : ℕ) (f : Found) → need alpha f ≤ 2
+unfolding need
+need-most alpha (Misplaced h) = omega arith
+need-most alpha (Entry m p) = most-by (not (eqb (p .0) 0) && leb alpha (p .0)) (tableIsNew alpha (m .0))
+
 -- what a write takes, where it takes blocks
 need-some : (s new : Bool) (n : ℕ) → n ≡ pick s 0 (pick new 2 1) → (n ≡ 0 → ⊥) → n ≡ pick new 2 1
 need-some true new n e z = absurd (z e)
