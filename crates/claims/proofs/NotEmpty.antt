@@ -12,7 +12,7 @@ use Rattle.blocks.specs.Descriptor.{asFormat}
 use Rattle.blocks.specs.declared.descriptor.Format.{Format}
 use Rattle.calls.specs.Call.{Call, Outcome, accepted}
 use Rattle.calls.specs.Step.{after}
-use Rattle.claims.specs.History.{AreBytes, Standing, none, more, isReam, isFormat, writtenBy, formattable, formatted, isSnapOf, Position, Nowhere, At, latestSnap, without}
+use Rattle.claims.specs.History.{Agree, AreBytes, Standing, none, more, isReam, isFormat, writtenBy, formattable, formatted, isSnapOf, Position, Nowhere, At, latestSnap, without}
 use Rattle.claims.specs.Claims.{Matched, RevertedAt, Demand3}
 use Rattle.claims.specs.Bench.{area, fs, mon}
 use Rattle.claims.specs.Example.{exampleCard, exampleCalls, exampleOutcomes}
@@ -174,3 +174,15 @@ second-forgotten-1 = second-matched 1 second-can-1 second-standing-1 computed-1
 
 pub second-forgotten-2 : Matched (secondCard 2) secondCalls 12 (without secondCalls 1 11) 1
 second-forgotten-2 = second-matched 2 second-can-2 second-standing-2 computed-2
+
+-- after the last call of the list the two cards agree
+second-end : (layout : ℕ) → Matched (secondCard layout) secondCalls 12 (without secondCalls 1 11) 1
+    → Agree (after secondCalls (secondCard layout)) (after (without secondCalls 1 11) (secondCard layout))
+unfolding secondCalls without
+second-end layout m = m .agree 6 (omega arith)
+
+pub second-end-1 : Agree (after secondCalls (secondCard 1)) (after (without secondCalls 1 11) (secondCard 1))
+second-end-1 = second-end 1 second-forgotten-1
+
+pub second-end-2 : Agree (after secondCalls (secondCard 2)) (after (without secondCalls 1 11) (secondCard 2))
+second-end-2 = second-end 2 second-forgotten-2
