@@ -45,6 +45,10 @@ pub record State : Type 0 where
 unfoldable pub start : State
 start = record { area = replicate (blockSize * sheetBlocks) 0; blocks = sheetBlocks; records = replicate sheetRecords noRecord }
 
+-- "It owns 64 blocks, zero at the start, and a list of 64 records; the card is all 64": in numbers, since no line prints what a block held at the start.
+unfoldable pub StartClaim : Type 0
+StartClaim = (start .area ≡ replicate 32768 0) × (start .blocks ≡ 64) × (length (start .records) ≡ 64)
+
 -- whether a line is not of the form
 unfoldable pub isMalformed : SheetCall → Bool
 isMalformed line.Malformed = true
