@@ -18,16 +18,13 @@ use Rattle.calls.specs.declared.answer.Record.{Record}
 use Rattle.calls.specs.declared.list.Filling.{Filling}
 use Rattle.calls.specs.Call.{Listing, answer}
 use Rattle.calls.specs.Parts.{descriptorsOf}
-use Rattle.calls.specs.Ladder.{firstRow, admission}
-use Rattle.calls.specs.declared.answer.Answer.{Answer}
 use Rattle.calls.specs.Meaning.{answerOf}
 use Rattle.calls.specs.Effect.{noRecord, recordOf, listed}
 use Rattle.calls.specs.Step.{isAccepted}
 use Rattle.calls.specs.Listing.{fillingOf, fillingBy, recordBy}
 use Rattle.calls.proofs.StepLaws.{step-answer}
-use Rattle.calls.proofs.ListingLaws.{filling-none, filling-told, list-room, list-inside, list-record, ready-by, regions-some, walk-starts}
+use Rattle.calls.proofs.ListingLaws.{filling-told, list-room, list-inside, list-record, ready-by, regions-some, walk-starts}
 use Rattle.boundary.specs.RecordBytes.{recordBytes, recordsBytes, roomIn, listingOf, filledBytesTo, filledBytes}
-use borrow.Author.Tests.{ne-eqb}
 
 pub record-length : (r : Record) → length (r .name) ≡ 16 → length (recordBytes r) ≡ 28
 unfolding recordBytes le32
@@ -111,13 +108,7 @@ pub room-size : (b : List ℕ) → length (roomIn b) ≡ length b / 28
 unfolding roomIn
 room-size b = length-replicate (length b / 28) noRecord
 
--- a listing into bytes that is not admitted, and one that fills what the walk found room for, are those of the definition
-pub listing-none : (c b : List ℕ) (a : Answer) → a ≡ firstRow (admission c) → (a .number ≡ 0 → ⊥) → record { answer = answer (a .number) (a .place); bytes = b } ≡ listingOf c b
-unfolding listingOf fillingOf
-listing-none c b a asked e =
-    let is : answerOf (Listing (roomIn b)) c ≡ a = sym (ap (λ (f : Filling). f .answer) (filling-none c (roomIn b) a asked e)) in
-    rw (step-answer (Listing (roomIn b)) c, is, ne-eqb (a .number) 0 e)
-
+-- a listing into bytes that fills what the walk found room for is that of the definition
 listing-by : (c starts b : List ℕ) (t : Bool) → isAccepted (answerOf (Listing (roomIn b)) c) ≡ t → (t ≡ true → starts ≡ startsOf (descriptorsOf c))
     → record { answer = answerOf (Listing (roomIn b)) c; bytes = filledBytes c starts b (pick t (length (descriptorsOf c)) 0) } ≡ listingOf c b
 unfolding listingOf
@@ -126,9 +117,9 @@ listing-by c starts b true e is =
     rw (step-answer (Listing (roomIn b)) c, e, is refl, bytes-listed c (startsOf (descriptorsOf c)) (descriptorsOf c) (list-record c (roomIn b) e) (list-inside c (roomIn b) e) b fits)
 listing-by c starts b false e is = rw (step-answer (Listing (roomIn b)) c, e, ← (bytes-all c starts b 0 0 b (bytes-none c starts b 0) (omega arith) (omega arith)))
 
-module _ (c b : List ℕ) (a : Answer) (asked : a ≡ firstRow (admission c)) (card : a .number ≡ 0) (r : Regions) (walked : r ≡ regionsOf (chain c)) (f : Filling) (by : f ≡ fillingBy (r .sound) (r .place .0) (r .count) (length b / 28)) where
+module _ (c b : List ℕ) (r : Regions) (walked : r ≡ regionsOf (chain c)) (f : Filling) (by : f ≡ fillingBy c (r .sound) (r .place .0) (r .count) (length b / 28)) where
   told : f ≡ fillingOf c (roomIn b)
-  told = filling-told c (roomIn b) a asked card r walked (length b / 28) (room-size b) f by
+  told = filling-told c (roomIn b) r walked (length b / 28) (room-size b) f by
 
   starts-are : isAccepted (answerOf (Listing (roomIn b)) c) ≡ true → r .starts ≡ startsOf (descriptorsOf c)
   starts-are ok = ap (λ (x : Regions). x .starts) walked ∙ walk-starts c (roomIn b) ok

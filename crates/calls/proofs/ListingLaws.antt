@@ -1,4 +1,4 @@
--- Laws of a listing: its plan, row by row; the record of each region; what the filled records are.
+-- Laws of a listing: its tests and its plan; the record of each region; what the filled records are, and how many.
 use mathlib.Core.Path.{_≡_, refl, sym, ap, _∙_}
 use mathlib.Core.Bool.{Bool, true, false, not}
 use mathlib.Core.List.{List, [], _∷_, _++_}
@@ -6,16 +6,16 @@ use Prim.Native.Nat.{ℕ, zero, suc, _+_, _*_, _≤_, _<_}
 use native.Mathlib.Numerals.{add-one}
 use native.Mathlib.Omega.{arith}
 use lib.ListN.{length, take, drop, getD, set, length-set, length-replicate}
-use lib.Seq.{drop-cons, take-suc, take-length, length-take-le}
+use lib.Seq.{drop-cons, drop-length, take-suc, take-length, length-take-le}
 use lib.Dec.{ltb}
-use borrow.Author.Tests.{lt-ltb, le-ltb, not-true, not-false, eq-eqb, ne-eqb}
+use borrow.Author.Tests.{lt-ltb, le-ltb, not-true, not-false, eq-eqb, ne-eqb, eqb-true, eqb-false}
 use Rattle.blocks.specs.Pick.{pick}
 use Rattle.blocks.specs.Bytes.{storeAll}
 use Rattle.blocks.specs.Descriptor.{physical, noDescriptor}
 use Rattle.chains.specs.Chain.{activeOf, Chain, Sound, Unsound, chain, startsOf, regionsOf}
 use Rattle.blocks.specs.declared.descriptor.Descriptor.{Descriptor}
 use Rattle.chains.specs.declared.chain.Regions.{Regions}
-use Rattle.chains.proofs.LinkedLaws.{starts-long, region-of, found-inside, found-descriptor}
+use Rattle.chains.proofs.LinkedLaws.{Linked, last, more, chain-linked, starts-long, region-of, found-inside, found-descriptor}
 use Rattle.calls.specs.declared.answer.Answer.{Answer}
 use Rattle.calls.specs.declared.answer.Record.{Record}
 use Rattle.calls.specs.declared.list.Filling.{Filling}
@@ -25,69 +25,77 @@ use Rattle.calls.specs.Parts.{descriptorsOf}
 use Rattle.calls.specs.Ladder.{admission, firstRow, listRows}
 use Rattle.calls.specs.Effect.{recordOf, listed}
 use Rattle.calls.specs.Meaning.{rowsOf, answerOf, storesOf, lentOf, filledOf, givenOf}
-use Rattle.calls.specs.Step.{step, isAccepted, done}
-use Rattle.calls.specs.Listing.{fillingWith, fillingOf, fillingBy, noStarts, planOf, recordBy, filledTo, filled}
+use Rattle.calls.specs.Step.{Done, step, isAccepted, done}
+use Rattle.calls.specs.Listing.{fillingWith, fillingOf, fillingBy, planOf, recordBy, filledTo, filled, recordCount}
 use Rattle.calls.proofs.CardLaws.{card-count, chain-is}
 use Rattle.calls.proofs.Passed.{list-passed}
-use Rattle.calls.proofs.RowLaws.{accepted-admitted, row-given, last-passed, not-admitted, admitted, admitted-card, chain-given, chain-passed}
+use Rattle.calls.proofs.StepLaws.{step-answer, step-lent}
+use Rattle.calls.proofs.RowLaws.{row-given, last-passed, not-admitted, admitted, admitted-card, chain-given, chain-passed}
 
--- what a listing answers and fills, in the order of the code's tests
-module _ (c : List ℕ) (records : List Record) (a : Answer) (asked : a ≡ firstRow (admission c)) where
-  pub filling-none : (a .number ≡ 0 → ⊥) → record { answer = a; count = 0 } ≡ fillingOf c records
-  unfolding fillingOf answerOf rowsOf listRows
-  filling-none e = rw (not-admitted c a asked (listRows c records) e, ne-eqb (a .number) 0 e)
+-- what a listing answers and fills, by its tests
+module _ (c : List ℕ) (records : List Record) (r : Regions) (walked : r ≡ regionsOf (chain c)) (room : ℕ) (long : length records ≡ room) where
+  abbrev a : Answer
+  a = firstRow (admission c)
 
-  module _ (card : a .number ≡ 0) (r : Regions) (walked : r ≡ regionsOf (chain c)) where
-    filling-6 : not (r .sound) ≡ true → fillingWith 6 (r .place .0) 0 ≡ fillingOf c records
+  module _ (card : a .number ≡ 0) where
+    filling-6 : r .sound ≡ false → fillingWith 6 (r .place .0) 0 ≡ fillingOf c records
     unfolding fillingOf answerOf rowsOf listRows
-    filling-6 h = rw (admitted c a asked _ card, chain-given _ c r walked h)
+    filling-6 h = rw (admitted c a refl _ card, chain-given _ c r walked (rw h))
 
-    module _ (room : ℕ) (long : length records ≡ room) where
-      module _ (whole : not (r .sound) ≡ false) where
-        count-is : length (descriptorsOf c) ≡ r .count
-        count-is = sym (card-count c r walked (admitted-card c a asked card) (not-false (r .sound) whole))
+    module _ (whole : r .sound ≡ true) where
+      count-is : length (descriptorsOf c) ≡ r .count
+      count-is = sym (card-count c r walked (admitted-card c a refl card) whole)
 
-        to-room : answerOf (Listing records) c ≡ firstRow (drop 1 (listRows c records))
-        unfolding answerOf rowsOf listRows
-        to-room = admitted c a asked _ card ∙ chain-passed _ c r walked whole
+      to-room : answerOf (Listing records) c ≡ firstRow (drop 1 (listRows c records))
+      unfolding answerOf rowsOf listRows
+      to-room = admitted c a refl _ card ∙ chain-passed _ c r walked (rw whole)
 
-        filling-room : (t : Bool) → ltb room (r .count) ≡ t → pick t (fillingWith 14 0 0) (fillingWith 0 0 (r .count)) ≡ fillingOf c records
-        unfolding fillingOf listRows
-        filling-room true h = rw (to-room ∙ row-given _ _ (rw (long, count-is) h))
-        filling-room false h = rw (to-room ∙ last-passed _ (rw (long, count-is) h), count-is)
+      filling-room : (t : Bool) → ltb room (r .count) ≡ t → pick t (fillingWith 14 0 0) (fillingWith 0 0 (r .count)) ≡ fillingOf c records
+      unfolding fillingOf listRows
+      filling-room true h = rw (to-room ∙ row-given _ _ (rw (long, count-is) h))
+      filling-room false h = rw (to-room ∙ last-passed _ (rw (long, count-is) h), count-is)
 
-      filling-by : (s : Bool) → r .sound ≡ s → pick s (pick (ltb room (r .count)) (fillingWith 14 0 0) (fillingWith 0 0 (r .count))) (fillingWith 6 (r .place .0) 0) ≡ fillingOf c records
-      filling-by true e = filling-room (rw e) (ltb room (r .count)) refl
-      filling-by false e = filling-6 (rw e)
+    filling-chain : (s : Bool) → r .sound ≡ s → pick s (pick (ltb room (r .count)) (fillingWith 14 0 0) (fillingWith 0 0 (r .count))) (fillingWith 6 (r .place .0) 0) ≡ fillingOf c records
+    filling-chain true e = filling-room e (ltb room (r .count)) refl
+    filling-chain false e = filling-6 e
 
-      pub filling-told : (f : Filling) → f ≡ fillingBy (r .sound) (r .place .0) (r .count) room → f ≡ fillingOf c records
-      unfolding fillingBy
-      filling-told f e = e ∙ filling-by (r .sound) refl
+  filling-none : isAccepted a ≡ false → fillingWith (a .number) (a .place) 0 ≡ fillingOf c records
+  unfolding fillingOf answerOf rowsOf listRows
+  filling-none e = rw (not-admitted c a refl (listRows c records) (eqb-false (a .number) 0 e), e)
 
--- the same by the tests of the code
-module _ (sound : Bool) (place count room : ℕ) where
-  pub found-6 : not sound ≡ true → fillingWith 6 place 0 ≡ fillingBy sound place count room
+  filling-by : (t : Bool) → isAccepted a ≡ t
+      → pick t (pick (r .sound) (pick (ltb room (r .count)) (fillingWith 14 0 0) (fillingWith 0 0 (r .count))) (fillingWith 6 (r .place .0) 0)) (fillingWith (a .number) (a .place) 0) ≡ fillingOf c records
+  filling-by true e = filling-chain (eqb-true (a .number) 0 e) (r .sound) refl
+  filling-by false e = filling-none e
+
+  pub filling-told : (f : Filling) → f ≡ fillingBy c (r .sound) (r .place .0) (r .count) room → f ≡ fillingOf c records
   unfolding fillingBy
-  found-6 h = rw (not-true sound h)
+  filling-told f e = e ∙ filling-by (isAccepted a) refl
 
-  module _ (whole : not sound ≡ false) where
-    pub found-14 : room < count → fillingWith 14 0 0 ≡ fillingBy sound place count room
+  -- the plan of a listing
+  pub plan-told : (f : Filling) → f ≡ fillingBy c (r .sound) (r .place .0) (r .count) room → record { answer = f .answer; count = f .count; starts = r .starts } ≡ planOf c records
+  unfolding planOf
+  plan-told f e = rw (← walked, ← (filling-told f e))
+
+-- the tests of the code
+module _ (c : List ℕ) (sound : Bool) (place count room : ℕ) (a : Answer) (asked : a ≡ firstRow (admission c)) where
+  pub found-1 : (a .number ≡ 0 → ⊥) → fillingWith (a .number) (a .place) 0 ≡ fillingBy c sound place count room
+  unfolding fillingBy
+  found-1 e = rw (← asked, ne-eqb (a .number) 0 e)
+
+  module _ (card : a .number ≡ 0) where
+    pub found-6 : not sound ≡ true → fillingWith 6 place 0 ≡ fillingBy c sound place count room
     unfolding fillingBy
-    found-14 h = rw (not-false sound whole, lt-ltb room count h)
+    found-6 h = rw (← asked, eq-eqb (a .number) 0 card, not-true sound h)
 
-    pub found-0 : count ≤ room → fillingWith 0 0 count ≡ fillingBy sound place count room
-    unfolding fillingBy
-    found-0 h = rw (not-false sound whole, le-ltb room count h)
+    module _ (whole : not sound ≡ false) where
+      pub found-14 : room < count → fillingWith 14 0 0 ≡ fillingBy c sound place count room
+      unfolding fillingBy
+      found-14 h = rw (← asked, eq-eqb (a .number) 0 card, not-false sound whole, lt-ltb room count h)
 
--- the plan of a listing: where it is not admitted, and with what the walk found
-pub plan-none : (c : List ℕ) (records : List Record) (a : Answer) → a ≡ firstRow (admission c) → (a .number ≡ 0 → ⊥) → record { answer = a; count = 0; starts = noStarts } ≡ planOf c records
-unfolding planOf
-plan-none c records a asked e = rw (← (filling-none c records a asked e), ← asked, ne-eqb (a .number) 0 e)
-
-pub plan-told : (c : List ℕ) (records : List Record) (a : Answer) → a ≡ firstRow (admission c) → a .number ≡ 0 → (r : Regions) → r ≡ regionsOf (chain c) → (f : Filling) → f ≡ fillingOf c records
-    → record { answer = f .answer; count = f .count; starts = r .starts } ≡ planOf c records
-unfolding planOf
-plan-told c records a asked card r walked f told = rw (← asked, eq-eqb (a .number) 0 card, ← walked, ← told)
+      pub found-0 : count ≤ room → fillingWith 0 0 count ≡ fillingBy c sound place count room
+      unfolding fillingBy
+      found-0 h = rw (← asked, eq-eqb (a .number) 0 card, not-false sound whole, le-ltb room count h)
 
 -- filling none, one more, and the length
 module _ (c starts : List ℕ) (records : List Record) (n : ℕ) where
@@ -174,22 +182,9 @@ module _ (c : List ℕ) (records : List Record) where
   pub walk-starts : isAccepted (answerOf (Listing records) c) ≡ true → regionsOf (chain c) .starts ≡ startsOf (descriptorsOf c)
   walk-starts ok = ap (λ (r : Regions). r .starts) (list-whole c records ok)
 
-  -- those of a plan
-  plan-starts : isAccepted (answerOf (Listing records) c) ≡ true → planOf c records .starts ≡ startsOf (descriptorsOf c)
-  unfolding planOf
-  plan-starts ok = rw (accepted-admitted c (Listing records) ok) (walk-starts ok)
-
-  some-by : (t : Bool) → 0 < length (pick t (regionsOf (chain c) .starts) noStarts)
-  some-by true = regions-some (chain c)
-  some-by false = omega (arith, length-replicate {A = ℕ} 257 0)
-
-  plan-some : 0 < length (planOf c records .starts)
-  unfolding planOf
-  plan-some = some-by (isAccepted (firstRow (admission c)))
-
   pub plan-ready : (r : Plan) → r ≡ planOf c records → Ready c (r .starts) records (r .count)
   unfolding planOf fillingOf
-  plan-ready r e = rw e (ready-by c (planOf c records .starts) records (isAccepted (answerOf (Listing records) c)) refl plan-starts plan-some)
+  plan-ready r e = rw e (ready-by c (regionsOf (chain c) .starts) records (isAccepted (answerOf (Listing records) c)) refl walk-starts (regions-some (chain c)))
 
 -- a listing as planned and filled is that of the definition
 step-by : (c starts : List ℕ) (records : List Record) (t : Bool) → isAccepted (answerOf (Listing records) c) ≡ t → (t ≡ true → starts ≡ startsOf (descriptorsOf c))
@@ -200,4 +195,42 @@ step-by c starts records false e is = rw (e, ← (filled-all c starts records 0 
 
 pub plan-done : (c : List ℕ) (records l : List Record) (r : Plan) → r ≡ planOf c records → l ≡ filled c (r .starts) records (r .count) → done (r .answer) (Records l) c ≡ step (Listing records) c
 unfolding planOf fillingOf
-plan-done c records l r e f = rw (f, e) (step-by c (planOf c records .starts) records (isAccepted (answerOf (Listing records) c)) refl (plan-starts c records))
+plan-done c records l r e f = rw (f, e) (step-by c (regionsOf (chain c) .starts) records (isAccepted (answerOf (Listing records) c)) refl (walk-starts c records))
+
+-- counting the records that a listing has filled: i of them, and those after
+unfoldable pub countFrom : List Record → ℕ → ℕ
+countFrom rs i = i + recordCount (drop i rs)
+
+module _ (rs : List Record) where
+  pub count-none : recordCount rs ≡ countFrom rs 0
+  unfolding countFrom
+  count-none = omega arith
+
+  pub count-last : (i : ℕ) (d : Record) → i < length rs → getD rs i d .next ≡ 0 → countFrom rs i ≡ i + 1
+  unfolding countFrom recordCount
+  count-last i d h z = rw (drop-cons rs i d h, eq-eqb (getD rs i d .next) 0 z)
+
+  pub count-more : (i : ℕ) (d : Record) → i < length rs → (getD rs i d .next ≡ 0 → ⊥) → countFrom rs i ≡ countFrom rs (i + 1)
+  unfolding countFrom recordCount
+  count-more i d h z = rw (add-one, drop-cons rs i d h, ne-eqb (getD rs i d .next) 0 z) (omega arith)
+
+  pub count-all : (i : ℕ) → i ≡ length rs → countFrom rs i ≡ i
+  unfolding countFrom recordCount
+  count-all i e = rw (e, drop-length rs) (omega arith)
+
+-- in a sound chain just the last descriptor has a nil next
+count-linked : {c : List ℕ} {es : List Descriptor} {p : ℕ} {ds : List Descriptor} → Linked c es p ds → (rest : List Record) → recordCount (listed ds rest) ≡ length ds
+unfolding recordCount listed
+count-linked (last {d = d} is ok z) rest = rw (eq-eqb (d .next .0) 0 z)
+count-linked (more {d = d} is ok z l) rest = rw (ne-eqb (d .next .0) 0 z) (ap suc (count-linked l rest))
+
+-- so an accepted listing has filled a record for each descriptor, and no more
+pub list-count : (c : List ℕ) (records l : List Record) (a : Answer) → done a (Records l) c ≡ step (Listing records) c → a .number ≡ 0 → recordCount l ≡ length (descriptorsOf c)
+unfolding filledOf
+list-count c records l a made e =
+    let ok : isAccepted (answerOf (Listing records) c) ≡ true = ap isAccepted (sym (ap (λ (d : Done). d .outcome .answer) made ∙ step-answer (Listing records) c)) ∙ eq-eqb (a .number) 0 e in
+    let ds = descriptorsOf c in
+    let lent : Records l ≡ Records (listed ds (drop (length ds) records)) =
+    ap (λ (d : Done). d .outcome .lent) made ∙ step-lent (Listing records) c ∙ ap (λ (t : Bool). pick t (filledOf (Listing records) c) (lentOf (Listing records))) ok in
+    let is : l ≡ listed ds (drop (length ds) records) = cc in
+    rw is (count-linked (chain-linked c ds (chain-is (chain c) (list-passed c records ok .sound))) (drop (length ds) records))

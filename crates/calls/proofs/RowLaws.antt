@@ -16,7 +16,7 @@ use Rattle.calls.specs.declared.answer.Answer.{Answer}
 use Rattle.calls.specs.Call.{Call, Ream, Read, Write, Snap, Revert, Listing, Check, answer, accepted}
 use Rattle.calls.specs.Parts.{areaBad}
 use Rattle.calls.specs.Ladder.{Row, row, firstRow, admission, areaRow, nameRow, blockRow, chainRow, volumeRow, reamRows, readRows, writeRows, snapRows, revertRows, listRows, checkRows}
-use Rattle.calls.specs.Meaning.{meaningOf, rowsOf, answerOf}
+use Rattle.calls.specs.Meaning.{rowsOf, answerOf}
 use Rattle.calls.specs.Step.{isAccepted}
 use Rattle.calls.proofs.CardLaws.{card-fault, card-sound, card-found}
 
@@ -201,17 +201,6 @@ module _ (c : List ℕ) where
     pub admitted-card : a .number ≡ 0 → areaBad c ≡ false
     unfolding admission holdsOf
     admitted-card h = number-passed (admission c) admission-numbered (sym (ap (λ (x : Answer). x .number) asked) ∙ h) 1
-
-  -- as has an accepted call
-  admitted-by : (rs : List Row) (b : Bool) → isAccepted (firstRow (admission c)) ≡ b → isAccepted (firstRow (admission c ++ rs)) ≡ true → b ≡ true
-  admitted-by rs true q e = refl
-  admitted-by rs false q e =
-      let same : firstRow (admission c ++ rs) ≡ firstRow (admission c) = first-append (admission c) rs admission-numbered ∙ rw q in
-      sym q ∙ sym (ap isAccepted same) ∙ e
-
-  pub accepted-admitted : (k : Call) → isAccepted (answerOf k c) ≡ true → isAccepted (firstRow (admission c)) ≡ true
-  unfolding answerOf rowsOf
-  accepted-admitted k e = admitted-by (meaningOf k .rows c) (isAccepted (firstRow (admission c))) refl e
 
   -- the same by the test of the area
   pub admission-1 : (bad : Bool) → bad ≡ areaBad c → bad ≡ true → answer 1 0 ≡ firstRow (admission c)

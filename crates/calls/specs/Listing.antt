@@ -1,12 +1,12 @@
 -- What the code of a listing plans and fills.
 use mathlib.Core.Bool.{Bool}
-use mathlib.Core.List.{List}
+use mathlib.Core.List.{List, [], _∷_}
 use Prim.Native.Nat.{ℕ, zero, suc, _+_}
-use lib.ListN.{length, getD, set, replicate}
+use lib.ListN.{length, getD, set}
 use lib.Dec.{eqb, ltb}
 use Rattle.blocks.specs.Pick.{pick}
 use Rattle.blocks.specs.Descriptor.{descriptorAt}
-use Rattle.chains.specs.Chain.{startsSize, chain, regionsOf}
+use Rattle.chains.specs.Chain.{chain, regionsOf}
 use Rattle.calls.specs.declared.answer.Record.{Record}
 use Rattle.calls.specs.declared.list.Filling.{Filling}
 use Rattle.calls.specs.declared.list.Plan.{Plan}
@@ -30,19 +30,17 @@ fillingOf c records =
     let a = answerOf (Listing records) c in
     record { answer = a; count = pick (isAccepted a) (length (descriptorsOf c)) 0 }
 
--- the same on a card, by what the walk along the chain found and the number of records
-unfoldable pub fillingBy : Bool → ℕ → ℕ → ℕ → Filling
-fillingBy sound place count room = pick sound (pick (ltb room count) (fillingWith 14 0 0) (fillingWith 0 0 count)) (fillingWith 6 place 0)
+-- the same in the order of the tests, by what the walk along the chain found and the number of records
+unfoldable pub fillingBy : List ℕ → Bool → ℕ → ℕ → ℕ → Filling
+fillingBy c sound place count room =
+    let a = firstRow (admission c) in
+    pick (isAccepted a) (pick sound (pick (ltb room count) (fillingWith 14 0 0) (fillingWith 0 0 count)) (fillingWith 6 place 0)) (fillingWith (a .number) (a .place) 0)
 
--- the starts of no region
-abbrev pub noStarts : List ℕ
-noStarts = replicate startsSize 0
-
--- these, and where the regions start, by the walk, which gives zeros where the chain is unsound; zeros where the call is not admitted
+-- these, and where the regions start, by the walk, which gives zeros where the chain is unsound
 unfoldable pub planOf : List ℕ → List Record → Plan
 planOf c records =
     let f = fillingOf c records in
-    record { answer = f .answer; count = f .count; starts = pick (isAccepted (firstRow (admission c))) (regionsOf (chain c) .starts) noStarts }
+    record { answer = f .answer; count = f .count; starts = regionsOf (chain c) .starts }
 
 -- the record of region k of n, by where the regions start: the name is that of the descriptor there
 unfoldable pub recordBy : List ℕ → List ℕ → ℕ → ℕ → Record
@@ -58,3 +56,8 @@ filledTo c starts records n (suc i) = set (filledTo c starts records n i) i (rec
 
 unfoldable pub filled : List ℕ → List ℕ → List Record → ℕ → List Record
 filled c starts records n = filledTo c starts records n n
+
+-- how many records a listing has filled: those up to the first whose next is nil, that one too, or all
+unfoldable pub recordCount : List Record → ℕ
+recordCount [] = 0
+recordCount (r ∷ rs) = pick (eqb (r .next) 0) 1 (suc (recordCount rs))

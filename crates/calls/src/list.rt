@@ -11,7 +11,7 @@ pub struct Filling {
     pub count: usize,
 }
 
-// The same, and where the regions start: zeros where the listing is not admitted or the chain is unsound.
+// The same, and where the regions start: zeros where the chain is unsound.
 pub struct Plan {
     pub answer: Answer,
     pub count: usize,

@@ -174,7 +174,6 @@ fn run_list(area: &[u8], blocks: u32, records: [Record; SHEET_RECORDS]) -> Ran
     let end = BLOCK_SIZE * (blocks as usize);
     let found = list::list_64(&area[..end], records);
     let answer = found.answer;
-    let count = found.count;
     let filled = found.records;
     let number = answer.number;
     if number != 0 {
@@ -186,6 +185,7 @@ fn run_list(area: &[u8], blocks: u32, records: [Record; SHEET_RECORDS]) -> Ran
             ended: false,
         };
     }
+    let count = list::count_records(filled);
     Ran {
         answer,
         blocks,

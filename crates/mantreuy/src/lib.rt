@@ -1,6 +1,5 @@
 // The static library that C and Rust programs link: the seven calls and the padding of a name, on numbers and lent bytes.
 // Each call returns the number of its answer and stores the place; its contract is one equation, by the calls' `step`, the listing's by `listingOf`.
-use admitting::area;
 use blocks::descriptor;
 use blocks::descriptor::Format;
 use blocks::name;
@@ -99,14 +98,9 @@ pub extern "C" fn mantreuy_revert(card: &mut [u8], name: &[u8], place: &mut u32)
 pub extern "C" fn mantreuy_list(card: &[u8], records: &mut [u8], place: &mut u32) -> u32
     ensures { λ r. ⌜ record { answer = answer r (now (place .exit)); bytes = now (records .exit) } ≡ listingOf (now (card .entry)) (now (records .entry)) ⌝ }
 {
-    let admitted = area::admit(card);
-    if admitted.number != 0 {
-        *place = admitted.place;
-        return admitted.number;
-    }
     let found = chain::walk_chain(card);
     let room = records.len() / RECORD_SIZE;
-    let f = list::plan_filling(found.sound, found.place, found.count, room);
+    let f = list::plan_filling(card, found.sound, found.place, found.count, room);
     record::fill_bytes(card, &found.starts, records, f.count);
     *place = f.answer.place;
     f.answer.number

@@ -2,7 +2,6 @@
 use admitting::area;
 use blocks::descriptor;
 use blocks::numbers::Physical;
-use blocks::sizes::STARTS_SIZE;
 use calls::answer::Answer;
 use calls::answer::Record;
 use calls::list::Filling;
@@ -14,7 +13,7 @@ ghost use Prim.Native.Nat.{ℕ, _+_, _*_, _≤_, _<_};
 ghost use lib.ListN.{length, getD};
 ghost use Rattle.calls.specs.Call.{Listing, Records};
 ghost use Rattle.calls.specs.Step.{step, done};
-ghost use Rattle.calls.specs.Listing.{fillingWith, fillingBy, planOf, recordBy, filled};
+ghost use Rattle.calls.specs.Listing.{fillingWith, fillingBy, planOf, recordBy, filled, recordCount};
 ghost use Rattle.blocks.specs.Bytes.{blockSize};
 
 // What has this answer and fills so many records.
@@ -27,10 +26,14 @@ fn filling_of(number: u32, place: u32, count: usize) -> Filling
     }
 }
 
-// The tests of a listing into `room` records that follow the walk, by what it found.
-pub fn plan_filling(sound: bool, place: Physical, count: usize, room: usize) -> Filling
-    ensures { λ r. ⌜ r ≡ fillingBy sound (place .0) count room ⌝ }
+// All tests of a listing into `room` records, in their order, by what the walk along the chain found.
+pub fn plan_filling(card: &[u8], sound: bool, place: Physical, count: usize, room: usize) -> Filling
+    ensures { λ r. ⌜ r ≡ fillingBy (now (card .entry)) sound (place .0) count room ⌝ }
 {
+    let admitted = area::admit(card);
+    if admitted.number != 0 {
+        return filling_of(admitted.number, admitted.place, 0);
+    }
     if !sound {
         return filling_of(6, place.0, 0);
     }
@@ -40,20 +43,12 @@ pub fn plan_filling(sound: bool, place: Physical, count: usize, room: usize) -> 
     filling_of(0, 0, count)
 }
 
-// All tests of a listing into `room` records.
+// What a listing into `room` records answers and fills, and where the regions start.
 fn make_plan(card: &[u8], room: usize) -> Plan
     ensures { λ r. ⌜ ((records : List Record) → length records ≡ room → r ≡ planOf (now (card .entry)) records) ⌝ }
 {
-    let admitted = area::admit(card);
-    if admitted.number != 0 {
-        return Plan {
-            answer: admitted,
-            count: 0,
-            starts: [0u32; STARTS_SIZE],
-        };
-    }
     let found = chain::walk_chain(card);
-    let f = plan_filling(found.sound, found.place, found.count, room);
+    let f = plan_filling(card, found.sound, found.place, found.count, room);
     let answer = f.answer;
     let starts = found.starts;
     Plan {
@@ -103,35 +98,32 @@ pub fn list(card: &[u8], records: &mut [Record]) -> Answer
     p.answer
 }
 
-// The same filling, in an array of 64 records by value: the one function that lends an array of records.
-fn fill_64(card: &[u8], starts: &[u32], records: [Record; 64], n: usize) -> [Record; 64]
-    requires { ⌜ (n ≤ 64) × (n < length (now starts)) × ((j : ℕ) → j < n → blockSize * getD (now starts) j 0 + blockSize ≤ length (now card)) ⌝ }
-    ensures { λ r. ⌜ r ≡ filled (now (card .entry)) (now (starts .entry)) records n ⌝ }
-{
-    let mut r = records;
-    fill(card, starts, &mut r, n);
-    r
-}
-
-// What a listing into 64 records of one's own gives: `count` of them are filled.
+// What a listing into 64 records of one's own gives.
 pub struct List64 {
     pub answer: Answer,
-    pub count: usize,
     pub records: [Record; 64],
 }
 
-// The same listing, into an array of 64 records by value.
+// The same listing, into an array of 64 records by value: the one function that lends an array of records.
 pub fn list_64(card: &[u8], records: [Record; 64]) -> List64
     ensures { λ r. ⌜ done (r .answer) (Records (r .records)) (now (card .entry)) ≡ step (Listing records) (now (card .entry)) ⌝ }
-    ensures { λ r. ⌜ (r .count ≡ planOf (now (card .entry)) records .count) × (r .count ≤ 64) ⌝ }
 {
-    let p = make_plan(card, 64);
-    let answer = p.answer;
-    let count = p.count;
-    let filled = fill_64(card, &p.starts, records, count);
-    List64 {
-        answer,
-        count,
-        records: filled,
+    let mut r = records;
+    let answer = list(card, &mut r);
+    List64 { answer, records: r }
+}
+
+// How many of the records a listing has filled: up to the first whose next is 0, that one too.
+pub fn count_records(records: [Record; 64]) -> usize
+    ensures { λ r. ⌜ r ≡ recordCount records ⌝ }
+{
+    let mut i = 0;
+    while i < 64 {
+        let r = records[i];
+        i += 1;
+        if r.next == 0 {
+            return i;
+        }
     }
+    i
 }

@@ -14,12 +14,10 @@ use Rattle.calls.specs.declared.answer.Answer.{Answer}
 use Rattle.calls.specs.declared.answer.Target.{Target}
 use Rattle.calls.specs.declared.answer.Record.{Record}
 use Rattle.calls.specs.Call.{Ream, Read, Write, Snap, Revert, Listing, Check, Lent, None, Block, Records, answer}
-use Rattle.calls.specs.Parts.{descriptorsOf}
-use Rattle.calls.specs.Meaning.{answerOf}
 use Rattle.calls.specs.Step.{Done, step, isAccepted, done}
-use Rattle.calls.specs.Listing.{fillingOf, planOf}
+use Rattle.calls.specs.Listing.{recordCount}
 use Rattle.calls.proofs.StepLaws.{step-answer}
-use Rattle.calls.proofs.ListingLaws.{list-room}
+use Rattle.calls.proofs.ListingLaws.{list-room, list-count}
 use Rattle.cutter.specs.declared.line.SheetCall.{SheetCall}
 use Rattle.cutter.specs.declared.line.SheetCall.the-variants as line
 use Rattle.cutter.specs.declared.line.Line.{Line}
@@ -124,16 +122,9 @@ module _ (area : List ℕ) (blocks : ℕ) (records : List Record) (a : Answer) w
     unfolding callOf blocksOf recordsAfter
     list-refused e = same-area _ _ (refused-after area blocks records line.List noName a (Records filled) card made e)
 
-    answer-is : a ≡ answerOf (Listing records) card
-    answer-is = ap (λ (d : Done). d .outcome .answer) made ∙ step-answer (Listing records) card
-
-    count-is : a .number ≡ 0 → count ≡ planOf card records .count → count ≡ length (descriptorsOf card)
-    unfolding planOf fillingOf
-    count-is e f = f ∙ ap (λ (b : Bool). pick b (length (descriptorsOf card)) 0) (eq-eqb (answerOf (Listing records) card .number) 0 (sym (ap (λ (x : Answer). x .number) answer-is) ∙ e))
-
-    pub list-accepted : a .number ≡ 0 → count ≡ planOf card records .count → lineResult a blocks (FirstRecords count) filled area ≡ afterCall (state area blocks records) line.List noName
+    pub list-accepted : a .number ≡ 0 → count ≡ recordCount filled → lineResult a blocks (FirstRecords count) filled area ≡ afterCall (state area blocks records) line.List noName
     unfolding callOf blocksOf recordsAfter additionOf
-    list-accepted e f = rw (count-is e f) (same-area _ _ (accepted-after area blocks records line.List noName a (Records filled) card made e))
+    list-accepted e f = rw (f, list-count card records filled a made e) (same-area _ _ (accepted-after area blocks records line.List noName a (Records filled) card made e))
 
 -- what bounds a line's outcome
 pick-most : (b : Bool) (x y m : ℕ) → x ≤ m → y ≤ m → pick b x y ≤ m

@@ -1,14 +1,8 @@
--- `mantreuy_list` meets its contract: where it is not admitted, and with what the walk found.
+-- `mantreuy_list` meets its contract: with what the walk found, what was planned is filled.
 use borrow.Author.Needs.{needs}
-use Rattle.boundary.proofs.RecordLaws.{listing-none, filling-fits, listing-done}
+use Rattle.boundary.proofs.RecordLaws.{filling-fits, listing-done}
 use Rattle.mantreuy.proofs.mantreuy_list.Statement.{statement}
 use Rattle.mantreuy.proofs.mantreuy_list.Tie as tie
-
-admit-requires : tie.Need-admit-requires
-admit-requires c κs = search needs
-
-returns : tie.Need-returns
-returns c = search listing-none
 
 walk-chain-requires : tie.Need-walk-chain-requires
 walk-chain-requires c κs = search needs
@@ -20,18 +14,15 @@ fill-bytes-requires : tie.Need-fill-bytes-requires
 fill-bytes-requires c κs =
     let p = c .before .before .before .before in
     let w = p .before .before in
-    let a = w .before .before .before in
-    filling-fits _ (a .before .before .before .args .records .now) _ (a .admit .ensures) (w .before .if1 .left) _ (w .walk-chain .ensures) _ (p .plan-filling .ensures)
+    filling-fits _ (w .before .before .before .args .records .now) _ (w .walk-chain .ensures) _ (p .plan-filling .ensures)
 
 same-length : tie.Need-same-length
 same-length c = search needs
 
-returns-2 : tie.Need-returns-2
-returns-2 c =
+returns : tie.Need-returns
+returns c =
     let p = c .before .before .before .before .before .before .before in
-    let w = p .before .before in
-    let a = w .before .before .before in
-    listing-done _ _ _ (a .admit .ensures) (w .before .if1 .left) _ (w .walk-chain .ensures) _ (p .plan-filling .ensures) _ (c .before .before .fill-bytes .ensures)
+    listing-done _ _ _ (p .before .before .walk-chain .ensures) _ (p .plan-filling .ensures) _ (c .before .before .fill-bytes .ensures)
 
 pub mantreuy-list-spec : {M : Type 1} → statement M
-mantreuy-list-spec = tie.close (tie.spec admit-requires returns walk-chain-requires plan-filling-requires fill-bytes-requires same-length returns-2)
+mantreuy-list-spec = tie.close (tie.spec walk-chain-requires plan-filling-requires fill-bytes-requires same-length returns)

@@ -19,9 +19,12 @@ list-64-requires c κs = search needs
 returns : tie.Need-returns
 returns c = search list-refused
 
+count-records-requires : tie.Need-count-records-requires
+count-records-requires c κs = search needs
+
 returns-2 : tie.Need-returns-2
 returns-2 c = search list-accepted
 
 pub run-list-spec : {M : Type 1} → statement M
 run-list-spec =
-    tie.close (tie.spec mul-end slice-aggregate-list-64 list-64-requires returns returns-2)
+    tie.close (tie.spec mul-end slice-aggregate-list-64 list-64-requires returns count-records-requires returns-2)
