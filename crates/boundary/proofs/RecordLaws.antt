@@ -33,19 +33,19 @@ record-length r n = simp length-append (omega arith)
 -- the fields of a record, put one after the other
 pub record-put : (c₀ c₁ c₂ c₃ c₄ : List ℕ) (at : ℕ) (r : Record) → at + 28 ≤ length c₀ → length (r .name) ≡ 16
     → c₁ ≡ splice c₀ at (r .name)
-    → c₂ ≡ splice c₁ (at + 16) (le32 (r .alpha))
-    → c₃ ≡ splice c₂ (at + 20) (le32 (r .beta))
-    → c₄ ≡ splice c₃ (at + 24) (le32 (r .next))
+    → c₂ ≡ splice c₁ (at + 16) (le32 (r .alpha .0))
+    → c₃ ≡ splice c₂ (at + 20) (le32 (r .beta .0))
+    → c₄ ≡ splice c₃ (at + 24) (le32 (r .next .0))
     → c₄ ≡ splice c₀ at (recordBytes r)
 unfolding recordBytes
 record-put c₀ c₁ c₂ c₃ c₄ at r h n e₁ e₂ e₃ e₄ =
-    let x₂ : List ℕ = r .name ++ le32 (r .alpha) in
-    let x₃ : List ℕ = x₂ ++ le32 (r .beta) in
-    let l₂ : length x₂ ≡ 20 = length-append (r .name) (le32 (r .alpha)) ∙ omega (arith, n, length-le32 (r .alpha)) in
-    let l₃ : length x₃ ≡ 24 = length-append x₂ (le32 (r .beta)) ∙ omega (arith, l₂, length-le32 (r .beta)) in
-    let f₂ = put-next c₀ at (r .name) (at + 16) (le32 (r .alpha)) e₁ e₂ (omega (arith, n)) (omega (arith, length-le32 (r .alpha))) in
-    let f₃ = put-next c₀ at x₂ (at + 20) (le32 (r .beta)) f₂ e₃ (omega (arith, l₂)) (omega (arith, length-le32 (r .beta))) in
-    put-next c₀ at x₃ (at + 24) (le32 (r .next)) f₃ e₄ (omega (arith, l₃)) (omega (arith, length-le32 (r .next)))
+    let x₂ : List ℕ = r .name ++ le32 (r .alpha .0) in
+    let x₃ : List ℕ = x₂ ++ le32 (r .beta .0) in
+    let l₂ : length x₂ ≡ 20 = length-append (r .name) (le32 (r .alpha .0)) ∙ omega (arith, n, length-le32 (r .alpha .0)) in
+    let l₃ : length x₃ ≡ 24 = length-append x₂ (le32 (r .beta .0)) ∙ omega (arith, l₂, length-le32 (r .beta .0)) in
+    let f₂ = put-next c₀ at (r .name) (at + 16) (le32 (r .alpha .0)) e₁ e₂ (omega (arith, n)) (omega (arith, length-le32 (r .alpha .0))) in
+    let f₃ = put-next c₀ at x₂ (at + 20) (le32 (r .beta .0)) f₂ e₃ (omega (arith, l₂)) (omega (arith, length-le32 (r .beta .0))) in
+    put-next c₀ at x₃ (at + 24) (le32 (r .next .0)) f₃ e₄ (omega (arith, l₃)) (omega (arith, length-le32 (r .next .0)))
 
 -- filling none, one more and all
 module _ (c starts b : List ℕ) (n : ℕ) where

@@ -5,6 +5,7 @@ use lib.ListN.{length, take, drop, replicate}
 use Rattle.blocks.specs.Pick.{pick}
 use Rattle.blocks.specs.Bytes.{u32At, le32, splice}
 use Rattle.blocks.specs.Name.{nameSize}
+use Rattle.blocks.specs.Descriptor.{physical}
 use Rattle.calls.specs.declared.answer.Answer.{Answer}
 use Rattle.calls.specs.declared.answer.Record.{Record}
 use Rattle.calls.specs.Call.{Listing, Lent, None, Block, Records}
@@ -19,7 +20,7 @@ recordSize = 28
 
 -- a record as bytes: the name, then alpha, beta and next
 unfoldable pub recordBytes : Record → List ℕ
-recordBytes r = r .name ++ le32 (r .alpha) ++ le32 (r .beta) ++ le32 (r .next)
+recordBytes r = r .name ++ le32 (r .alpha .0) ++ le32 (r .beta .0) ++ le32 (r .next .0)
 
 -- records, one after the other
 unfoldable pub recordsBytes : List Record → List ℕ
@@ -28,7 +29,7 @@ recordsBytes (r ∷ rs) = recordBytes r ++ recordsBytes rs
 
 -- and back: the record that bytes start with, and n records from the start of bytes
 unfoldable pub recordIn : List ℕ → Record
-recordIn bytes = record { name = take nameSize bytes; alpha = u32At bytes nameSize; beta = u32At bytes (nameSize + 4); next = u32At bytes (nameSize + 8) }
+recordIn bytes = record { name = take nameSize bytes; alpha = physical (u32At bytes nameSize); beta = physical (u32At bytes (nameSize + 4)); next = physical (u32At bytes (nameSize + 8)) }
 
 unfoldable pub recordsIn : ℕ → List ℕ → List Record
 recordsIn zero bytes = []

@@ -46,9 +46,9 @@ abbrev pub lettered : Record
 lettered =
     record {
       name = 97 ∷ 98 ∷ 99 ∷ 100 ∷ 101 ∷ 102 ∷ 103 ∷ 104 ∷ 105 ∷ 106 ∷ 107 ∷ 108 ∷ 109 ∷ 110 ∷ 111 ∷ 112 ∷ [];
-      alpha = 67305985;
-      beta = 134678021;
-      next = 202050057;
+      alpha = physical 67305985;
+      beta = physical 134678021;
+      next = physical 202050057;
     }
 
 abbrev pub letteredBytes : List ℕ

@@ -19,9 +19,9 @@ fn put_record_bytes(area: &mut [u8], at: usize, r: Record)
 {
     let name = r.name;
     descriptor::put_name(area, at, name);
-    bytes::put_u32(area, at + 16, r.alpha);
-    bytes::put_u32(area, at + 20, r.beta);
-    bytes::put_u32(area, at + 24, r.next);
+    bytes::put_u32(area, at + 16, r.alpha.0);
+    bytes::put_u32(area, at + 20, r.beta.0);
+    bytes::put_u32(area, at + 24, r.next.0);
 }
 
 // The first `n` records are now those of the `n` regions.

@@ -206,13 +206,13 @@ module _ (rs : List Record) where
   unfolding countFrom
   count-none = omega arith
 
-  pub count-last : (i : ℕ) (d : Record) → i < length rs → getD rs i d .next ≡ 0 → countFrom rs i ≡ i + 1
+  pub count-last : (i : ℕ) (d : Record) → i < length rs → getD rs i d .next .0 ≡ 0 → countFrom rs i ≡ i + 1
   unfolding countFrom recordCount
-  count-last i d h z = rw (drop-cons rs i d h, eq-eqb (getD rs i d .next) 0 z)
+  count-last i d h z = rw (drop-cons rs i d h, eq-eqb (getD rs i d .next .0) 0 z)
 
-  pub count-more : (i : ℕ) (d : Record) → i < length rs → (getD rs i d .next ≡ 0 → ⊥) → countFrom rs i ≡ countFrom rs (i + 1)
+  pub count-more : (i : ℕ) (d : Record) → i < length rs → (getD rs i d .next .0 ≡ 0 → ⊥) → countFrom rs i ≡ countFrom rs (i + 1)
   unfolding countFrom recordCount
-  count-more i d h z = rw (add-one, drop-cons rs i d h, ne-eqb (getD rs i d .next) 0 z) (omega arith)
+  count-more i d h z = rw (add-one, drop-cons rs i d h, ne-eqb (getD rs i d .next .0) 0 z) (omega arith)
 
   pub count-all : (i : ℕ) → i ≡ length rs → countFrom rs i ≡ i
   unfolding countFrom recordCount

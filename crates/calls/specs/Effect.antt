@@ -39,11 +39,11 @@ revertStores c name = let ds = descriptorsOf c in reverting c (withName (snapsho
 
 -- a record of zeros
 abbrev pub noRecord : Record
-noRecord = record { name = noName; alpha = 0; beta = 0; next = 0 }
+noRecord = record { name = noName; alpha = physical 0; beta = physical 0; next = physical 0 }
 
 -- the record of a descriptor, and those of a chain followed by the records that a listing leaves unchanged
 abbrev pub recordOf : Descriptor → Record
-recordOf d = record { name = d .name; alpha = d .alpha .0; beta = d .beta .0; next = d .next .0 }
+recordOf d = record { name = d .name; alpha = d .alpha; beta = d .beta; next = d .next }
 
 unfoldable pub listed : List Descriptor → List Record → List Record
 listed [] rest = rest

@@ -5,7 +5,7 @@ use Prim.Native.Nat.{ℕ, zero, suc, _+_}
 use lib.ListN.{length, getD, set}
 use lib.Dec.{eqb, ltb}
 use Rattle.blocks.specs.Pick.{pick}
-use Rattle.blocks.specs.Descriptor.{descriptorAt}
+use Rattle.blocks.specs.Descriptor.{physical, descriptorAt}
 use Rattle.chains.specs.Chain.{chain, regionsOf}
 use Rattle.calls.specs.declared.answer.Record.{Record}
 use Rattle.calls.specs.declared.list.Filling.{Filling}
@@ -47,7 +47,7 @@ unfoldable pub recordBy : List ℕ → List ℕ → ℕ → ℕ → Record
 recordBy c starts n k =
     let start = getD starts k 0 in
     let end = getD starts (k + 1) 0 in
-    record { name = descriptorAt c start .name; alpha = start; beta = end; next = pick (eqb (k + 1) n) 0 end }
+    record { name = descriptorAt c start .name; alpha = physical start; beta = physical end; next = physical (pick (eqb (k + 1) n) 0 end) }
 
 -- the records, of which the first i are those of the first i regions of n; and of all n
 unfoldable pub filledTo : List ℕ → List ℕ → List Record → ℕ → ℕ → List Record
@@ -60,4 +60,4 @@ filled c starts records n = filledTo c starts records n n
 -- how many records a listing has filled: those up to the first whose next is nil, that one too, or all
 unfoldable pub recordCount : List Record → ℕ
 recordCount [] = 0
-recordCount (r ∷ rs) = pick (eqb (r .next) 0) 1 (suc (recordCount rs))
+recordCount (r ∷ rs) = pick (eqb (r .next .0) 0) 1 (suc (recordCount rs))

@@ -1,4 +1,5 @@
 // What a call takes and answers besides bytes.
+use blocks::numbers::Physical;
 use blocks::sizes::NAME_SIZE;
 
 // The number and the place of an answer: 0 and 0 where the call is accepted, else a refusal.
@@ -77,7 +78,7 @@ pub enum Target {
 // One descriptor of the chain as a listing gives it.
 pub struct Record {
     pub name: [u8; NAME_SIZE],
-    pub alpha: u32,
-    pub beta: u32,
-    pub next: u32,
+    pub alpha: Physical,
+    pub beta: Physical,
+    pub next: Physical,
 }

@@ -164,7 +164,7 @@ ListClaim =
     × (length filled ≡ length records)
     × ((i : ℕ) (r : Record) → i < length ds
     → let d = getD ds i noDescriptor in
-    getD filled i r ≡ record { name = d .name; alpha = d .alpha .0; beta = d .beta .0; next = d .next .0 })
+    getD filled i r ≡ record { name = d .name; alpha = d .alpha; beta = d .beta; next = d .next })
     × (drop (length ds) filled ≡ drop (length ds) records)
 
 -- 'No room' comes only if the blocks needed exceed those free, on any card.

@@ -9,7 +9,7 @@ use Rattle.calls.specs.declared.answer.Record.{Record}
 use Rattle.calls.specs.Call.{Call, Read, Write, Snap, Revert, Listing, Lent, None, Block, Records, Outcome, accepted, NoneGiven}
 use Rattle.claims.specs.History.{formatted}
 use Rattle.claims.specs.Bench.{area, fs, mon, lent}
-use Rattle.blocks.specs.Descriptor.{asFormat}
+use Rattle.blocks.specs.Descriptor.{physical, asFormat}
 
 -- blocks=16 volume=200 name=fs, in a layout
 abbrev pub exampleCard : ℕ → List ℕ
@@ -21,7 +21,7 @@ filledBlock value = replicate blockSize value
 
 -- three lent records
 abbrev pub blank : Record
-blank = record { name = noName; alpha = 1; beta = 2; next = 3 }
+blank = record { name = noName; alpha = physical 1; beta = physical 2; next = physical 3 }
 
 abbrev pub lentRecords : List Record
 lentRecords = replicate 3 blank
@@ -40,7 +40,7 @@ exampleCalls =
     ∷ []
 
 abbrev pub listedAs : List ℕ → ℕ → ℕ → ℕ → Record
-listedAs name alpha beta next = record { name = name; alpha = alpha; beta = beta; next = next }
+listedAs name alpha beta next = record { name = name; alpha = physical alpha; beta = physical beta; next = physical next }
 
 -- accepted, with what is lent at exit
 abbrev pub yields : Lent → Outcome

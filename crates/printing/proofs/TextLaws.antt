@@ -54,19 +54,19 @@ unfolding answerText
 answer-put a o o₁ o₂ at b r p q h = put-two o o₁ o₂ at b r (answerKey ++ decimal (a .number)) placeKey (decimal (a .place)) p q h
 
 pub record-put : (d : Record) (o o₁ o₂ o₃ o₄ o₅ o₆ : List ℕ) (at b₁ b₂ b₃ b₄ b₅ b₆ : ℕ) → Put o at nameKey b₁ o₁ → Put o₁ b₁ (nameText (d .name)) b₂ o₂
-    → Put o₂ b₂ (alphaKey ++ decimal (d .alpha)) b₃ o₃ → Put o₃ b₃ (betaKey ++ decimal (d .beta)) b₄ o₄ → Put o₄ b₄ (nextKey ++ decimal (d .next)) b₅ o₅ → Put o₅ b₅ lineFeed b₆ o₆
+    → Put o₂ b₂ (alphaKey ++ decimal (d .alpha .0)) b₃ o₃ → Put o₃ b₃ (betaKey ++ decimal (d .beta .0)) b₄ o₄ → Put o₄ b₄ (nextKey ++ decimal (d .next .0)) b₅ o₅ → Put o₅ b₅ lineFeed b₆ o₆
     → b₆ ≤ length o → Put o at (recordText d) b₆ o₆
 unfolding recordText
 record-put d o o₁ o₂ o₃ o₄ o₅ o₆ at b₁ b₂ b₃ b₄ b₅ b₆ p₁ p₂ p₃ p₄ p₅ p₆ h =
     let f₆ : b₆ ≡ b₅ + 1 = p₆ .0 in
-    let f₅ : b₅ ≡ b₄ + length (nextKey ++ decimal (d .next)) = p₅ .0 in
-    let f₄ : b₄ ≡ b₃ + length (betaKey ++ decimal (d .beta)) = p₄ .0 in
-    let f₃ : b₃ ≡ b₂ + length (alphaKey ++ decimal (d .alpha)) = p₃ .0 in
+    let f₅ : b₅ ≡ b₄ + length (nextKey ++ decimal (d .next .0)) = p₅ .0 in
+    let f₄ : b₄ ≡ b₃ + length (betaKey ++ decimal (d .beta .0)) = p₄ .0 in
+    let f₃ : b₃ ≡ b₂ + length (alphaKey ++ decimal (d .alpha .0)) = p₃ .0 in
     let q₂ = put-then o o₁ o₂ at b₁ b₂ nameKey (nameText (d .name)) p₁ p₂ (omega arith) in
-    let q₃ = put-two o o₂ o₃ at b₂ b₃ (nameKey ++ nameText (d .name)) alphaKey (decimal (d .alpha)) q₂ p₃ (omega arith) in
-    let q₄ = put-two o o₃ o₄ at b₃ b₄ (nameKey ++ nameText (d .name) ++ alphaKey ++ decimal (d .alpha)) betaKey (decimal (d .beta)) q₃ p₄ (omega arith) in
-    let q₅ = put-two o o₄ o₅ at b₄ b₅ (nameKey ++ nameText (d .name) ++ alphaKey ++ decimal (d .alpha) ++ betaKey ++ decimal (d .beta)) nextKey (decimal (d .next)) q₄ p₅ (omega arith) in
-    put-then o o₅ o₆ at b₅ b₆ (nameKey ++ nameText (d .name) ++ alphaKey ++ decimal (d .alpha) ++ betaKey ++ decimal (d .beta) ++ nextKey ++ decimal (d .next)) lineFeed q₅ p₆ h
+    let q₃ = put-two o o₂ o₃ at b₂ b₃ (nameKey ++ nameText (d .name)) alphaKey (decimal (d .alpha .0)) q₂ p₃ (omega arith) in
+    let q₄ = put-two o o₃ o₄ at b₃ b₄ (nameKey ++ nameText (d .name) ++ alphaKey ++ decimal (d .alpha .0)) betaKey (decimal (d .beta .0)) q₃ p₄ (omega arith) in
+    let q₅ = put-two o o₄ o₅ at b₄ b₅ (nameKey ++ nameText (d .name) ++ alphaKey ++ decimal (d .alpha .0) ++ betaKey ++ decimal (d .beta .0)) nextKey (decimal (d .next .0)) q₄ p₅ (omega arith) in
+    put-then o o₅ o₆ at b₅ b₆ (nameKey ++ nameText (d .name) ++ alphaKey ++ decimal (d .alpha .0) ++ betaKey ++ decimal (d .beta .0) ++ nextKey ++ decimal (d .next .0)) lineFeed q₅ p₆ h
 
 -- the text of the first i records. Shut, so that `_` and `rw` find its arguments
 unfoldable pub firstText : List Record → ℕ → List ℕ

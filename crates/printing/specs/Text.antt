@@ -76,7 +76,7 @@ byteText b = byteKey ++ decimal b
 
 -- a record of a listing, on a line of its own
 unfoldable pub recordText : Record → List ℕ
-recordText r = nameKey ++ nameText (r .name) ++ alphaKey ++ decimal (r .alpha) ++ betaKey ++ decimal (r .beta) ++ nextKey ++ decimal (r .next) ++ lineFeed
+recordText r = nameKey ++ nameText (r .name) ++ alphaKey ++ decimal (r .alpha .0) ++ betaKey ++ decimal (r .beta .0) ++ nextKey ++ decimal (r .next .0) ++ lineFeed
 
 unfoldable pub recordsText : List Record → List ℕ
 recordsText [] = []

@@ -102,9 +102,9 @@ fn put_record_text(out: &mut [u8], at: usize, r: Record) -> usize
     ensures { λ e. ⌜ e ≤ at + recordRoom ⌝ }
 {
     let name = r.name;
-    let alpha = r.alpha;
-    let beta = r.beta;
-    let link = r.next;
+    let alpha = r.alpha.0;
+    let beta = r.beta.0;
+    let link = r.next.0;
     let mut next = put_text(out, at, b"name=");
     next = put_name_text(out, next, name);
     next = put_field(out, next, b" alpha=", alpha);

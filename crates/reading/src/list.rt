@@ -69,9 +69,9 @@ pub fn record_of(card: &[u8], starts: &[u32], n: usize, k: usize) -> Record
     let next = chain::next_of(Physical(end), k, n);
     Record {
         name,
-        alpha: start,
-        beta: end,
-        next: next.0,
+        alpha: Physical(start),
+        beta: Physical(end),
+        next,
     }
 }
 
@@ -121,7 +121,7 @@ pub fn count_records(records: [Record; 64]) -> usize
     while i < 64 {
         let r = records[i];
         i += 1;
-        if r.next == 0 {
+        if r.next.0 == 0 {
             return i;
         }
     }

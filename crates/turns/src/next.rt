@@ -1,5 +1,6 @@
 // One turn of the sheet program: the next line, cut, run and printed.
 use crate::print;
+use blocks::numbers::Physical;
 use blocks::sizes::NAME_SIZE;
 use calls::answer::Record;
 use calls::list::SHEET_RECORDS;
@@ -21,9 +22,9 @@ pub fn no_records() -> [Record; SHEET_RECORDS]
 {
     let none = Record {
         name: [0u8; NAME_SIZE],
-        alpha: 0,
-        beta: 0,
-        next: 0,
+        alpha: Physical(0),
+        beta: Physical(0),
+        next: Physical(0),
     };
     [none; SHEET_RECORDS]
 }
