@@ -1,5 +1,8 @@
 -- Values of the definitions of the exported functions: what they compute is what is said.
 use mathlib.Core.Path.{refl}
+use Prim.Native.Nat.{suc}
+use native.Mathlib.Omega.{arith}
+use borrow.Author.Tests.{ne-eqb}
 use Rattle.blocks.specs.Bytes.{u32At, le32}
 use Rattle.blocks.specs.Name.{nameByte, nameLength, isText, padded}
 use Rattle.calls.proofs.Stepping.{stepping}
@@ -13,7 +16,7 @@ name-values = (refl, refl, refl)
 
 pub target-values : TargetValues
 unfolding TargetValues targetIn
-target-values = (refl, refl, refl)
+target-values = (refl, λ n. rw (ne-eqb (suc n) 0 (omega arith)))
 
 pub padded-values : PaddedValues
 unfolding PaddedValues padded isText nameLength nameByte

@@ -2,7 +2,7 @@
 -- listing of a card with three descriptors.
 use mathlib.Core.Path.{_≡_}
 use mathlib.Core.List.{List, [], _∷_, _++_}
-use Prim.Native.Nat.{ℕ}
+use Prim.Native.Nat.{ℕ, suc}
 use lib.ListN.{replicate}
 use Rattle.blocks.specs.Name.{noName, padded}
 use Rattle.blocks.specs.Descriptor.{tailSize, physical, descriptorBlock}
@@ -21,7 +21,7 @@ NameValues =
 
 -- 0 is the active store, any other number a snapshot.
 unfoldable pub TargetValues : Type 0
-TargetValues = (targetIn 0 ≡ Active) × (targetIn 1 ≡ Snapshot) × (targetIn 2 ≡ Snapshot)
+TargetValues = (targetIn 0 ≡ Active) × ((n : ℕ) → targetIn (suc n) ≡ Snapshot)
 
 -- A text of one letter and of sixteen is padded; no text, one of seventeen letters and one with a zero byte are no name.
 unfoldable pub PaddedValues : Type 0

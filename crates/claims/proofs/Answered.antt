@@ -16,6 +16,7 @@ use Rattle.calls.specs.Step.{Done, step, after, outcomes, isAccepted}
 use Rattle.calls.proofs.StepLaws.{step-answer, step-accepted}
 use Rattle.claims.specs.History.{Standing, isSnapOf, Position, Nowhere, At, latestFrom, latestSnap, formattable, formatted}
 use Rattle.claims.specs.Claims.{RevertedAt, FormatLedgerClaim, CheckClaim}
+use Rattle.claims.specs.Example.{yields}
 use Rattle.claims.proofs.CheckClaims.{check-claim}
 use Rattle.claims.proofs.LedgerRun.{format-ledger-claim}
 
@@ -60,22 +61,22 @@ pub latest-by : (name : List ℕ) (n : ℕ) (ks : List Call) (c : List ℕ) (sai
 unfolding latestSnap
 latest-by name n ks c said e = latest-from name n ks c 0 Nowhere ∙ ap (λ (xs : List Answer). latestBy name (take n ks) xs 0 Nowhere) e
 
--- the answers of an append
-answers-append : (xs ys : List Call) (c : List ℕ) → answers (xs ++ ys) c ≡ answers xs c ++ answers ys (after xs c)
+-- the outcomes of an append
+outcomes-append : (xs ys : List Call) (c : List ℕ) → outcomes (xs ++ ys) c ≡ outcomes xs c ++ outcomes ys (after xs c)
 unfolding outcomes after
-answers-append [] ys c = refl
-answers-append (k ∷ xs) ys c = ap (λ (said : List Answer). step k c .outcome .answer ∷ said) (answers-append xs ys (step k c .card))
+outcomes-append [] ys c = refl
+outcomes-append (k ∷ xs) ys c = ap (λ (os : List Outcome). step k c .outcome ∷ os) (outcomes-append xs ys (step k c .card))
 
 -- a check of a card that passes
-check-first : (c : List ℕ) → Passes c → (ys : List Call) → answers (Check ∷ ys) c ≡ accepted ∷ answers ys c
+check-first : (c : List ℕ) → Passes c → (ys : List Call) → outcomes (Check ∷ ys) c ≡ yields None ∷ outcomes ys c
 unfolding outcomes storeAll storesOf filledOf givenOf CheckClaim
 check-first c p ys =
-    ap (λ (d : Done). d .outcome .answer ∷ answers ys (d .card)) (sym (step-accepted Check c (check-claim c .1 p) None refl c refl refl))
+    ap (λ (d : Done). d .outcome ∷ outcomes ys (d .card)) (sym (step-accepted Check c (check-claim c .1 p) None refl c refl refl))
 
 -- a check after some calls that follow a format
 pub check-among : (area : List ℕ) (format : Format) → formattable area format ≡ true → (xs ys : List Call) → Standing (formatted area format) xs
-    → answers (xs ++ (Check ∷ ys)) (formatted area format) ≡ answers xs (formatted area format) ++ (accepted ∷ answers ys (after xs (formatted area format)))
+    → outcomes (xs ++ (Check ∷ ys)) (formatted area format) ≡ outcomes xs (formatted area format) ++ (yields None ∷ outcomes ys (after xs (formatted area format)))
 unfolding FormatLedgerClaim
 check-among area format can xs ys standing =
     let c = formatted area format in
-    answers-append xs (Check ∷ ys) c ∙ ap (λ (said : List Answer). answers xs c ++ said) (check-first (after xs c) (format-ledger-claim area format can xs standing .1) ys)
+    outcomes-append xs (Check ∷ ys) c ∙ ap (λ (os : List Outcome). outcomes xs c ++ os) (check-first (after xs c) (format-ledger-claim area format can xs standing .1) ys)

@@ -10,13 +10,13 @@ use lib.ListN.{length, take, drop, replicate}
 use Rattle.blocks.specs.Bytes.{blockSize}
 use Rattle.blocks.specs.Descriptor.{asFormat}
 use Rattle.blocks.specs.declared.descriptor.Format.{Format}
-use Rattle.calls.specs.Call.{Call, Outcome, accepted}
-use Rattle.calls.specs.Step.{after}
+use Rattle.calls.specs.Call.{Call, Outcome, None, accepted}
+use Rattle.calls.specs.Step.{after, outcomes}
 use Rattle.claims.specs.History.{Agree, AreBytes, Standing, none, more, isReam, isFormat, writtenBy, formattable, formatted, isSnapOf, Position, Nowhere, At, latestSnap, without}
 use Rattle.claims.specs.Claims.{Matched, RevertedAt, Demand3}
-use Rattle.claims.specs.Bench.{area, fs, mon}
-use Rattle.claims.specs.Example.{exampleCard, exampleCalls, exampleOutcomes}
-use Rattle.claims.specs.SecondExample.{secondCard, secondCalls, secondAnswers}
+use Rattle.claims.specs.Bench.{area, fs, mon, tue}
+use Rattle.claims.specs.Example.{exampleCard, exampleCalls, exampleOutcomes, yields}
+use Rattle.claims.specs.SecondExample.{secondCard, secondCalls, secondOutcomes, secondAnswers}
 use Rattle.claims.proofs.Running.{running}
 use Rattle.claims.proofs.Example.{example-layout-1, example-layout-2}
 use Rattle.claims.proofs.Runs.{standing-length, standing-take}
@@ -133,49 +133,77 @@ beforeCheck = take 2 secondCalls
 abbrev afterCheck : List Call
 afterCheck = drop 3 secondCalls
 
-computed-1 : answers beforeCheck (secondCard 1) ++ (accepted ∷ answers afterCheck (after beforeCheck (secondCard 1))) ≡ secondAnswers
-unfolding running secondCalls secondAnswers
+computed-1 : outcomes beforeCheck (secondCard 1) ++ (yields None ∷ outcomes afterCheck (after beforeCheck (secondCard 1))) ≡ secondOutcomes 5
+unfolding running secondCalls secondOutcomes
 computed-1 = refl
 
-computed-2 : answers beforeCheck (secondCard 2) ++ (accepted ∷ answers afterCheck (after beforeCheck (secondCard 2))) ≡ secondAnswers
-unfolding running secondCalls secondAnswers
+computed-2 : outcomes beforeCheck (secondCard 2) ++ (yields None ∷ outcomes afterCheck (after beforeCheck (secondCard 2))) ≡ secondOutcomes 4
+unfolding running secondCalls secondOutcomes
 computed-2 = refl
 
-module _ (layout : ℕ) (can : formattable (area 8) (asFormat layout 1 fs) ≡ true) (standing : Standing (secondCard layout) secondCalls)
-    (computed : answers beforeCheck (secondCard layout) ++ (accepted ∷ answers afterCheck (after beforeCheck (secondCard layout))) ≡ secondAnswers) where
-  second-said : answers secondCalls (secondCard layout) ≡ secondAnswers
+module _ (layout beta : ℕ) (can : formattable (area 8) (asFormat layout 1 fs) ≡ true) (standing : Standing (secondCard layout) secondCalls)
+    (computed : outcomes beforeCheck (secondCard layout) ++ (yields None ∷ outcomes afterCheck (after beforeCheck (secondCard layout))) ≡ secondOutcomes beta) where
+  second-whole : outcomes secondCalls (secondCard layout) ≡ secondOutcomes beta
   unfolding secondCalls
-  second-said = check-among (area 8) (asFormat layout 1 fs) can beforeCheck afterCheck (standing-take (secondCard layout) secondCalls 2 standing) ∙ computed
+  second-whole = check-among (area 8) (asFormat layout 1 fs) can beforeCheck afterCheck (standing-take (secondCard layout) secondCalls 2 standing) ∙ computed
+
+  second-said : answers secondCalls (secondCard layout) ≡ secondAnswers
+  unfolding secondOutcomes
+  second-said = ap (λ (os : List Outcome). map (λ (o : Outcome). o .answer) os) second-whole
 
   -- the revert to mon is accepted, and its visit's latest accepted snap is the first: the second is refused
   second-reverted : RevertedAt (secondCard layout) secondCalls 11 mon
-  unfolding secondCalls secondAnswers
+  unfolding secondCalls secondOutcomes
   second-reverted = reverted-by secondCalls (secondCard layout) secondAnswers second-said 11 mon (omega arith) refl refl
 
   second-latest : latestSnap mon (secondCard layout) (take 11 secondCalls) ≡ At 1
-  unfolding running secondCalls secondAnswers latestBy isSnapOf
+  unfolding running secondCalls secondOutcomes latestBy isSnapOf
   second-latest = latest-by mon 11 secondCalls (secondCard layout) secondAnswers second-said
+
+  -- and of the revert to tue at position 16 the second snap of tue, at position 14, which the first revert does not reach
+  last-reverted : RevertedAt (secondCard layout) secondCalls 16 tue
+  unfolding secondCalls secondOutcomes
+  last-reverted = reverted-by secondCalls (secondCard layout) secondAnswers second-said 16 tue (omega arith) refl refl
+
+  last-latest : latestSnap tue (secondCard layout) (take 16 secondCalls) ≡ At 14
+  unfolding running secondCalls secondOutcomes latestBy isSnapOf
+  last-latest = latest-by tue 16 secondCalls (secondCard layout) secondAnswers second-said
 
   -- demand 3 of the second list
   second-matched : Matched (secondCard layout) secondCalls 12 (without secondCalls 1 11) 1
   second-matched = matched 8 (asFormat layout 1 fs) can secondCalls standing 11 mon second-reverted 1 second-latest
 
-pub second-answers : (answers secondCalls (secondCard 1) ≡ secondAnswers) × (answers secondCalls (secondCard 2) ≡ secondAnswers)
-second-answers = (second-said 1 second-can-1 second-standing-1 computed-1, second-said 2 second-can-2 second-standing-2 computed-2)
+  -- of the revert at position 16
+  last-matched : Matched (secondCard layout) secondCalls 17 (without secondCalls 14 16) 14
+  last-matched = matched 8 (asFormat layout 1 fs) can secondCalls standing 16 tue last-reverted 14 last-latest
+
+pub second-outcomes : (outcomes secondCalls (secondCard 1) ≡ secondOutcomes 5) × (outcomes secondCalls (secondCard 2) ≡ secondOutcomes 4)
+second-outcomes = (second-whole 1 5 second-can-1 second-standing-1 computed-1, second-whole 2 4 second-can-2 second-standing-2 computed-2)
 
 pub second-reverted-1 : RevertedAt (secondCard 1) secondCalls 11 mon
-second-reverted-1 = second-reverted 1 second-can-1 second-standing-1 computed-1
+second-reverted-1 = second-reverted 1 5 second-can-1 second-standing-1 computed-1
 
 pub second-reverted-2 : RevertedAt (secondCard 2) secondCalls 11 mon
-second-reverted-2 = second-reverted 2 second-can-2 second-standing-2 computed-2
+second-reverted-2 = second-reverted 2 4 second-can-2 second-standing-2 computed-2
 
 pub second-forgotten-1 : Matched (secondCard 1) secondCalls 12 (without secondCalls 1 11) 1
-second-forgotten-1 = second-matched 1 second-can-1 second-standing-1 computed-1
+second-forgotten-1 = second-matched 1 5 second-can-1 second-standing-1 computed-1
 
 pub second-forgotten-2 : Matched (secondCard 2) secondCalls 12 (without secondCalls 1 11) 1
-second-forgotten-2 = second-matched 2 second-can-2 second-standing-2 computed-2
+second-forgotten-2 = second-matched 2 4 second-can-2 second-standing-2 computed-2
 
--- after the last call of the list the two cards agree
+pub last-forgotten-1 : Matched (secondCard 1) secondCalls 17 (without secondCalls 14 16) 14
+last-forgotten-1 = last-matched 1 5 second-can-1 second-standing-1 computed-1
+
+pub last-forgotten-2 : Matched (secondCard 2) secondCalls 17 (without secondCalls 14 16) 14
+last-forgotten-2 = last-matched 2 4 second-can-2 second-standing-2 computed-2
+
+-- right after the revert to mon, and after the last call of the list, the two cards agree
+second-after : (layout : ℕ) → Matched (secondCard layout) secondCalls 12 (without secondCalls 1 11) 1
+    → Agree (after (take 12 secondCalls) (secondCard layout)) (after (take 1 secondCalls) (secondCard layout))
+unfolding secondCalls without
+second-after layout m = m .agree 0 (omega arith)
+
 second-end : (layout : ℕ) → Matched (secondCard layout) secondCalls 12 (without secondCalls 1 11) 1
     → Agree (after secondCalls (secondCard layout)) (after (without secondCalls 1 11) (secondCard layout))
 unfolding secondCalls without
@@ -186,3 +214,9 @@ second-end-1 = second-end 1 second-forgotten-1
 
 pub second-end-2 : Agree (after secondCalls (secondCard 2)) (after (without secondCalls 1 11) (secondCard 2))
 second-end-2 = second-end 2 second-forgotten-2
+
+pub second-after-1 : Agree (after (take 12 secondCalls) (secondCard 1)) (after (take 1 secondCalls) (secondCard 1))
+second-after-1 = second-after 1 second-forgotten-1
+
+pub second-after-2 : Agree (after (take 12 secondCalls) (secondCard 2)) (after (take 1 secondCalls) (secondCard 2))
+second-after-2 = second-after 2 second-forgotten-2

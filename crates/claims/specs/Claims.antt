@@ -28,7 +28,7 @@ use Rattle.calls.specs.Meaning.{rowsOf, answerOf}
 use Rattle.claims.specs.Algorithms.{closeRegion, algorithm1, algorithm2, algorithm3, algorithm4, algorithm5, algorithm6}
 use Rattle.calls.specs.Step.{step, after, outcomes, isAccepted}
 use Rattle.claims.specs.Kinds.{Kind, Formats, Leaves, Writes, Snaps, Reverts, kindOf}
-use Rattle.claims.specs.History.{betaOf, Agree, isReam, isFormat, AreBytes, Standing, isSnapOf, Position, Nowhere, At, latestSnap, without, formattable, formatted}
+use Rattle.claims.specs.History.{betaOf, Agree, isReam, isFormat, AreBytes, writtenBy, Standing, isSnapOf, Position, Nowhere, At, latestSnap, without, formattable, formatted}
 use Rattle.claims.specs.Ledger.{Ledger, ledgerStep, ledgerNumber, cellRead, ledgerNames, ledgerOf}
 use Rattle.blocks.specs.declared.descriptor.Format.{Format}
 
@@ -134,26 +134,26 @@ FrameClaim =
     × (storesNothing k ≡ true → step k c .card ≡ c)
     × (fills k ≡ false → step k c .outcome .lent ≡ lentAtEntry k)
 
--- What the definitions by kind say of each call by its name, on a card c, so that none of them can be narrowed: a read, a listing and a check alter no
--- byte of the card; a ream, a write, a snap, a revert and a check alter nothing that is lent; "A write takes at most two blocks; a snap takes c", and no
--- other call takes a block; a ream, and it alone, is a format.
-pub record ByName (c : List ℕ) : Type 0 where
+-- What the definitions by kind say of each call by its name, on a card c: which calls alter no byte of the card, which alter nothing that is lent, the
+-- blocks that each takes ("A write takes at most two blocks; a snap takes c"), the bytes that it is lent to write, whether it is a format, and whether it is
+-- a snap of the visit v. Other claims have these as hypotheses, and would say less if one were narrowed.
+pub record ByName (c v : List ℕ) : Type 0 where
   pub ream : (format : Format) → let k = Ream format in
-      (step k c .outcome .lent ≡ None) × (blocksNeeded k c ≡ 0) × (isReam k ≡ true)
+      (step k c .outcome .lent ≡ None) × (blocksNeeded k c ≡ 0) × (writtenBy k ≡ []) × (isReam k ≡ true) × (isSnapOf v k ≡ false)
   pub read : (target : Target) (name : List ℕ) (l : ℕ) (block : List ℕ) → let k = Read target name l block in
-      (step k c .card ≡ c) × (blocksNeeded k c ≡ 0) × (isReam k ≡ false)
+      (step k c .card ≡ c) × (blocksNeeded k c ≡ 0) × (writtenBy k ≡ []) × (isReam k ≡ false) × (isSnapOf v k ≡ false)
   pub write : (l : ℕ) (block : List ℕ) → let k = Write l block in
-      (step k c .outcome .lent ≡ Block block) × (blocksNeeded k c ≤ 2) × (isReam k ≡ false)
+      (step k c .outcome .lent ≡ Block block) × (blocksNeeded k c ≤ 2) × (writtenBy k ≡ block) × (isReam k ≡ false) × (isSnapOf v k ≡ false)
   pub snap : (name : List ℕ) → let k = Snap name in
-      (step k c .outcome .lent ≡ None) × (blocksNeeded k c ≡ costOf (activeOf (descriptorsOf c))) × (isReam k ≡ false)
+      (step k c .outcome .lent ≡ None) × (blocksNeeded k c ≡ costOf (activeOf (descriptorsOf c))) × (writtenBy k ≡ []) × (isReam k ≡ false) × (isSnapOf v k ≡ same name v)
   pub revert : (name : List ℕ) → let k = Revert name in
-      (step k c .outcome .lent ≡ None) × (blocksNeeded k c ≡ 0) × (isReam k ≡ false)
+      (step k c .outcome .lent ≡ None) × (blocksNeeded k c ≡ 0) × (writtenBy k ≡ []) × (isReam k ≡ false) × (isSnapOf v k ≡ false)
   pub list : (records : List Record) → let k = Listing records in
-      (step k c .card ≡ c) × (blocksNeeded k c ≡ 0) × (isReam k ≡ false)
-  pub check : (step Check c .card ≡ c) × (step Check c .outcome .lent ≡ None) × (blocksNeeded Check c ≡ 0) × (isReam Check ≡ false)
+      (step k c .card ≡ c) × (blocksNeeded k c ≡ 0) × (writtenBy k ≡ []) × (isReam k ≡ false) × (isSnapOf v k ≡ false)
+  pub check : (step Check c .card ≡ c) × (step Check c .outcome .lent ≡ None) × (blocksNeeded Check c ≡ 0) × (writtenBy Check ≡ []) × (isReam Check ≡ false) × (isSnapOf v Check ≡ false)
 
 unfoldable pub ByNameClaim : Type 0
-ByNameClaim = (c : List ℕ) → ByName c
+ByNameClaim = (c v : List ℕ) → ByName c v
 
 -- An accepted listing gives each descriptor's own name, alpha, beta and next, and leaves the records after them.
 unfoldable pub ListClaim : Type 0

@@ -25,6 +25,10 @@ readLine = 111 ∷ 112 ∷ 61 ∷ 114 ∷ 101 ∷ 97 ∷ 100 ∷ 32 ∷ 102 ∷ 
 abbrev readActiveLine : List ℕ
 readActiveLine = 111 ∷ 112 ∷ 61 ∷ 114 ∷ 101 ∷ 97 ∷ 100 ∷ 32 ∷ 102 ∷ 114 ∷ 111 ∷ 109 ∷ 61 ∷ 42 ∷ 32 ∷ 98 ∷ 108 ∷ 111 ∷ 99 ∷ 107 ∷ 61 ∷ 54 ∷ 53 ∷ 53 ∷ 51 ∷ 53 ∷ []
 
+-- `op=read from=*x block=5`
+abbrev readStarLine : List ℕ
+readStarLine = 111 ∷ 112 ∷ 61 ∷ 114 ∷ 101 ∷ 97 ∷ 100 ∷ 32 ∷ 102 ∷ 114 ∷ 111 ∷ 109 ∷ 61 ∷ 42 ∷ 120 ∷ 32 ∷ 98 ∷ 108 ∷ 111 ∷ 99 ∷ 107 ∷ 61 ∷ 53 ∷ []
+
 -- `op=snap name=mon`
 abbrev snapLine : List ℕ
 snapLine = 111 ∷ 112 ∷ 61 ∷ 115 ∷ 110 ∷ 97 ∷ 112 ∷ 32 ∷ 110 ∷ 97 ∷ 109 ∷ 101 ∷ 61 ∷ 109 ∷ 111 ∷ 110 ∷ []
@@ -69,6 +73,7 @@ pub forms :
     × (lineOf writeLine ≡ lineWith (Write (logical 5) 7) noName)
     × (lineOf readLine ≡ lineWith (Read Snapshot (logical 5)) mon)
     × (lineOf readActiveLine ≡ lineWith (Read Active (logical 65535)) noName)
+    × (lineOf readStarLine ≡ lineWith (Read Snapshot (logical 5)) noName)
     × (lineOf snapLine ≡ lineWith Snap mon)
     × (lineOf revertLine ≡ lineWith Revert mon)
     × (lineOf listLine ≡ lineWith Listing noName)
@@ -77,7 +82,7 @@ pub forms :
     × (lineOf zeroByteLine ≡ lineWith Snap noName)
     × (lineOf longest ≡ lineWith Snap noName)
 unfolding lineOf wordsOf withByte lineOfWords lineOfOne lineOfTwo lineOfThree lineOfWrite lineOfRead lineOfFive readFrom same hasKey hasNumber numberOf isNumber allDigits isDigit digitsFrom padded isText nameLength nameByte
-forms = (refl, refl, refl, refl, refl, refl, refl, refl, refl, refl, refl)
+forms = (refl, refl, refl, refl, refl, refl, refl, refl, refl, refl, refl, refl)
 
 -- two spaces: `op=snap  name=mon`
 abbrev doubleSpace : List ℕ
@@ -135,6 +140,42 @@ carriageReturn = 111 ∷ 112 ∷ 61 ∷ 108 ∷ 105 ∷ 115 ∷ 116 ∷ 13 ∷ [
 abbrev onePairMore : List ℕ
 onePairMore = 111 ∷ 112 ∷ 61 ∷ 108 ∷ 105 ∷ 115 ∷ 116 ∷ 32 ∷ 110 ∷ 97 ∷ 109 ∷ 101 ∷ 61 ∷ 109 ∷ 111 ∷ 110 ∷ []
 
+-- two zeros: `op=write block=00 fill=7`
+abbrev twoZeros : List ℕ
+twoZeros = 111 ∷ 112 ∷ 61 ∷ 119 ∷ 114 ∷ 105 ∷ 116 ∷ 101 ∷ 32 ∷ 98 ∷ 108 ∷ 111 ∷ 99 ∷ 107 ∷ 61 ∷ 48 ∷ 48 ∷ 32 ∷ 102 ∷ 105 ∷ 108 ∷ 108 ∷ 61 ∷ 55 ∷ []
+
+-- the byte before `0`: `op=write block=/ fill=7`
+abbrev belowDigits : List ℕ
+belowDigits = 111 ∷ 112 ∷ 61 ∷ 119 ∷ 114 ∷ 105 ∷ 116 ∷ 101 ∷ 32 ∷ 98 ∷ 108 ∷ 111 ∷ 99 ∷ 107 ∷ 61 ∷ 47 ∷ 32 ∷ 102 ∷ 105 ∷ 108 ∷ 108 ∷ 61 ∷ 55 ∷ []
+
+-- the byte after `9`: `op=write block=: fill=7`
+abbrev aboveDigits : List ℕ
+aboveDigits = 111 ∷ 112 ∷ 61 ∷ 119 ∷ 114 ∷ 105 ∷ 116 ∷ 101 ∷ 32 ∷ 98 ∷ 108 ∷ 111 ∷ 99 ∷ 107 ∷ 61 ∷ 58 ∷ 32 ∷ 102 ∷ 105 ∷ 108 ∷ 108 ∷ 61 ∷ 55 ∷ []
+
+-- a fill without digits: `op=write block=5 fill=`
+abbrev noFill : List ℕ
+noFill = 111 ∷ 112 ∷ 61 ∷ 119 ∷ 114 ∷ 105 ∷ 116 ∷ 101 ∷ 32 ∷ 98 ∷ 108 ∷ 111 ∷ 99 ∷ 107 ∷ 61 ∷ 53 ∷ 32 ∷ 102 ∷ 105 ∷ 108 ∷ 108 ∷ 61 ∷ []
+
+-- a layout that is no number: `op=ream layout=x blocks=16 volume=200 name=fs`
+abbrev layoutX : List ℕ
+layoutX = 111 ∷ 112 ∷ 61 ∷ 114 ∷ 101 ∷ 97 ∷ 109 ∷ 32 ∷ 108 ∷ 97 ∷ 121 ∷ 111 ∷ 117 ∷ 116 ∷ 61 ∷ 120 ∷ 32 ∷ 98 ∷ 108 ∷ 111 ∷ 99 ∷ 107 ∷ 115 ∷ 61 ∷ 49 ∷ 54 ∷ 32 ∷ 118 ∷ 111 ∷ 108 ∷ 117 ∷ 109 ∷ 101 ∷ 61 ∷ 50 ∷ 48 ∷ 48 ∷ 32 ∷ 110 ∷ 97 ∷ 109 ∷ 101 ∷ 61 ∷ 102 ∷ 115 ∷ []
+
+-- a volume with a leading zero: `op=ream layout=2 blocks=16 volume=0200 name=fs`
+abbrev volumeZero : List ℕ
+volumeZero = 111 ∷ 112 ∷ 61 ∷ 114 ∷ 101 ∷ 97 ∷ 109 ∷ 32 ∷ 108 ∷ 97 ∷ 121 ∷ 111 ∷ 117 ∷ 116 ∷ 61 ∷ 50 ∷ 32 ∷ 98 ∷ 108 ∷ 111 ∷ 99 ∷ 107 ∷ 115 ∷ 61 ∷ 49 ∷ 54 ∷ 32 ∷ 118 ∷ 111 ∷ 108 ∷ 117 ∷ 109 ∷ 101 ∷ 61 ∷ 48 ∷ 50 ∷ 48 ∷ 48 ∷ 32 ∷ 110 ∷ 97 ∷ 109 ∷ 101 ∷ 61 ∷ 102 ∷ 115 ∷ []
+
+-- a sixth pair: `op=ream layout=2 blocks=16 volume=200 name=fs name=fs`
+abbrev sixthPair : List ℕ
+sixthPair = 111 ∷ 112 ∷ 61 ∷ 114 ∷ 101 ∷ 97 ∷ 109 ∷ 32 ∷ 108 ∷ 97 ∷ 121 ∷ 111 ∷ 117 ∷ 116 ∷ 61 ∷ 50 ∷ 32 ∷ 98 ∷ 108 ∷ 111 ∷ 99 ∷ 107 ∷ 115 ∷ 61 ∷ 49 ∷ 54 ∷ 32 ∷ 118 ∷ 111 ∷ 108 ∷ 117 ∷ 109 ∷ 101 ∷ 61 ∷ 50 ∷ 48 ∷ 48 ∷ 32 ∷ 110 ∷ 97 ∷ 109 ∷ 101 ∷ 61 ∷ 102 ∷ 115 ∷ 32 ∷ 110 ∷ 97 ∷ 109 ∷ 101 ∷ 61 ∷ 102 ∷ 115 ∷ []
+
+-- a word that is longer by a letter: `op=checks`
+abbrev checks : List ℕ
+checks = 111 ∷ 112 ∷ 61 ∷ 99 ∷ 104 ∷ 101 ∷ 99 ∷ 107 ∷ 115 ∷ []
+
+-- the same before a pair: `op=snaps name=mon`
+abbrev snaps : List ℕ
+snaps = 111 ∷ 112 ∷ 61 ∷ 115 ∷ 110 ∷ 97 ∷ 112 ∷ 115 ∷ 32 ∷ 110 ∷ 97 ∷ 109 ∷ 101 ∷ 61 ∷ 109 ∷ 111 ∷ 110 ∷ []
+
 -- a line with no bytes
 abbrev empty : List ℕ
 empty = []
@@ -155,7 +196,16 @@ pub no-forms :
     × (lineOf upperCase ≡ malformed)
     × (lineOf carriageReturn ≡ malformed)
     × (lineOf onePairMore ≡ malformed)
+    × (lineOf twoZeros ≡ malformed)
+    × (lineOf belowDigits ≡ malformed)
+    × (lineOf aboveDigits ≡ malformed)
+    × (lineOf noFill ≡ malformed)
+    × (lineOf layoutX ≡ malformed)
+    × (lineOf volumeZero ≡ malformed)
+    × (lineOf sixthPair ≡ malformed)
+    × (lineOf checks ≡ malformed)
+    × (lineOf snaps ≡ malformed)
     × (lineOf empty ≡ malformed)
     × (lineOf tooLong ≡ malformed)
 unfolding lineOf wordsOf withByte lineOfWords lineOfOne lineOfTwo lineOfThree lineOfWrite lineOfRead lineOfFive readFrom same hasKey hasNumber numberOf isNumber allDigits isDigit digitsFrom padded isText nameLength nameByte
-no-forms = (refl, refl, refl, refl, refl, refl, refl, refl, refl, refl, refl, refl, refl, refl, refl, refl)
+no-forms = (refl, refl, refl, refl, refl, refl, refl, refl, refl, refl, refl, refl, refl, refl, refl, refl, refl, refl, refl, refl, refl, refl, refl, refl, refl)

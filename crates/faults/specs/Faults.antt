@@ -26,8 +26,9 @@ entryEdges =
     ∷ only (four 1 3 1 0 2) Check 10 1
     ∷ showingBlock (withPhi (descriptor 2 1 0 2 0 fs) 0 1 ++ zeroBlock) (reading 0) zeroBlock
     ∷ only (withPhi (descriptor 2 1 0 2 0 fs) 0 1 ++ zeroBlock) Check 10 0
-    -- Phi's entry names its own descriptor, and a table's entry does; a layout 1 entry names the table block
-    ∷ only (snapped 1 3) (reading 0) 10 1
+    -- Phi's entry names its own descriptor, whose next, as an entry of logical block 5, would be nil; a table's entry names it; a layout 1 entry names the
+    -- table block
+    ∷ only (after2 6 1 0 3 0) (reading 5) 10 1
     ∷ only (snapped 2 1) (reading 0) 10 2
     ∷ only (plain 1) (reading 0) 10 1
     -- a data entry above alpha in a table block below it: charged to the table block by check, and overwritten by a write
@@ -111,7 +112,7 @@ faultEdges =
     -- an entry that names the snapshot's table block; of two faults, that of the earlier descriptor
     ∷ only (pair 2 1) Check 10 4
     ∷ only (pair 3 1) Check 10 1
-    -- an entry of Phi in a later descriptor: it names an earlier descriptor, and its own
+    -- an entry of Phi in a later descriptor: it names an earlier descriptor, and its own, whose mark would be an entry at fault in the same block
     ∷ only (threeSnapshots 1 0) Check 10 2
     ∷ only (snapped 1 3) Check 10 1
     ∷ []
