@@ -1,8 +1,12 @@
 -- Whole cards after a call: what the definitions compute is what the tables say.
 use mathlib.Core.Path.{_≡_, refl}
 use mathlib.Core.List.{map}
-use Rattle.cards.specs.Cards.{NumberBytes, DescriptorBytes, counting, said, left, writes1, writes2, snaps, reverts}
+use native.Mathlib.Omega.{arith}
+use lib.ListN.{getD}
+use Rattle.calls.specs.Step.{Done}
+use Rattle.cards.specs.Cards.{NumberBytes, DescriptorBytes, counting, said, left, writes1, writes2, snaps, reverts, WrongCards}
 use Rattle.claims.specs.Claims.{lentAtEntry}
+use Rattle.claims.proofs.Bench.{apart}
 use Rattle.claims.proofs.Running.{running}
 
 pub number-bytes : NumberBytes
@@ -28,3 +32,10 @@ snaps-leave = refl
 pub reverts-leave : map left reverts ≡ map said reverts
 unfolding running reverts counting said left lentAtEntry
 reverts-leave = refl
+
+pub wrong-cards : WrongCards
+unfolding running WrongCards counting said left lentAtEntry
+wrong-cards = (
+  apart (λ (d : Done). d .outcome .answer .number) 11 0 (λ e. omega arith) _ _ refl refl,
+  apart (λ (d : Done). getD (d .card) 528 0) 2 3 (λ e. omega arith) _ _ refl refl,
+)

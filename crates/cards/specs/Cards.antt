@@ -148,3 +148,11 @@ reverts =
     (Revert tue)
     (fullPhi (descriptor 2 130 0 3 3 mon) 1 0 10 ++ table 2 0 ++ counted 2 ++ fullPhi (descriptor 2 130 3 5 0 fs) 1 0 20 ++ counted 4 ++ fullPhi (descriptor 2 130 5 6 0 fs) 1 0 30 ++ lent)
     ∷ []
+
+-- The tables tell wrong from right: a call that is refused, and a card with one wrong byte, are not what is left.
+unfoldable pub WrongCards : Type 0
+WrongCards =
+    (left (change (bare (descriptor 2 1 0 2 0 fs) ++ counted 1) (Snap mon) (bare (descriptor 2 1 0 2 0 fs) ++ counted 1))
+    ≡ said (change (bare (descriptor 2 1 0 2 0 fs) ++ counted 1) (Snap mon) (bare (descriptor 2 1 0 2 0 fs) ++ counted 1)) → ⊥)
+    × (left (change (bare (descriptor 2 1 0 1 0 fs) ++ counted 1) (Snap mon) (bare (descriptor 2 1 0 1 1 mon) ++ bare (descriptor 2 1 1 3 0 fs)))
+    ≡ said (change (bare (descriptor 2 1 0 1 0 fs) ++ counted 1) (Snap mon) (bare (descriptor 2 1 0 1 1 mon) ++ bare (descriptor 2 1 1 3 0 fs))) → ⊥)

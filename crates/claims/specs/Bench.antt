@@ -1,7 +1,8 @@
 -- The thirteen marked bench values of 01 as one table. Writes are of fill 1; the old bytes of every area are sevens.
+use mathlib.Core.Path.{_≡_}
 use mathlib.Core.List.{List, [], _∷_}
 use Prim.Native.Nat.{ℕ, _*_}
-use lib.ListN.{replicate}
+use lib.ListN.{replicate, set}
 use Rattle.blocks.specs.Bytes.{blockSize, zeroBlock}
 use Rattle.blocks.specs.Name.{padded, noName}
 use Rattle.calls.specs.declared.answer.Answer.{Answer}
@@ -102,3 +103,16 @@ values =
     -- two blocks of zeros, list: 6, place 0
     ∷ record { card = replicate 1024 0; call = Listing []; answer = answer 6 0; shown = Only }
     ∷ []
+
+-- The table tells wrong from right: a value that is off in its number, its place, its beta, a byte of the block that was read, or a byte of the block that a
+-- refused read leaves, is not what is computed.
+abbrev pub Differs : Value → Type 0
+Differs v = computed v ≡ expected v → ⊥
+
+unfoldable pub WrongValues : Type 0
+WrongValues =
+    Differs (record { card = area 3; call = Ream (asFormat 1 129 fs); answer = answer 5 0; shown = Only })
+    × Differs (record { card = area 3; call = Ream (asFormat 1 129 fs); answer = answer 0 1; shown = Only })
+    × Differs (record { card = area 3; call = Ream (asFormat 1 129 fs); answer = answer 0 0; shown = Beta 4 })
+    × Differs (record { card = small1; call = Read Active noName 128 lent; answer = answer 0 0; shown = Bytes (set zeroBlock 511 1) })
+    × Differs (record { card = small1; call = Read Active noName 129 lent; answer = answer 8 0; shown = Bytes (set lent 511 0) })

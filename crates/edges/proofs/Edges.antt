@@ -11,8 +11,10 @@ use Rattle.calls.specs.Parts.{areaBad}
 use Rattle.calls.specs.Ladder.{admission, firstRow, reamRows}
 use Rattle.calls.specs.Meaning.{meaningOf, rowsOf, answerOf}
 use Rattle.calls.proofs.RowLaws.{not-admitted, admission-1}
-use Rattle.claims.specs.Bench.{expected, computed}
-use Rattle.edges.specs.Edges.{areaEdges, refusedEdges, nameEdges, formEdges, chainEdges, roomEdges, orderEdges, edges, allowed, NameBytes, SizeEdges}
+use Rattle.claims.specs.Bench.{Result, expected, computed, showing, blockOf}
+use Rattle.claims.proofs.Bench.{apart, betaIn, lastByteIn}
+use Rattle.claims.proofs.Running.{running}
+use Rattle.edges.specs.Edges.{areaEdges, refusedEdges, nameEdges, formEdges, chainEdges, roomEdges, orderEdges, edges, allowed, WrongEdges, NameBytes, SizeEdges}
 use Rattle.samples.proofs.FastCheck.{runningOnce}
 use Rattle.samples.proofs.AsSaid.{AsSaid, _and_, quickly}
 use Rattle.blocks.specs.Descriptor.{asFormat}
@@ -58,6 +60,16 @@ whole =
 
 pub edge-values : map computed edges ≡ map expected edges
 edge-values = whole .as-said
+
+pub wrong-edges : WrongEdges
+unfolding running WrongEdges expected computed showing blockOf betaIn lastByteIn
+wrong-edges = (
+  apart (λ (r : Result). r .answer .number) 14 6 (λ e. omega arith) _ _ refl refl,
+  apart (λ (r : Result). r .answer .place) 1 0 (λ e. omega arith) _ _ refl refl,
+  apart (λ (r : Result). betaIn (r .shown)) 2 1 (λ e. omega arith) _ _ refl refl,
+  apart (λ (r : Result). lastByteIn (r .shown)) 0 1 (λ e. omega arith) _ _ refl refl,
+  apart (λ (r : Result). lastByteIn (r .shown)) 9 0 (λ e. omega arith) _ _ refl refl,
+)
 
 pub name-bytes : NameBytes
 unfolding runningOnce allowed NameBytes

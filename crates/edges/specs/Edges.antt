@@ -12,7 +12,7 @@ use Rattle.blocks.specs.Descriptor.{asFormat}
 use Rattle.calls.specs.declared.answer.Target.the-variants.{Active, Snapshot}
 use Rattle.calls.specs.Call.{Call, Ream, Read, Write, Snap, Revert, Listing, Check, answer}
 use Rattle.calls.specs.Meaning.{answerOf}
-use Rattle.claims.specs.Bench.{Value, area, ones, fs, mon, tue, lent}
+use Rattle.claims.specs.Bench.{Value, Differs, area, ones, fs, mon, tue, lent}
 use Rattle.claims.specs.Example.{blank}
 use Rattle.samples.specs.Samples.{descriptor, bare, withTailByte, table, literal, snapText, oneByte, long, wed, oneBlock, first, one, two, twoNames, second1, second2, apart1, apart2, later, tabled, three, four, empty, threeSnapshots, reading, readingFrom, only, showingBeta, showingBlock, refusing}
 
@@ -290,3 +290,12 @@ SizeEdges =
     (c : List ℕ)
     → (length c ≡ 512 * 65536 → (volume : ℕ) (name : List ℕ) → answerOf (Ream (asFormat 3 volume name)) c ≡ answer 2 0)
     × (length c ≡ 512 * 65537 → (k : Call) → answerOf k c ≡ answer 1 0)
+
+-- The table tells wrong from right, in each of the ways that its rows are written: a wrong number, place, beta, block read and block left.
+unfoldable pub WrongEdges : Type 0
+WrongEdges =
+    Differs (only (one 2 0) (Listing []) 6 0)
+    × Differs (only (two 2 1 1 4 fs) (Listing []) 6 0)
+    × Differs (showingBeta (one 1 0) (Snap mon) 1)
+    × Differs (showingBlock (one 2 0) (reading 0) (set zeroBlock 511 1))
+    × Differs (refusing (one 2 0) (reading 1) 8 0 zeroBlock)

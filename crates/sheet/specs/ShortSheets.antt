@@ -1,4 +1,5 @@
 -- Short sheets at the edges of 01's rules of the sheet, and what each prints, worked out from 01.
+use mathlib.Core.Path.{_≡_}
 use mathlib.Core.List.{List, [], _∷_, _++_}
 use Prim.Native.Nat.{ℕ}
 use lib.ListN.{replicate}
@@ -248,3 +249,7 @@ shortSheets =
       prints = accepted ++ refused7 ++ refused7 ++ refused8 ++ byte0 ++ refused12 ++ refused7 ++ accepted ++ accepted ++ accepted ++ monTo1 ++ fsTo2 ++ accepted ++ accepted ++ fsTo1 ++ refused8 ++ malformed14;
     }
     ∷ []
+
+-- The table tells wrong from right: a list on zero blocks is not accepted.
+unfoldable pub WrongSheet : Type 0
+WrongSheet = computed (record { sheet = listLine; prints = accepted }) ≡ expected (record { sheet = listLine; prints = accepted }) → ⊥
