@@ -1,6 +1,5 @@
 // A line of the work sheet: what it asks for, and where the next one starts.
 use blocks::bytes;
-use blocks::name;
 use blocks::numbers::Logical;
 use blocks::sizes::NAME_SIZE;
 use calls::answer::Target;
@@ -12,6 +11,7 @@ use cutter::line::SheetCall;
 use cutter::number;
 use cutter::number::Number;
 use cutter::word;
+use names::name;
 ghost use mathlib.Core.Path.{_≡_};
 ghost use Prim.Native.Nat.{_≤_, _<_};
 ghost use lib.ListN.{length};

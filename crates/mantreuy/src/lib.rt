@@ -2,13 +2,13 @@
 // Each call returns the number of its answer and stores the place; its contract is one equation, by the calls' `step`, the listing's by `listingOf`.
 use blocks::descriptor;
 use blocks::descriptor::Format;
-use blocks::name;
 use blocks::numbers::Logical;
 use blocks::sizes::NAME_SIZE;
 use boundary::argument;
 use boundary::record;
 use boundary::record::RECORD_SIZE;
 use checking::check;
+use names::name;
 use reading::list;
 use reading::read;
 use storing::ream;

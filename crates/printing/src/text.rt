@@ -1,10 +1,10 @@
 // Text put into a lent area: each function writes from index `at` and returns the index after what it wrote.
 use blocks::bytes;
-use blocks::name;
 use blocks::sizes::NAME_SIZE;
 use calls::answer::Answer;
 use calls::answer::Record;
 use calls::list::SHEET_RECORDS;
+use names::name;
 ghost use mathlib.Core.Path.{_≡_};
 ghost use mathlib.Core.List.{_∷_, [], _++_};
 ghost use Prim.Native.Nat.{_+_, _*_, _≤_, _<_};

@@ -2,7 +2,6 @@
 use admitting::area;
 use blocks::bytes;
 use blocks::descriptor::Descriptor;
-use blocks::name;
 use blocks::numbers::Logical;
 use blocks::numbers::Physical;
 use blocks::sizes::BLOCK_SIZE;
@@ -12,6 +11,7 @@ use calls::answer::Answer;
 use calls::answer::Target;
 use entries::find::Found;
 use finding::find;
+use names::name;
 use walking::chain;
 ghost use mathlib.Core.Path.{_≡_};
 ghost use mathlib.Core.Bool.{_&&_, not};

@@ -2,11 +2,11 @@
 use admitting::area;
 use blocks::descriptor;
 use blocks::descriptor::Descriptor;
-use blocks::name;
 use blocks::numbers::Physical;
 use blocks::sizes::NAME_SIZE;
 use calls::answer;
 use calls::answer::Answer;
+use names::name;
 use walking::chain;
 ghost use mathlib.Core.Path.{_≡_};
 ghost use Prim.Native.Nat.{_+_, _*_, _≤_};

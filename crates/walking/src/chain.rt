@@ -2,7 +2,6 @@
 use blocks::bytes;
 use blocks::descriptor;
 use blocks::descriptor::Descriptor;
-use blocks::name;
 use blocks::numbers::Physical;
 use blocks::sizes::BLOCK_SIZE;
 use blocks::sizes::HEAD_SIZE;
@@ -13,6 +12,7 @@ use blocks::sizes::NAME_START;
 use blocks::sizes::PHI_START;
 use blocks::sizes::STARTS_SIZE;
 use chains::chain::Regions;
+use names::name;
 ghost use mathlib.Core.Path.{_≡_};
 ghost use mathlib.Core.Bool.{true, _&&_};
 ghost use mathlib.Core.List.{[], _∷_};

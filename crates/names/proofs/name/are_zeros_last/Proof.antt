@@ -4,10 +4,10 @@ use mathlib.Core.Bool.{_&&_}
 use Prim.Native.Nat.{_≤_, _-_}
 use native.Mathlib.Omega.{arith}
 use borrow.Author.Needs.{needs}
 use Rattle.blocks.specs.Name.{zerosLast}
 use Rattle.blocks.proofs.ListLaws.{zerosLastFrom, zeros-last-start, zeros-last-next, zeros-last-last}
-use Rattle.blocks.proofs.name.are_zeros_last.Statement.{statement}
-use Rattle.blocks.proofs.name.are_zeros_last.Tie as tie
+use Rattle.names.proofs.name.are_zeros_last.Statement.{statement}
+use Rattle.names.proofs.name.are_zeros_last.Tie as tie
 
 abbrev Inv-loop : tie.InvT-loop
 Inv-loop bytes good₀ i₀ good i = (i ≤ 15) × (zerosLast bytes ≡ (good && zerosLastFrom bytes i))

@@ -1,8 +1,8 @@
 -- `pad_name` meets its contract, by its tests.
 use Rattle.blocks.proofs.NameLaws.{padded-empty, padded-long, padded-other, padded-text}
 use borrow.Author.Needs.{needs}
-use Rattle.blocks.proofs.name.pad_name.Statement.{statement}
-use Rattle.blocks.proofs.name.pad_name.Tie as tie
+use Rattle.names.proofs.name.pad_name.Statement.{statement}
+use Rattle.names.proofs.name.pad_name.Tie as tie
 
 returns : tie.Need-returns
 returns c = search padded-empty

@@ -1,9 +1,9 @@
 -- `hash` meets its contract by computation: what is left of a division by 1024 is below it.
 use native.Mathlib.Omega.{arith}
 use borrow.Author.Needs.{needs}
 use Rattle.blocks.specs.Name.{hashOf}
-use Rattle.blocks.proofs.name.hash.Statement.{statement}
-use Rattle.blocks.proofs.name.hash.Tie as tie
+use Rattle.names.proofs.name.hash.Statement.{statement}
+use Rattle.names.proofs.name.hash.Tie as tie
 
 slice-aggregate-get-u32 : tie.Need-slice-aggregate-get-u32
 slice-aggregate-get-u32 c = search needs

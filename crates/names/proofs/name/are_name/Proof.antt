@@ -1,8 +1,8 @@
 -- `are_name` meets its contract, by its tests.
 use Rattle.blocks.proofs.NameLaws.{name-wrong-length, name-tests}
 use borrow.Author.Needs.{needs}
-use Rattle.blocks.proofs.name.are_name.Statement.{statement}
-use Rattle.blocks.proofs.name.are_name.Tie as tie
+use Rattle.names.proofs.name.are_name.Statement.{statement}
+use Rattle.names.proofs.name.are_name.Tie as tie
 
 returns : tie.Need-returns
 returns c = search name-wrong-length

@@ -1,7 +1,7 @@
 -- `still_name_or_zero` meets its contract, by what `is_name_byte` says.
 use borrow.Author.Needs.{needs}
-use Rattle.blocks.proofs.name.still_name_or_zero.Statement.{statement}
-use Rattle.blocks.proofs.name.still_name_or_zero.Tie as tie
+use Rattle.names.proofs.name.still_name_or_zero.Statement.{statement}
+use Rattle.names.proofs.name.still_name_or_zero.Tie as tie
 
 is-name-byte-requires : tie.Need-is-name-byte-requires
 is-name-byte-requires c κs = search needs

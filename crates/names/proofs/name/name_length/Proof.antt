@@ -5,10 +5,10 @@ use native.Mathlib.Omega.{arith}
 use lib.ListN.{length}
 use borrow.Author.Needs.{needs}
 use borrow.Author.Tests.{not-true, not-false}
 use Rattle.blocks.specs.Name.{nameLength}
 use Rattle.blocks.proofs.ListLaws.{nameFrom, name-start, name-more, name-stop, name-end}
-use Rattle.blocks.proofs.name.name_length.Statement.{statement}
-use Rattle.blocks.proofs.name.name_length.Tie as tie
+use Rattle.names.proofs.name.name_length.Statement.{statement}
+use Rattle.names.proofs.name.name_length.Tie as tie
 
 abbrev Inv-loop : tie.InvT-loop
 Inv-loop text i₀ i = (i ≤ length text) × (nameLength text ≡ nameFrom text i)

@@ -1,12 +1,12 @@
 // Names: sixteen bytes by value, judged, made of a text, and given a hash.
-use crate::bytes;
-use crate::sizes::NAME_SIZE;
+use blocks::bytes;
+use blocks::sizes::NAME_SIZE;
 ghost use mathlib.Core.Path.{_≡_};
 ghost use mathlib.Core.Bool.{_&&_, _||_, not};
 ghost use Prim.Native.Nat.{_≤_, _<_};
 ghost use lib.ListN.{length};
 ghost use lib.Dec.{eqb};
 ghost use Rattle.blocks.specs.Name.{nameSize, nameByte, nameLength, isName, padded, nameOrZero, zerosLast, hashCount, hashOf};
 
 // How many hashes of names there are: the walk keeps a flag for each.
 pub const HASH_COUNT: usize = 1024;

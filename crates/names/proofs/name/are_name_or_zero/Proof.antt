@@ -4,10 +4,10 @@ use mathlib.Core.Bool.{_&&_}
 use Prim.Native.Nat.{_≤_, _-_}
 use native.Mathlib.Omega.{arith}
 use borrow.Author.Needs.{needs}
 use Rattle.blocks.specs.Name.{nameOrZero}
 use Rattle.blocks.proofs.ListLaws.{nameOrZeroFrom, name-or-zero-start, name-or-zero-next, name-or-zero-last}
-use Rattle.blocks.proofs.name.are_name_or_zero.Statement.{statement}
-use Rattle.blocks.proofs.name.are_name_or_zero.Tie as tie
+use Rattle.names.proofs.name.are_name_or_zero.Statement.{statement}
+use Rattle.names.proofs.name.are_name_or_zero.Tie as tie
 
 abbrev Inv-loop : tie.InvT-loop
 Inv-loop bytes good₀ i₀ good i = (i ≤ 16) × (nameOrZero bytes ≡ (good && nameOrZeroFrom bytes i))

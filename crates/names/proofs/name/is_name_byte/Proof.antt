@@ -1,8 +1,8 @@
 -- `is_name_byte` meets its contract: it is its definition.
 use borrow.Author.Needs.{needs}
 use Rattle.blocks.specs.Name.{nameByte}
-use Rattle.blocks.proofs.name.is_name_byte.Statement.{statement}
-use Rattle.blocks.proofs.name.is_name_byte.Tie as tie
+use Rattle.names.proofs.name.is_name_byte.Statement.{statement}
+use Rattle.names.proofs.name.is_name_byte.Tie as tie
 
 returns : tie.Need-returns
 unfolding nameByte
