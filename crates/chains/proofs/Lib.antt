@@ -1,6 +1,7 @@
 -- Laws of the definitions of specs/, which the proofs of the crates above cite.
-pub mod SoundLaws
 pub mod NamedLaws
+pub mod SoundRules
+pub mod SoundLaws
 pub mod ChainLaws
 pub mod LinkedLaws
 pub mod StoredLaws
@@ -8,4 +9,3 @@ pub mod SharedLaws
 pub mod RelinkedLaws
 pub mod MemberLaws
 pub mod ChangedLaws
-pub mod SoundRules

@@ -1,4 +1,5 @@
 -- Laws of the definitions of specs/, which the proofs of this crate and of those above cite.
+pub mod InPlaceRules
 pub mod PlaceLaws
 pub mod RegionLaws
 pub mod EntryLaws
@@ -12,4 +13,3 @@ pub mod LocalLaws
 pub mod FoundLaws
 pub mod ExtendedLaws
 pub mod RulesLaws
-pub mod InPlaceRules
