@@ -7,6 +7,7 @@ use blocks::sizes::MOST_BLOCKS;
 use calls::answer;
 use calls::answer::Answer;
 use entries::check::Verdict;
+use indexing::index;
 use judging::check as rules;
 use walking::chain;
 ghost use mathlib.Core.Path.{_≡_};
@@ -45,7 +46,7 @@ fn check_chain(
     let mut k = 0;
     while k < count {
         turn = rules::next_turn(seen, starts, count, cost, turn);
-        let d = chain::descriptor_of(card, active, starts, count, k);
+        let d = index::descriptor_of(card, active, starts, count, k);
         let v = rules::check_one(card, d, seen, turn);
         if let Verdict::Fault(h) = v {
             return Verdict::Fault(h);

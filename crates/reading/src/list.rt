@@ -6,6 +6,7 @@ use calls::answer::Answer;
 use calls::answer::Record;
 use calls::list::Filling;
 use calls::list::Plan;
+use indexing::index;
 use walking::chain;
 ghost use mathlib.Core.Path.{_≡_};
 ghost use mathlib.Core.List.{List};
@@ -66,7 +67,7 @@ pub fn record_of(card: &[u8], starts: &[u32], n: usize, k: usize) -> Record
     let start = starts[k];
     let end = starts[k + 1];
     let name = descriptor::name_at(card, Physical(start));
-    let next = chain::next_of(Physical(end), k, n);
+    let next = index::next_of(Physical(end), k, n);
     Record {
         name,
         alpha: Physical(start),

@@ -11,6 +11,7 @@ use calls::answer::Answer;
 use calls::answer::Target;
 use entries::find::Found;
 use finding::find;
+use indexing::index;
 use names::name;
 use walking::chain;
 ghost use mathlib.Core.Path.{_≡_};
@@ -62,7 +63,7 @@ fn snapshot_index(card: &[u8], starts: &[u32], last: usize, name: [u8; NAME_SIZE
     requires { ⌜ (last < length (now starts)) × ((j : ℕ) → j < last → blockSize * getD (now starts) j 0 + blockSize ≤ length (now card)) ⌝ }
     ensures { λ r. ⌜ r ≡ targetIndex (descriptorsAt (now (card .entry)) (take last (now (starts .entry)))) Target.Snapshot name ⌝ }
 {
-    let k = chain::index_of(card, starts, last, name);
+    let k = index::index_of(card, starts, last, name);
     if k == last {
         return last + 1;
     }
@@ -140,6 +141,6 @@ pub fn read(
     if active.volume <= l.0 {
         return answer::PAST_THE_VOLUME;
     }
-    let d = chain::descriptor_of(card, active, &found.starts, count, k);
+    let d = index::descriptor_of(card, active, &found.starts, count, k);
     deliver(card, &found.starts, count, d, l, out)
 }

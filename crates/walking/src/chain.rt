@@ -12,18 +12,18 @@ use blocks::sizes::NAME_START;
 use blocks::sizes::PHI_START;
 use blocks::sizes::STARTS_SIZE;
 use chains::chain::Regions;
+use indexing::index;
 use names::name;
 ghost use mathlib.Core.Path.{_≡_};
 ghost use mathlib.Core.Bool.{true, _&&_};
 ghost use mathlib.Core.List.{[], _∷_};
 ghost use Prim.Native.Nat.{ℕ, _+_, _*_, _/_, _≤_, _<_};
 ghost use lib.ListN.{length, take, getD};
-ghost use lib.Dec.{eqb};
-ghost use Rattle.blocks.specs.Pick.{pick, same};
+ghost use Rattle.blocks.specs.Pick.{same};
 ghost use Rattle.blocks.specs.Bytes.{blockSize, part};
 ghost use Rattle.blocks.specs.Name.{isName};
-ghost use Rattle.blocks.specs.Descriptor.{physical, mark, mostVolume, descriptorAt, reservedOk};
-ghost use Rattle.chains.specs.Chain.{formOk, regionOk, indexOf, named, descriptorsAt, chain, regionsOf, Unsound, Sound};
+ghost use Rattle.blocks.specs.Descriptor.{mark, mostVolume, descriptorAt, reservedOk};
+ghost use Rattle.chains.specs.Chain.{formOk, regionOk, named, descriptorsAt, chain, regionsOf, Unsound, Sound};
 ghost use Rattle.chains.specs.Walk.{Hashed};
 
 // Whether block `p` begins with the mark.
@@ -124,46 +124,6 @@ fn is_placed(first: Descriptor, n: usize, p: Physical, d: Descriptor) -> bool
     beta < n
 }
 
-// Whether the descriptor in block `p` has the name: names that differ do so in one of two 64-bit words.
-fn has_name(card: &[u8], p: Physical, name: [u8; NAME_SIZE]) -> bool
-    requires { ⌜ blockSize * p .0 + blockSize ≤ length (now card) ⌝ }
-    ensures { λ r. ⌜ r ≡ same (descriptorAt (now (card .entry)) (p .0) .name) name ⌝ }
-{
-    let at = BLOCK_SIZE * (p.0 as usize) + NAME_START;
-    if bytes::get_u64(card, at) != bytes::get_u64(&name, 0) {
-        return false;
-    }
-    if bytes::get_u64(card, at + 8) != bytes::get_u64(&name, 8) {
-        return false;
-    }
-    bytes::same_bytes(&card[at..at + NAME_SIZE], &name)
-}
-
-// The index of the first of `n` descriptors that has the name, or `n` where none has it.
-pub fn index_of(card: &[u8], starts: &[u32], n: usize, name: [u8; NAME_SIZE]) -> usize
-    requires { ⌜ (n ≤ length (now starts)) × ((j : ℕ) → j < n → blockSize * getD (now starts) j 0 + blockSize ≤ length (now card)) ⌝ }
-    ensures { λ r. ⌜ r ≡ indexOf (descriptorsAt (now (card .entry)) (take n (now (starts .entry)))) name ⌝ }
-    ensures { λ r. ⌜ r ≤ n ⌝ }
-{
-    let mut j = 0;
-    while j < n {
-        let p = starts[j];
-        if has_name(card, Physical(p), name) {
-            return j;
-        }
-        j += 1;
-    }
-    j
-}
-
-// Whether one of the descriptors in the first `k` blocks of `starts` has the name.
-pub fn is_named(card: &[u8], starts: &[u32], k: usize, name: [u8; NAME_SIZE]) -> bool
-    requires { ⌜ (k ≤ length (now starts)) × ((j : ℕ) → j < k → blockSize * getD (now starts) j 0 + blockSize ≤ length (now card)) ⌝ }
-    ensures { λ r. ⌜ r ≡ named (descriptorsAt (now (card .entry)) (take k (now (starts .entry)))) name ⌝ }
-{
-    index_of(card, starts, k, name) < k
-}
-
 // The same, where `hashes` has a flag for the hash of each of their names: a hash without one is of no name among them.
 fn is_repeated(
     card: &[u8],
@@ -179,7 +139,7 @@ fn is_repeated(
     if !hashes[hash] {
         return false;
     }
-    is_named(card, starts, k, name)
+    index::is_named(card, starts, k, name)
 }
 
 fn unsound(p: Physical) -> Regions
@@ -313,39 +273,4 @@ pub fn walk_chain(card: &[u8]) -> Regions
         d = descriptor::read_descriptor(card, Physical(p));
     }
     unsound(Physical(p))
-}
-
-// The next of region `k` of `count`, which ends at block `end`.
-pub fn next_of(end: Physical, k: usize, count: usize) -> Physical
-    requires { ⌜ k < count ⌝ }
-    ensures { λ r. ⌜ r ≡ physical (pick (eqb (k + 1) count) 0 (end .0)) ⌝ }
-{
-    if k + 1 == count {
-        return Physical(0);
-    }
-    end
-}
-
-// The descriptor of region `k`, by what the walk found: of its bytes the name alone is read again.
-pub fn descriptor_of(
-    card: &[u8],
-    active: Descriptor,
-    starts: &[u32],
-    count: usize,
-    k: usize,
-) -> Descriptor
-    requires { ⌜ (regionsOf (chain (now card)) ≡ record { sound = true; place = physical 0; active = active; count = count; starts = now starts }) × (k < count) ⌝ }
-    ensures { λ r. ⌜ r ≡ descriptorAt (now (card .entry)) (getD (now (starts .entry)) k 0) ⌝ }
-{
-    let start = starts[k];
-    let end = starts[k + 1];
-    let name = descriptor::name_at(card, Physical(start));
-    Descriptor {
-        layout: active.layout,
-        volume: active.volume,
-        alpha: Physical(start),
-        beta: Physical(end),
-        next: next_of(Physical(end), k, count),
-        name,
-    }
 }

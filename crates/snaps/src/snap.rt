@@ -1,0 +1,85 @@
+// A snapshot of the active volume.
+use admitting::area;
+use blocks::bytes;
+use blocks::descriptor;
+use blocks::descriptor::Descriptor;
+use blocks::numbers::Physical;
+use blocks::sizes::BLOCK_SIZE;
+use blocks::sizes::MOST_SNAPSHOTS;
+use blocks::sizes::NAME_SIZE;
+use calls::answer;
+use calls::answer::Answer;
+use indexing::index;
+use names::name;
+use walking::chain;
+ghost use mathlib.Core.Path.{_≡_};
+ghost use Prim.Native.Nat.{_+_, _*_, _≤_, _<_};
+ghost use lib.ListN.{length};
+ghost use Rattle.blocks.specs.Bytes.{storeAll, blockSize};
+ghost use Rattle.blocks.specs.Descriptor.{costOf, copying};
+ghost use Rattle.calls.specs.Call.{Snap, None};
+ghost use Rattle.calls.specs.Effect.{snapping};
+ghost use Rattle.calls.specs.Step.{step, done};
+
+// The `n` blocks from block `to` are copies of those from block `from`, which stand before them.
+fn copy_blocks(card: &mut [u8], from: Physical, to: Physical, n: u32)
+    requires { ⌜ (from .0 + n ≤ «to» .0) × (blockSize * («to» .0 + n) ≤ length (now card)) × («to» .0 + n < 4294967296) ⌝ }
+    ensures { λ _. ⌜ now (card .exit) ≡ storeAll (now (card .entry)) (copying (now (card .entry)) (from .0) («to» .0) n) ⌝ }
+{
+    let mut i: u32 = 0;
+    while i < n {
+        let a = Physical(from.0 + i);
+        let b = Physical(to.0 + i);
+        bytes::copy_block(card, a, b);
+        i += 1;
+    }
+}
+
+// Opens a region at the active descriptor's beta, and leaves that descriptor behind under the name.
+fn take_snapshot(card: &mut [u8], d: Descriptor, cost: u32, name: [u8; NAME_SIZE])
+    requires { ⌜ (cost ≡ costOf d) × (d .alpha .0 + cost ≤ d .beta .0) × (blockSize * (d .beta .0 + cost) ≤ length (now card)) × (d .beta .0 + cost < 4294967296) × (1 ≤ cost) ⌝ }
+    ensures { λ _. ⌜ now (card .exit) ≡ storeAll (now (card .entry)) (snapping (now (card .entry)) d name) ⌝ }
+{
+    let alpha = d.alpha;
+    let beta = d.beta;
+    let opened = d.reopened();
+    let closed = d.renamed(name).linked(beta);
+    let from = Physical(alpha.0 + 1);
+    let to = Physical(beta.0 + 1);
+    copy_blocks(card, from, to, cost - 1);
+    descriptor::store_descriptor(card, alpha, beta, opened);
+    descriptor::put_descriptor(card, alpha, closed);
+}
+
+// Freezes the active volume under the name.
+pub fn snap(card: &mut [u8], name: [u8; NAME_SIZE]) -> Answer
+    ensures { λ r. ⌜ done r None (now (card .exit)) ≡ step (Snap name) (now (card .entry)) ⌝ }
+{
+    let admitted = area::admit(card);
+    if admitted.number != 0 {
+        return admitted;
+    }
+    if !name::is_name(name) {
+        return answer::BAD_NAME;
+    }
+    let found = chain::walk_chain(card);
+    let count = found.count;
+    if !found.sound {
+        let place = found.place.0;
+        return Answer { number: 6, place };
+    }
+    if index::is_named(card, &found.starts, count, name) {
+        return answer::NAME_IN_USE;
+    }
+    if MOST_SNAPSHOTS < count {
+        return answer::TOO_MANY_SNAPSHOTS;
+    }
+    let d = found.active;
+    let cost = descriptor::opening_cost(d.layout, d.volume);
+    let end = (d.beta.0 as usize) + (cost as usize);
+    if card.len() / BLOCK_SIZE < end {
+        return answer::NO_ROOM;
+    }
+    take_snapshot(card, d, cost, name);
+    answer::ACCEPTED
+}
