@@ -1,2 +1,2 @@
-// The walk along the chain: the code that judges, finds and makes descriptors of a chain.
+// The walk along the chain: the code that judges its descriptors one after the other.
 pub mod chain; // the walk along the chain of descriptors
