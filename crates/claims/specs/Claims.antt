@@ -135,8 +135,8 @@ FrameClaim =
     × (fills k ≡ false → step k c .outcome .lent ≡ lentAtEntry k)
 
 -- What the definitions by kind say of each call by its name, on a card c: which calls alter no byte of the card, which alter nothing that is lent, the
--- blocks that each takes ("A write takes at most two blocks; a snap takes c"), the bytes that it is lent to write, whether it is a format, and whether it is
--- a snap of the visit v. Other claims have these as hypotheses, and would say less if one were narrowed.
+-- blocks that each takes ("A write takes at most two blocks; a snap takes c"), the bytes that it is lent to write, whether it is a ream, and whether it is
+-- a snap of the visit v. Other claims go by these, and would say less if one were changed.
 pub record ByName (c v : List ℕ) : Type 0 where
   pub ream : (format : Format) → let k = Ream format in
       (step k c .outcome .lent ≡ None) × (blocksNeeded k c ≡ 0) × (writtenBy k ≡ []) × (isReam k ≡ true) × (isSnapOf v k ≡ false)

@@ -250,6 +250,6 @@ shortSheets =
     }
     ∷ []
 
--- The table tells wrong from right: a list on zero blocks is not accepted.
+-- The table tells wrong from right: a list on blocks of zeros is not accepted.
 unfoldable pub WrongSheet : Type 0
 WrongSheet = computed (record { sheet = listLine; prints = accepted }) ≡ expected (record { sheet = listLine; prints = accepted }) → ⊥

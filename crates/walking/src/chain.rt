@@ -124,7 +124,8 @@ fn is_placed(first: Descriptor, n: usize, p: Physical, d: Descriptor) -> bool
     beta < n
 }
 
-// The same, where `hashes` has a flag for the hash of each of their names: a hash without one is of no name among them.
+// Whether one of the descriptors in the first `k` blocks of `starts` has the name, where `hashes` has a flag for the hash of each of their names: a hash
+// without one is of no name among them.
 fn is_repeated(
     card: &[u8],
     starts: &[u32],
