@@ -2,7 +2,7 @@
 use blocks::bytes;
 use blocks::descriptor;
 use calls::answer::Record;
-use reading::list;
+use listing::list;
 ghost use mathlib.Core.Path.{_≡_};
 ghost use Prim.Native.Nat.{ℕ, _+_, _*_, _≤_, _<_};
 ghost use lib.ListN.{length, getD};

@@ -13,11 +13,11 @@ use Rattle.blocks.specs.Descriptor.{costOf, noDescriptor, descriptorAt, tailAt,
 use Rattle.chains.specs.Chain.{formOk, named, Sound, chain, activeOf, indexOf, chainSound, regionsOf}
 use Rattle.blocks.specs.declared.descriptor.Descriptor.{Descriptor}
 use Rattle.chains.proofs.NamedLaws.{index-below}
-use Rattle.chains.proofs.ChainLaws.{cost-least, region-volume, regions-ok}
-use Rattle.chains.proofs.SoundLaws.{form-most}
-use Rattle.chains.proofs.LinkedLaws.{Linked, chain-linked, chain-few, regionStart, RegionAt, linked-some, linked-at, linked-rise, at-alpha, at-long, active-at, end-active}
-use Rattle.chains.proofs.RelinkedLaws.{linked-next}
-use Rattle.chains.proofs.MemberLaws.{member-from, member-form, member-fresh, member-inside, member-long, member-rise, member-end, member-layout, member-volume, member-name, member-reserved, member-phi}
+use Rattle.links.proofs.ChainLaws.{cost-least, region-volume, regions-ok}
+use Rattle.links.proofs.SoundLaws.{form-most}
+use Rattle.links.proofs.LinkedLaws.{Linked, chain-linked, chain-few, regionStart, RegionAt, linked-some, linked-at, linked-rise, at-alpha, at-long, active-at, end-active}
+use Rattle.links.proofs.RelinkedLaws.{linked-next}
+use Rattle.links.proofs.MemberLaws.{member-from, member-form, member-fresh, member-inside, member-long, member-rise, member-end, member-layout, member-volume, member-name, member-reserved, member-phi}
 use Rattle.entries.proofs.LocalLaws.{Region}
 use Rattle.entries.proofs.TableLaws.{own-inside, few-tables}
 use Rattle.calls.specs.declared.answer.Target.{Target}

@@ -13,12 +13,12 @@ use Rattle.blocks.specs.Descriptor.{physical, noDescriptor, descriptorAt}
 use Rattle.chains.specs.Chain.{Chain, Unsound, Sound, chain, chainSound, chainPlace, descriptors, descriptorsAt, startsOf, regionsOf, activeOf}
 use Rattle.blocks.specs.declared.descriptor.Descriptor.{Descriptor}
 use Rattle.chains.specs.declared.chain.Regions.{Regions}
-use Rattle.chains.proofs.LinkedLaws.{Linked, chain-linked, regions-sound, starts-take, linked-some, chain-few, at-alpha, active-at}
+use Rattle.links.proofs.LinkedLaws.{Linked, chain-linked, regions-sound, starts-take, linked-some, chain-few, at-alpha, active-at}
 use Rattle.entries.specs.Through.{Through}
 use Rattle.entries.proofs.RegionLaws.{through-at, through-rising}
 use Rattle.entries.proofs.EntryLaws.{through-alpha}
 use Rattle.calls.specs.Parts.{areaBad, snapshotsOf}
-use Rattle.chains.proofs.ChainLaws.{active-snoc}
+use Rattle.links.proofs.ChainLaws.{active-snoc}
 
 -- all but the last of a list
 pub snapshots-take : (d : Descriptor) (ds : List Descriptor) → snapshotsOf (d ∷ ds) ≡ take (length ds) (d ∷ ds)

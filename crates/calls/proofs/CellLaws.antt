@@ -13,8 +13,8 @@ use Rattle.blocks.specs.Descriptor.{noDescriptor}
 use Rattle.chains.specs.Chain.{chain}
 use Rattle.blocks.specs.declared.numbers.Physical.{Physical}
 use Rattle.blocks.specs.declared.descriptor.Descriptor.{Descriptor}
-use Rattle.chains.proofs.SoundLaws.{form-layout}
-use Rattle.chains.proofs.SharedLaws.{Below}
+use Rattle.links.proofs.SoundLaws.{form-layout}
+use Rattle.links.proofs.SharedLaws.{Below}
 use Rattle.entries.specs.Entry.{find}
 use Rattle.entries.specs.Rules.{entryOf, Rules}
 use Rattle.entries.specs.declared.find.Found.{Found}

@@ -15,7 +15,7 @@ use Rattle.blocks.specs.Descriptor.{physical, noDescriptor}
 use Rattle.chains.specs.Chain.{activeOf, Chain, Sound, Unsound, chain, startsOf, regionsOf}
 use Rattle.blocks.specs.declared.descriptor.Descriptor.{Descriptor}
 use Rattle.chains.specs.declared.chain.Regions.{Regions}
-use Rattle.chains.proofs.LinkedLaws.{Linked, last, more, chain-linked, starts-long, region-of, found-inside, found-descriptor}
+use Rattle.links.proofs.LinkedLaws.{Linked, last, more, chain-linked, starts-long, region-of, found-inside, found-descriptor}
 use Rattle.calls.specs.declared.answer.Answer.{Answer}
 use Rattle.calls.specs.declared.answer.Record.{Record}
 use Rattle.calls.specs.declared.list.Filling.{Filling}

@@ -17,7 +17,7 @@ use Rattle.blocks.specs.declared.descriptor.Descriptor.{Descriptor}
 use Rattle.chains.specs.declared.chain.Regions.{Regions}
 use Rattle.blocks.proofs.ByteLaws.{splice-whole}
 use Rattle.chains.proofs.NamedLaws.{index-le}
-use Rattle.chains.proofs.ChainLaws.{region-volume}
+use Rattle.links.proofs.ChainLaws.{region-volume}
 use Rattle.entries.specs.Entry.{find}
 use Rattle.entries.proofs.RegionLaws.{through-region}
 use Rattle.entries.specs.declared.find.Found.{Found}

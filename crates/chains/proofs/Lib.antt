@@ -1,11 +1,4 @@
--- Laws of the definitions of specs/, which the proofs of the crates above cite.
+-- Laws of the definitions of specs/: names in a list of descriptors; soundness by 01's rules; the chain without its walk.
 pub mod NamedLaws
 pub mod SoundRules
-pub mod SoundLaws
-pub mod ChainLaws
-pub mod LinkedLaws
-pub mod StoredLaws
-pub mod SharedLaws
-pub mod RelinkedLaws
-pub mod MemberLaws
-pub mod ChangedLaws
+pub mod ChainedLaws

@@ -17,10 +17,10 @@ use Rattle.calls.specs.Parts.{descriptorsOf, snapshotsOf, withName}
 use Rattle.calls.specs.Effect.{reverting, revertStores}
 use Rattle.calls.proofs.CardLaws.{card-most, chain-is}
 use Rattle.calls.proofs.Passed.{RevertPassed}
-use Rattle.chains.proofs.StoredLaws.{block-long}
-use Rattle.chains.proofs.ChangedLaws.{changed-last}
+use Rattle.links.proofs.StoredLaws.{block-long}
+use Rattle.links.proofs.ChangedLaws.{changed-last}
 use Rattle.blocks.proofs.StoreLists.{Whole, none, stored-length, stored-other, stored-last, count-kept, none-stored, one-stored}
-use Rattle.chains.proofs.MemberLaws.{member-inside, member-long, member-end, member-rise, member-layout, member-volume, member-reserved, member-phi, member-upto}
+use Rattle.links.proofs.MemberLaws.{member-inside, member-long, member-end, member-rise, member-layout, member-volume, member-reserved, member-phi, member-upto}
 use Rattle.calls.proofs.ActiveLaws.{active-last, active-name, active-fresh, snapshots-few}
 use Rattle.changes.proofs.WholeLaws.{revert-whole}
 

@@ -12,9 +12,9 @@ use Rattle.blocks.specs.Bytes.{blockAt, storeAll}
 use Rattle.blocks.specs.Descriptor.{physical, tableCount, noDescriptor, tailAt, descriptorBlock, renamedOf, linkedOf}
 use Rattle.chains.specs.Chain.{activeOf, chain, Sound}
 use Rattle.blocks.specs.declared.descriptor.Descriptor.{Descriptor}
-use Rattle.chains.proofs.SoundLaws.{form-most, form-layout}
-use Rattle.chains.proofs.ChainLaws.{cost-least, descriptors-are, is-sound}
-use Rattle.chains.proofs.LinkedLaws.{RegionAt, regionStart, linked-rise, at-alpha, at-long}
+use Rattle.links.proofs.SoundLaws.{form-most, form-layout}
+use Rattle.links.proofs.ChainLaws.{cost-least, descriptors-are, is-sound}
+use Rattle.links.proofs.LinkedLaws.{RegionAt, regionStart, linked-rise, at-alpha, at-long}
 use Rattle.entries.specs.InPlace.{inPlace}
 use Rattle.entries.specs.Entry.{entryAt, phiAt}
 use Rattle.entries.specs.Rules.{Rules, entryOf}
@@ -24,7 +24,7 @@ use Rattle.calls.specs.Effect.{revertStores}
 use Rattle.blocks.proofs.StoreLists.{stored-other, one-stored}
 use Rattle.entries.proofs.TableLaws.{fewer-placed, placed-apart, own-inside, few-tables, block-entry, phi-stored}
 use Rattle.calls.proofs.Passed.{RevertPassed}
-use Rattle.chains.proofs.MemberLaws.{member-inside}
+use Rattle.links.proofs.MemberLaws.{member-inside}
 use Rattle.calls.proofs.CardLaws.{chain-is, area-kept}
 use Rattle.calls.proofs.ActiveLaws.{chain-starts, region-at}
 use Rattle.entries.proofs.RulesLaws.{rules-renamed, rules-moved, entry-renamed, moved-entry}

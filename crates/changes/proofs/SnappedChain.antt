@@ -17,15 +17,15 @@ use Rattle.blocks.proofs.BoolLaws.{no, or-false-right, or-true}
 use Rattle.blocks.proofs.ListLaws.{same-equal, same-self}
 use Rattle.blocks.proofs.DescriptorLaws.{Fits, tail-length, fits-of}
 use Rattle.chains.proofs.NamedLaws.{named-one, named-append, named-left}
-use Rattle.chains.proofs.ChainLaws.{cost-least}
-use Rattle.chains.proofs.LinkedLaws.{last, more, chain-linked}
+use Rattle.links.proofs.ChainLaws.{cost-least}
+use Rattle.links.proofs.LinkedLaws.{last, more, chain-linked}
 use Rattle.calls.specs.Parts.{areaBad, descriptorsOf, snapshotsOf}
 use Rattle.calls.specs.Effect.{snapping, snapStores}
 use Rattle.calls.proofs.Passed.{SnapPassed}
-use Rattle.chains.proofs.SharedLaws.{linked-chain}
-use Rattle.chains.proofs.RelinkedLaws.{relinked}
-use Rattle.chains.proofs.StoredLaws.{block-long, stored-descriptor, stored-form, region-ok}
-use Rattle.chains.proofs.ChangedLaws.{changed-first, changed-ok}
+use Rattle.links.proofs.SharedLaws.{linked-chain}
+use Rattle.links.proofs.RelinkedLaws.{relinked}
+use Rattle.links.proofs.StoredLaws.{block-long, stored-descriptor, stored-form, region-ok}
+use Rattle.links.proofs.ChangedLaws.{changed-first, changed-ok}
 use Rattle.blocks.proofs.StoreLists.{Whole, none, also, whole-append, isStored, stored-join, stored-length, stored-other, stored-last, inside-copying, count-kept, none-stored, one-stored, copies-stored, pair-stored, copies-cover}
 use Rattle.calls.proofs.ActiveLaws.{active-last, active-name, active-fresh, active-next, active-form, active-long, active-rise, active-inside, active-layout, active-volume, active-reserved, active-phi}
 use Rattle.calls.proofs.CardLaws.{chain-is, card-most}

@@ -12,9 +12,9 @@ use Rattle.blocks.specs.Bytes.{blockAt, Store, store, storeAll}
 use Rattle.blocks.specs.Descriptor.{tableCount, costOf, noDescriptor, tailAt, descriptorBlock, renamedOf, linkedOf, reopenedOf, copying}
 use Rattle.blocks.specs.declared.descriptor.Descriptor.{Descriptor}
 use Rattle.chains.specs.Chain.{activeOf, chain, Sound}
-use Rattle.chains.proofs.SoundLaws.{form-most, form-layout}
-use Rattle.chains.proofs.ChainLaws.{cost-least, descriptors-are, is-sound, cost-one}
-use Rattle.chains.proofs.LinkedLaws.{RegionAt, regionStart, linked-rise, at-alpha, at-long}
+use Rattle.links.proofs.SoundLaws.{form-most, form-layout}
+use Rattle.links.proofs.ChainLaws.{cost-least, descriptors-are, is-sound, cost-one}
+use Rattle.links.proofs.LinkedLaws.{RegionAt, regionStart, linked-rise, at-alpha, at-long}
 use Rattle.entries.specs.InPlace.{inPlace}
 use Rattle.entries.specs.Entry.{entryAt, phiAt}
 use Rattle.entries.specs.Rules.{Rules, entryOf}

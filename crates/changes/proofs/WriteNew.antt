@@ -17,8 +17,8 @@ use Rattle.blocks.specs.declared.descriptor.Descriptor.{Descriptor}
 use Rattle.blocks.proofs.BoolLaws.{no}
 use Rattle.blocks.proofs.ByteLaws.{u32-part, number-of, zero-number, blocks-long}
 use Rattle.blocks.proofs.DescriptorLaws.{Fits, tail-length}
-use Rattle.chains.proofs.SoundLaws.{form-layout}
-use Rattle.chains.proofs.LinkedLaws.{active-at}
+use Rattle.links.proofs.SoundLaws.{form-layout}
+use Rattle.links.proofs.LinkedLaws.{active-at}
 use Rattle.blocks.proofs.NameLaws.{name-size}
 use Rattle.entries.specs.InPlace.{inPlace}
 use Rattle.entries.specs.Entry.{entryAt, phiAt, tableOf, find, tableIsNew, need, tableWith, tailWith, setInNewTable, writing}
@@ -31,7 +31,7 @@ use Rattle.calls.specs.Parts.{descriptorsOf, snapshotsOf, foundThrough}
 use Rattle.calls.specs.Check.{Passes}
 use Rattle.calls.specs.Effect.{writeStores}
 use Rattle.calls.proofs.CardLaws.{card-most, chain-is, active-split}
-use Rattle.chains.proofs.StoredLaws.{stored-bytes, block-tail}
+use Rattle.links.proofs.StoredLaws.{stored-bytes, block-tail}
 use Rattle.blocks.proofs.StoreLists.{Whole, isStored, stored-length, stored-other, none-stored, not-stored, stored-among}
 use Rattle.entries.proofs.FoundLaws.{found-holder, found-own}
 use Rattle.entries.proofs.LocalLaws.{Region}

@@ -19,8 +19,8 @@ use Rattle.blocks.proofs.Tests.{and-right}
 use Rattle.blocks.proofs.BoolLaws.{no, true-or, or-false-right}
 use Rattle.blocks.proofs.ByteLaws.{length-blockAt}
 use Rattle.blocks.proofs.DescriptorLaws.{Fits, fits-of, extended-none}
-use Rattle.chains.proofs.SoundLaws.{form-layout}
-use Rattle.chains.proofs.LinkedLaws.{chain-linked, linked-some, active-at}
+use Rattle.links.proofs.SoundLaws.{form-layout}
+use Rattle.links.proofs.LinkedLaws.{chain-linked, linked-some, active-at}
 use Rattle.entries.specs.InPlace.{isDescriptor, isTable, inPlace}
 use Rattle.entries.specs.Entry.{entryAt, phiAt, tableOf, find, tableIsNew, need, tableWith, setInTable, writing}
 use Rattle.entries.specs.Rules.{entryOf, Rules}
@@ -37,7 +37,7 @@ use Rattle.entries.proofs.FoundLaws.{found-holder, found-value}
 use Rattle.entries.proofs.TableLaws.{table-own, table-phi, own-inside, few-tables, under, layout-two, group-below, entry-in, phi-stored, block-entry}
 use Rattle.calls.proofs.Passed.{WritePassed}
 use Rattle.entries.proofs.ExtendedLaws.{extended-stays, extended-new}
-use Rattle.chains.proofs.MemberLaws.{layout-small, member-form}
+use Rattle.links.proofs.MemberLaws.{layout-small, member-form}
 use Rattle.calls.proofs.ActiveLaws.{active-next, active-inside, active-long, active-rise, active-end, active-volume, active-name}
 use Rattle.entries.proofs.RulesLaws.{set-table-rules, set-phi-rules, kept-entry, kept-rules}
 use Rattle.changes.proofs.WholeLaws.{write-whole}

@@ -16,7 +16,7 @@ use Rattle.blocks.specs.declared.numbers.Physical.{Physical}
 use Rattle.blocks.specs.declared.descriptor.Descriptor.{Descriptor}
 use Rattle.blocks.proofs.BoolLaws.{no}
 use Rattle.blocks.proofs.DescriptorLaws.{Fits, tail-length, extended-none}
-use Rattle.chains.proofs.LinkedLaws.{last, chain-linked}
+use Rattle.links.proofs.LinkedLaws.{last, chain-linked}
 use Rattle.blocks.proofs.NameLaws.{name-size}
 use Rattle.entries.specs.Entry.{find, tableIsNew, need, tableWith, tailWith, setInTable, setInNewTable, writing}
 use Rattle.entries.specs.declared.find.Found.{Found}
@@ -26,15 +26,15 @@ use Rattle.entries.proofs.SetLaws.{tail-with-length, put-reserved}
 use Rattle.calls.specs.Parts.{descriptorsOf, snapshotsOf, foundThrough, isMisplaced}
 use Rattle.calls.specs.Effect.{writeStores}
 use Rattle.calls.proofs.CardLaws.{card-most, chain-is}
-use Rattle.chains.proofs.SharedLaws.{linked-chain, shared-descriptor, shared-sound}
-use Rattle.chains.proofs.RelinkedLaws.{linked-head, relinked}
-use Rattle.chains.proofs.ChangedLaws.{changed-last}
+use Rattle.links.proofs.SharedLaws.{linked-chain, shared-descriptor, shared-sound}
+use Rattle.links.proofs.RelinkedLaws.{linked-head, relinked}
+use Rattle.links.proofs.ChangedLaws.{changed-last}
 use Rattle.blocks.proofs.StoreLists.{Whole, isStored, stored-length, stored-other, none-stored, not-stored, stored-among}
 use Rattle.entries.proofs.FoundLaws.{found-own, found-placed}
 use Rattle.calls.proofs.Passed.{WritePassed}
 use Rattle.calls.proofs.ActiveLaws.{chain-some, active-last, snapshots-few, active-layout, active-fresh, active-linked, active-next, active-inside, active-long, active-rise, active-volume, active-name, active-reserved, active-phi}
 use Rattle.changes.proofs.WholeLaws.{write-whole}
-use Rattle.chains.proofs.SoundLaws.{phi-any}
+use Rattle.links.proofs.SoundLaws.{phi-any}
 use Rattle.entries.proofs.PutLaws.{writing-above, writing-covers}
 
 -- stores at or above the active alpha, on a card with a sound chain

@@ -10,8 +10,8 @@ use lib.Dec.{ltb}
 use borrow.Author.Tests.{ltb-true, ltb-false}
 use Rattle.blocks.specs.Bytes.{storeAll}
 use Rattle.chains.specs.Chain.{Sound, chain, chainSound, activeOf}
-use Rattle.chains.proofs.SoundLaws.{form-layout}
-use Rattle.chains.proofs.ChainLaws.{descriptors-are}
+use Rattle.links.proofs.SoundLaws.{form-layout}
+use Rattle.links.proofs.ChainLaws.{descriptors-are}
 use Rattle.blocks.specs.Descriptor.{extendedOf, noDescriptor}
 use Rattle.blocks.specs.declared.descriptor.Descriptor.{Descriptor}
 use Rattle.entries.specs.InPlace.{inPlace}
@@ -22,7 +22,7 @@ use Rattle.calls.specs.Check.{Passes}
 use Rattle.calls.specs.Effect.{writeStores}
 use Rattle.calls.proofs.CardLaws.{chain-is, area-kept}
 use Rattle.blocks.proofs.StoreLists.{stored-length, stored-other}
-use Rattle.chains.proofs.SharedLaws.{Below}
+use Rattle.links.proofs.SharedLaws.{Below}
 use Rattle.entries.proofs.LocalLaws.{Region}
 use Rattle.calls.proofs.Passed.{WritePassed}
 use Rattle.entries.proofs.ExtendedLaws.{extended-placed}

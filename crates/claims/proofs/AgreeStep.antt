@@ -11,7 +11,7 @@ use Rattle.blocks.specs.Descriptor.{physical, renamedOf, linkedOf, extendedOf, 
 use Rattle.chains.specs.Chain.{Chain, Sound, chain, chainSound, descriptors, activeOf}
 use Rattle.blocks.specs.declared.descriptor.Descriptor.{Descriptor}
 use Rattle.blocks.proofs.BoolLaws.{no}
-use Rattle.chains.proofs.ChainLaws.{active-snoc}
+use Rattle.links.proofs.ChainLaws.{active-snoc}
 use Rattle.entries.specs.Entry.{find, need}
 use Rattle.calls.specs.Call.{Call}
 use Rattle.calls.specs.Parts.{descriptorsOf, snapshotsOf, withName}
@@ -28,7 +28,7 @@ use Rattle.claims.specs.Kinds.{Kind, kindOf}
 use Rattle.claims.proofs.Changes.{storesBy, Allowed, to-format, to-leave, to-write, to-snap, to-revert}
 use Rattle.claims.proofs.Steps.{step-cases}
 use Rattle.claims.proofs.Owed.{owed}
-use Rattle.chains.proofs.LinkedLaws.{active-append}
+use Rattle.links.proofs.LinkedLaws.{active-append}
 use Rattle.changes.proofs.WholeLaws.{write-whole, snap-whole, revert-whole}
 use Rattle.changes.proofs.RevertedChain.{before, reverted-chain, reverted-below}
 use Rattle.changes.proofs.SnappedChain.{snapped-chain, snap-covered}

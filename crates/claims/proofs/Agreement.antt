@@ -12,7 +12,7 @@ use Rattle.blocks.specs.Descriptor.{noDescriptor}
 use Rattle.chains.specs.Chain.{Sound, chain, named, activeOf}
 use Rattle.blocks.specs.declared.descriptor.Descriptor.{Descriptor}
 use Rattle.blocks.proofs.ByteLaws.{blocks-long, taken-block}
-use Rattle.chains.proofs.LinkedLaws.{chain-few}
+use Rattle.links.proofs.LinkedLaws.{chain-few}
 use Rattle.entries.specs.Entry.{find, need}
 use Rattle.entries.specs.declared.find.Found.{Found}
 use Rattle.calls.specs.declared.answer.Target.{Target}
@@ -25,7 +25,7 @@ use Rattle.calls.specs.Meaning.{filledOf}
 use Rattle.claims.specs.History.{betaOf, Agree}
 use Rattle.calls.proofs.CardLaws.{chain-is, area-kept}
 use Rattle.calls.proofs.Passed.{ReadPassed}
-use Rattle.chains.proofs.SharedLaws.{Below, below-linked, linked-chain}
+use Rattle.links.proofs.SharedLaws.{Below, below-linked, linked-chain}
 use Rattle.entries.proofs.LocalLaws.{Region, local-find, local-check}
 use Rattle.calls.specs.declared.answer.Record.{Record}
 use Rattle.blocks.specs.declared.descriptor.Format.{Format}

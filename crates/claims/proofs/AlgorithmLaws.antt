@@ -19,9 +19,9 @@ use Rattle.blocks.proofs.BoolLaws.{no, or-true}
 use Rattle.blocks.proofs.ByteLaws.{u32-part, store-length, store-same, store-other, length-blockAt}
 use Rattle.blocks.proofs.DescriptorLaws.{head-length, block-back, tail-length, block-whole}
 use Rattle.chains.proofs.NamedLaws.{index-below}
-use Rattle.chains.proofs.ChainLaws.{cost-least, regions-ok}
-use Rattle.chains.proofs.LinkedLaws.{at-alpha, RegionAt}
-use Rattle.chains.proofs.SoundLaws.{form-mark}
+use Rattle.links.proofs.ChainLaws.{cost-least, regions-ok}
+use Rattle.links.proofs.LinkedLaws.{at-alpha, RegionAt}
+use Rattle.links.proofs.SoundLaws.{form-mark}
 use Rattle.blocks.proofs.NameLaws.{name-size}
 use Rattle.entries.specs.InPlace.{isDescriptor, inPlace}
 use Rattle.entries.specs.Entry.{entryAt, phiAt, tableOf, entryFound, find, tableIsNew, need, tableWith, tailWith, setInTable, setInNewTable, writing}
@@ -43,7 +43,7 @@ use Rattle.claims.specs.Claims.{AlgorithmClaim}
 use Rattle.calls.proofs.CardLaws.{card-through, card-snapshot, card-snapshot-count, chain-is}
 use Rattle.calls.proofs.Passed.{read-passed, write-passed, snap-passed, revert-passed}
 use Rattle.calls.proofs.StepLaws.{accepted-card}
-use Rattle.chains.proofs.StoredLaws.{form-name}
+use Rattle.links.proofs.StoredLaws.{form-name}
 use Rattle.blocks.proofs.StoreLists.{stored-append, copied-in, copied-out, stored-length, inside-copying}
 use Rattle.entries.proofs.TableLaws.{entry-in, phi-in}
 use Rattle.calls.proofs.ActiveLaws.{active-volume, active-name, active-through}

@@ -15,8 +15,8 @@ use Rattle.chains.specs.Chain.{chain, chainSound}
 use Rattle.blocks.specs.declared.numbers.Physical.{Physical}
 use Rattle.blocks.specs.declared.descriptor.Descriptor.{Descriptor}
 use Rattle.blocks.proofs.BoolLaws.{no, or-true, and-false}
-use Rattle.chains.proofs.SoundLaws.{form-most, form-layout}
-use Rattle.chains.proofs.LinkedLaws.{chain-linked, linked-at}
+use Rattle.links.proofs.SoundLaws.{form-most, form-layout}
+use Rattle.links.proofs.LinkedLaws.{chain-linked, linked-at}
 use Rattle.entries.specs.InPlace.{inPlace}
 use Rattle.entries.specs.Entry.{entryAt, phiAt, tableOf}
 use Rattle.entries.specs.Naming.{Naming, tableNamings, tablesNamings, phiNamings, namings, among, atFault, firstFault, checkOne}

@@ -22,8 +22,8 @@ use Rattle.blocks.proofs.ListLaws.{same-self}
 use Rattle.blocks.proofs.NameLaws.{drop-replicate, name-size}
 use Rattle.blocks.proofs.DescriptorLaws.{Fits, block-whole}
 use Rattle.chains.proofs.NamedLaws.{named-none}
-use Rattle.chains.proofs.ChainLaws.{cost-least}
-use Rattle.chains.proofs.LinkedLaws.{last}
+use Rattle.links.proofs.ChainLaws.{cost-least}
+use Rattle.links.proofs.LinkedLaws.{last}
 use Rattle.entries.specs.InPlace.{inPlace}
 use Rattle.entries.specs.Entry.{entryAt, phiAt, tableOf}
 use Rattle.entries.specs.Rules.{entryOf, PhiRules, TableRules, Rules}
@@ -33,11 +33,11 @@ use Rattle.claims.specs.History.{formattable, formatted}
 use Rattle.claims.specs.Ledger.{cellsFrom, volumeOf, volumesOf, ledgerOf}
 use Rattle.claims.specs.Claims.{FormatClaim}
 use Rattle.calls.proofs.CardLaws.{card-most}
-use Rattle.chains.proofs.SharedLaws.{linked-chain}
-use Rattle.chains.proofs.StoredLaws.{block-tail, stored-descriptor, stored-bytes, stored-mark, region-ok}
+use Rattle.links.proofs.SharedLaws.{linked-chain}
+use Rattle.links.proofs.StoredLaws.{block-tail, stored-descriptor, stored-bytes, stored-mark, region-ok}
 use Rattle.blocks.proofs.StoreLists.{isStored, stored-length, stored-other, stored-append, stored-one, inside-clearing}
 use Rattle.blocks.specs.declared.descriptor.Format.{Format}
-use Rattle.chains.proofs.MemberLaws.{layout-small}
+use Rattle.links.proofs.MemberLaws.{layout-small}
 use Rattle.entries.proofs.TableLaws.{table-own, table-phi}
 use Rattle.calls.proofs.CellLaws.{cell-rules, blockNamed}
 

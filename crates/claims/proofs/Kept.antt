@@ -15,21 +15,21 @@ use Rattle.blocks.specs.Descriptor.{physical, renamedOf, linkedOf, extendedOf, 
 use Rattle.chains.specs.Chain.{Sound, chain, indexOf, named, activeOf}
 use Rattle.blocks.specs.declared.descriptor.Descriptor.{Descriptor}
 use Rattle.blocks.proofs.BoolLaws.{no}
-use Rattle.chains.proofs.ChainLaws.{active-snoc, descriptors-are}
+use Rattle.links.proofs.ChainLaws.{active-snoc, descriptors-are}
 use Rattle.entries.specs.Entry.{need}
 use Rattle.calls.specs.Call.{Call}
 use Rattle.calls.specs.Parts.{descriptorsOf, snapshotsOf, withName, foundThrough}
 use Rattle.calls.specs.Effect.{reverting, writeStores, snapStores, revertStores}
 use Rattle.calls.specs.Step.{step}
 use Rattle.claims.specs.History.{isFormat, formats}
-use Rattle.chains.proofs.RelinkedLaws.{beta-before}
+use Rattle.links.proofs.RelinkedLaws.{beta-before}
 use Rattle.blocks.proofs.StoreLists.{isStored, stored-length, stored-other, Whole, one-stored}
 use Rattle.calls.proofs.Passed.{WritePassed, SnapPassed, RevertPassed}
 use Rattle.claims.specs.Kinds.{Kind}
 use Rattle.claims.proofs.Changes.{storesBy, Allowed, to-format, to-leave, to-write, to-snap, to-revert}
 use Rattle.claims.proofs.Steps.{step-cases}
 use Rattle.calls.proofs.CardLaws.{active-split, snapshots-snoc, snapshots-are, active-is}
-use Rattle.chains.proofs.MemberLaws.{member-from, member-fresh}
+use Rattle.links.proofs.MemberLaws.{member-from, member-fresh}
 use Rattle.changes.proofs.WholeLaws.{write-whole, snap-whole, revert-whole}
 use Rattle.changes.proofs.RevertedChain.{before, behind, revert-split, reverted-chain}
 use Rattle.changes.proofs.SnappedChain.{snap-above, snapped-chain}

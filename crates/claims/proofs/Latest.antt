@@ -14,7 +14,7 @@ use Rattle.chains.specs.Chain.{Sound, chain, indexOf, named, activeOf}
 use Rattle.blocks.specs.declared.descriptor.Descriptor.{Descriptor}
 use Rattle.blocks.proofs.BoolLaws.{no}
 use Rattle.chains.proofs.NamedLaws.{named-one, named-append, named-left}
-use Rattle.chains.proofs.ChainLaws.{descriptors-are}
+use Rattle.links.proofs.ChainLaws.{descriptors-are}
 use Rattle.calls.specs.Call.{Call}
 use Rattle.calls.specs.Parts.{descriptorsOf, snapshotsOf}
 use Rattle.calls.specs.Meaning.{answerOf}

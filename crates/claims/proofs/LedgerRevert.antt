@@ -15,7 +15,7 @@ use Rattle.calls.specs.Parts.{descriptorsOf, snapshotsOf, withName, foundThroug
 use Rattle.claims.specs.Ledger.{Volume, volumesBefore, volumeNamed, cellsFrom, volumeOf, volumesOf, ledgerOf, ledgerChange}
 use Rattle.calls.specs.Check.{Passes}
 use Rattle.calls.specs.Effect.{revertStores}
-use Rattle.chains.proofs.ChainLaws.{active-snoc, descriptors-are}
+use Rattle.links.proofs.ChainLaws.{active-snoc, descriptors-are}
 use Rattle.calls.proofs.Passed.{RevertPassed}
 use Rattle.claims.specs.Kinds.{Reverts}
 use Rattle.calls.proofs.CardLaws.{snapshots-snoc, chain-is}
@@ -23,7 +23,7 @@ use Rattle.calls.proofs.CellLaws.{cell-as}
 use Rattle.claims.proofs.LedgerLaws.{volume-named, volumes-before, volumes-same, ledger-parts, cells-same}
 use Rattle.calls.proofs.ActiveLaws.{region-at}
 use Rattle.entries.specs.Rules.{entryOf, Rules}
-use Rattle.chains.proofs.SoundLaws.{form-layout}
+use Rattle.links.proofs.SoundLaws.{form-layout}
 use Rattle.changes.proofs.RevertedChain.{before, reverted-chain}
 use Rattle.changes.proofs.RevertedRules.{blocks-kept, counted, old-is, last-kept, first-is, first-kept}
 

@@ -11,9 +11,9 @@ use Rattle.blocks.specs.Bytes.{blockAt, zeroBlock, storeAll}
 use Rattle.blocks.specs.Descriptor.{noDescriptor, extendedOf}
 use Rattle.blocks.specs.declared.descriptor.Descriptor.{Descriptor}
 use Rattle.chains.specs.Chain.{activeOf, chain, Sound}
-use Rattle.chains.proofs.SoundLaws.{form-layout}
-use Rattle.chains.proofs.LinkedLaws.{active-at}
-use Rattle.chains.proofs.ChainLaws.{active-snoc, descriptors-are}
+use Rattle.links.proofs.SoundLaws.{form-layout}
+use Rattle.links.proofs.LinkedLaws.{active-at}
+use Rattle.links.proofs.ChainLaws.{active-snoc, descriptors-are}
 use Rattle.entries.specs.Entry.{need, find}
 use Rattle.entries.specs.Rules.{entryOf, Rules}
 use Rattle.entries.proofs.EntryLaws.{placed-below}

@@ -22,7 +22,8 @@ use Rattle.calls.proofs.Passed.{ream-passed, read-passed, write-passed, snap-pa
 use Rattle.claims.specs.Kinds.{kindOf}
 use Rattle.claims.specs.History.{betaOf, Agree, isReam, isFormat}
 use Rattle.claims.specs.Ledger.{Ledger, ledgerRows}
-use Rattle.claims.specs.Claims.{blocksNeeded, lentAtEntry, fills, FirstUnsound, comesToChain}
+use Rattle.chains.specs.Chained.{FirstUnsound}
+use Rattle.claims.specs.Claims.{blocksNeeded, lentAtEntry, fills, comesToChain}
 use Rattle.claims.proofs.Agreement.{ream-rows, read-rows, write-rows, snap-rows, revert-rows, list-rows, check-rows, read-filled, list-filled}
 use Rattle.claims.proofs.Places.{ream-six, read-six, write-six, snap-six, revert-six, list-six, check-six}
 use Rattle.claims.proofs.Changes.{storesBy, Allowed, to-format, to-leave, to-write, to-snap, to-revert}

@@ -6,7 +6,7 @@ use Rattle.calls.specs.Meaning.{rowsOf, answerOf}
 use Rattle.calls.specs.Step.{step}
 use Rattle.calls.proofs.RowLaws.{rows-numbered, none, all-passed}
 use Rattle.claims.specs.Claims.{RefusalClaim, NoRoomClaim, ChainClaim}
-use Rattle.claims.proofs.Places.{chain-place, place-chain, chain-chained, chained-chain}
+use Rattle.chains.proofs.ChainedLaws.{chain-place, place-chain, chain-chained, chained-chain}
 use Rattle.claims.proofs.Owed.{owed}
 
 pub refusal-claim : RefusalClaim

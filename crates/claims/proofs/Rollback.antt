@@ -15,7 +15,7 @@ use Rattle.blocks.specs.declared.descriptor.Descriptor.{Descriptor}
 use Rattle.blocks.proofs.BoolLaws.{no}
 use Rattle.blocks.proofs.ListLaws.{same-equal, same-self}
 use Rattle.chains.proofs.NamedLaws.{named-none, named-cons, index-at}
-use Rattle.chains.proofs.ChainLaws.{active-snoc, descriptors-are, is-sound}
+use Rattle.links.proofs.ChainLaws.{active-snoc, descriptors-are, is-sound}
 use Rattle.calls.specs.Call.{Call, Revert, Check}
 use Rattle.calls.specs.Parts.{descriptorsOf, snapshotsOf, withName}
 use Rattle.calls.specs.Effect.{reverting, snapStores, revertStores}
@@ -23,7 +23,7 @@ use Rattle.calls.specs.Meaning.{answerOf, storesOf}
 use Rattle.calls.specs.Step.{step, after, isAccepted}
 use Rattle.claims.specs.History.{betaOf, Agree, AreBytes, Standing, without, isSnapOf}
 use Rattle.claims.specs.Claims.{Unsnapped, LastSnap, Matched, RevertedAt}
-use Rattle.chains.proofs.SharedLaws.{shared-bytes}
+use Rattle.links.proofs.SharedLaws.{shared-bytes}
 use Rattle.calls.proofs.CardLaws.{chain-is, area-kept}
 use Rattle.calls.proofs.StepLaws.{accepted-card, after-append}
 use Rattle.blocks.proofs.StoreLists.{Whole, stored-length, stored-both, blocks-taken}
@@ -36,7 +36,7 @@ use Rattle.calls.proofs.Passed.{SnapPassed, RevertPassed, revert-passed, revert
 use Rattle.claims.specs.Kinds.{Kind, Snaps, kindOf}
 use Rattle.claims.proofs.Changes.{storesBy, Allowed, to-snap, snap-kind}
 use Rattle.claims.proofs.Owed.{owed}
-use Rattle.chains.proofs.MemberLaws.{member-fresh, member-inside, member-rise}
+use Rattle.links.proofs.MemberLaws.{member-fresh, member-inside, member-rise}
 use Rattle.changes.proofs.WholeLaws.{revert-whole}
 use Rattle.changes.proofs.RevertedChain.{before, behind, revert-split, reverted-chain}
 use Rattle.changes.proofs.SnappedChain.{snapped-chain}

@@ -6,7 +6,7 @@ use Prim.Native.Nat.{ℕ}
 use Rattle.blocks.specs.Bytes.{storeAll}
 use Rattle.chains.specs.Chain.{Sound, chain}
 use Rattle.blocks.specs.declared.descriptor.Descriptor.{Descriptor}
-use Rattle.chains.proofs.ChainLaws.{descriptors-are}
+use Rattle.links.proofs.ChainLaws.{descriptors-are}
 use Rattle.calls.specs.Call.{Call, Write, Snap, Revert}
 use Rattle.calls.specs.Parts.{descriptorsOf}
 use Rattle.calls.specs.Meaning.{answerOf, storesOf}

@@ -8,7 +8,7 @@ use Rattle.blocks.specs.Descriptor.{costOf, tailAt, copying}
 use Rattle.chains.specs.Chain.{activeOf, chain}
 use Rattle.blocks.specs.declared.numbers.Physical.{Physical}
 use Rattle.blocks.specs.declared.descriptor.Descriptor.{Descriptor}
-use Rattle.chains.proofs.ChainLaws.{cost-least}
+use Rattle.links.proofs.ChainLaws.{cost-least}
 use Rattle.entries.specs.Entry.{find}
 use Rattle.entries.specs.declared.find.Found.the-variants.{Entry}
 use Rattle.entries.proofs.EntryLaws.{found-table}
@@ -16,7 +16,7 @@ use Rattle.calls.specs.declared.answer.Target.the-variants.{Active}
 use Rattle.calls.specs.Parts.{descriptorsOf, snapshotsOf, withName}
 use Rattle.calls.specs.Effect.{snapping, reverting, writeStores, snapStores, revertStores}
 use Rattle.claims.specs.History.{betaOf, Agree}
-use Rattle.chains.proofs.SharedLaws.{shared-bytes}
+use Rattle.links.proofs.SharedLaws.{shared-bytes}
 use Rattle.claims.proofs.Agreement.{agree-below, agree-chain, found-same}
 use Rattle.calls.proofs.Passed.{WritePassed, SnapPassed, RevertPassed}
 use Rattle.calls.proofs.ActiveLaws.{active-target, active-rise, active-through, active-long}

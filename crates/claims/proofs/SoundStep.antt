@@ -9,7 +9,7 @@ use Rattle.chains.specs.Chain.{chain, chainSound, activeOf, Sound}
 use Rattle.blocks.specs.declared.descriptor.Descriptor.{Descriptor}
 use lib.Seq.{append-snoc}
 use Rattle.blocks.proofs.BoolLaws.{no}
-use Rattle.chains.proofs.ChainLaws.{descriptors-are, region-layout, region-volume, active-snoc}
+use Rattle.links.proofs.ChainLaws.{descriptors-are, region-layout, region-volume, active-snoc}
 use Rattle.calls.specs.Parts.{descriptorsOf, snapshotsOf, withName}
 use Rattle.calls.specs.Effect.{writeStores, snapStores, revertStores}
 use Rattle.claims.specs.History.{Agree, formats}
@@ -20,7 +20,7 @@ use Rattle.claims.specs.Kinds.{Kind}
 use Rattle.claims.proofs.Changes.{storesBy, Allowed, to-format, to-leave, to-write, to-snap, to-revert}
 use Rattle.claims.proofs.Steps.{step-cases}
 use Rattle.calls.proofs.ActiveLaws.{active-last}
-use Rattle.chains.proofs.MemberLaws.{member-region}
+use Rattle.links.proofs.MemberLaws.{member-region}
 use Rattle.calls.proofs.CardLaws.{chain-is}
 use Rattle.changes.proofs.RevertedChain.{before, behind, revert-split, reverted-chain}
 use Rattle.changes.proofs.SnappedChain.{snapped-chain}

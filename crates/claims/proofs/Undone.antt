@@ -19,15 +19,15 @@ use Rattle.blocks.proofs.ListLaws.{same-self}
 use Rattle.blocks.proofs.DescriptorLaws.{head-length, block-back}
 use Rattle.blocks.specs.Name.{isName}
 use Rattle.chains.proofs.NamedLaws.{named-one, index-at, named-append, named-left}
-use Rattle.chains.proofs.ChainLaws.{active-snoc, is-sound, descriptors-are}
-use Rattle.chains.proofs.SoundLaws.{form-mark}
+use Rattle.links.proofs.ChainLaws.{active-snoc, is-sound, descriptors-are}
+use Rattle.links.proofs.SoundLaws.{form-mark}
 use Rattle.calls.specs.Parts.{areaBad, descriptorsOf, snapshotsOf, withName}
 use Rattle.calls.specs.Effect.{reverting, snapping, snapStores, revertStores}
 use Rattle.claims.specs.History.{betaOf, Agree, AreBytes}
 use Rattle.blocks.proofs.StoreLists.{Whole, none, isStored, stored-join, stored-length, stored-other, stored-last, blocks-taken, none-stored, one-stored, copies-stored, pair-stored}
 use Rattle.calls.proofs.Passed.{SnapPassed, RevertPassed}
 use Rattle.calls.proofs.CardLaws.{snapshots-snoc, chain-is, area-kept}
-use Rattle.chains.proofs.MemberLaws.{member-is}
+use Rattle.links.proofs.MemberLaws.{member-is}
 use Rattle.calls.proofs.ActiveLaws.{active-last, active-form, active-inside}
 use Rattle.changes.proofs.WholeLaws.{snap-whole, revert-whole}
 use Rattle.changes.proofs.RevertedChain.{before, reverted-chain}

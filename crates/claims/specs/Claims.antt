@@ -12,7 +12,8 @@ use lib.Dec.{eqb}
 use Rattle.blocks.specs.Bytes.{blockSize, blockCount, blockAt, zeroBlock}
 use Rattle.blocks.specs.Name.{isName}
 use Rattle.blocks.specs.Descriptor.{physical, noDescriptor, tableSize, tailSize, tableCount, costOf, firstOf, descriptorAt, descriptorBlock, renamedOf, linkedOf, extendedOf, reopenedOf, costIn}
-use Rattle.chains.specs.Chain.{Sound, Unsound, sound, chain, chainSound, indexOf, named, activeOf}
+use Rattle.chains.specs.Chain.{Sound, Unsound, chain, chainSound, indexOf, named, activeOf}
+use Rattle.chains.specs.Chained.{FirstUnsound, Chained}
 use Rattle.blocks.specs.declared.descriptor.Descriptor.{Descriptor}
 use Rattle.entries.specs.InPlace.{inPlace}
 use Rattle.entries.specs.Entry.{entryAt, phiAt, need}
@@ -181,22 +182,6 @@ TableClaim =
     × ((answerOf k c ≡ accepted) ↔ ((i : ℕ) → i < length (rowsOf k c) → getD (rowsOf k c) i (row false 0 0) .holds ≡ false))
 
 -- The places of 6 and 10.
-
--- block q holds the first unsound descriptor on the way from block p, after the earlier ones of the chain: one that is not sound, or one that is not
--- among the first 256, whatever it holds
-pub data FirstUnsound (c : List ℕ) : List Descriptor → ℕ → ℕ → Type 0 where
-  here : {earlier : List Descriptor} {p : ℕ} → length earlier < 256 → sound c earlier p ≡ false → FirstUnsound c earlier p p
-  past : {earlier : List Descriptor} {p : ℕ} → 256 ≤ length earlier → FirstUnsound c earlier p p
-  on : {earlier : List Descriptor} {p q : ℕ} → length earlier < 256 → sound c earlier p ≡ true → (descriptorAt c p .next .0 ≡ 0 → ⊥)
-      → FirstUnsound c (earlier ++ (descriptorAt c p ∷ [])) (descriptorAt c p .next .0) q → FirstUnsound c earlier p q
-
--- the descriptors from block p on, after the earlier ones of the chain: each is sound and among the first 256, each but the last names the block of
--- the one after it, and the last has a nil next
-pub data Chained (c : List ℕ) : List Descriptor → ℕ → List Descriptor → Type 0 where
-  last : {earlier : List Descriptor} {p : ℕ} → length earlier < 256 → sound c earlier p ≡ true → descriptorAt c p .next .0 ≡ 0
-      → Chained c earlier p (descriptorAt c p ∷ [])
-  link : {earlier : List Descriptor} {p : ℕ} {ds : List Descriptor} → length earlier < 256 → sound c earlier p ≡ true
-      → (descriptorAt c p .next .0 ≡ 0 → ⊥) → Chained c (earlier ++ (descriptorAt c p ∷ [])) (descriptorAt c p .next .0) ds → Chained c earlier p (descriptorAt c p ∷ ds)
 
 -- whether a call comes to the chain: the area is a card, a name that is given is one, the caller's block has 512 bytes. A ream never does
 unfoldable pub comesToChain : Call → List ℕ → Bool

@@ -15,9 +15,9 @@ use Rattle.blocks.specs.declared.numbers.Physical.{Physical}
 use Rattle.blocks.specs.declared.descriptor.Descriptor.{Descriptor}
 use Rattle.blocks.proofs.Tests.{and-right, and-left}
 use Rattle.blocks.proofs.BoolLaws.{or-false-left, or-false-both, true-or, no}
-use Rattle.chains.proofs.SoundLaws.{form-most}
-use Rattle.chains.proofs.ChainLaws.{cost-least, cost-one}
-use Rattle.chains.proofs.LinkedLaws.{at-alpha, at-long, at-end}
+use Rattle.links.proofs.SoundLaws.{form-most}
+use Rattle.links.proofs.ChainLaws.{cost-least, cost-one}
+use Rattle.links.proofs.LinkedLaws.{at-alpha, at-long, at-end}
 use Rattle.entries.specs.InPlace.{isDescriptor, isTable, inPlaceAt, inPlace}
 use Rattle.entries.specs.Entry.{tableOf, entryAt, entryFound, find, tableIsNew, need}
 use Rattle.entries.specs.Through.{Through}

@@ -16,7 +16,7 @@ use Rattle.entries.specs.Naming.{Naming, tableNamings, tablesNamings, ph
 use Rattle.entries.specs.declared.find.Found.the-variants.{Misplaced, Entry}
 use Rattle.entries.proofs.EntryLaws.{placed-below}
 use Rattle.entries.proofs.CheckLaws.{fault-later, fault-here}
-use Rattle.chains.proofs.SharedLaws.{shared-number, Below}
+use Rattle.links.proofs.SharedLaws.{shared-number, Below}
 use lib.ListN.{length}
 
 -- a descriptor whose region lies below b, with its own tables in layout 1

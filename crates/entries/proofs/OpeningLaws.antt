@@ -15,9 +15,9 @@ use Rattle.blocks.specs.Descriptor.{tableCount, cost, costOf, noDescriptor}
 use Rattle.chains.specs.Chain.{chain, descriptors}
 use Rattle.blocks.specs.declared.descriptor.Descriptor.{Descriptor}
 use Rattle.blocks.proofs.BoolLaws.{no, or-assoc, or-nil}
-use Rattle.chains.proofs.SoundLaws.{form-layout}
-use Rattle.chains.proofs.ChainLaws.{cost-least, cost-one}
-use Rattle.chains.proofs.LinkedLaws.{at-alpha, at-cost, at-long, at-end}
+use Rattle.links.proofs.SoundLaws.{form-layout}
+use Rattle.links.proofs.ChainLaws.{cost-least, cost-one}
+use Rattle.links.proofs.LinkedLaws.{at-alpha, at-cost, at-long, at-end}
 use Rattle.entries.specs.InPlace.{isDescriptor, isTable}
 use Rattle.entries.specs.Through.{Through}
 use Rattle.entries.specs.Naming.{among, tablesNamings, phiNamings, namings, checkOne}

@@ -19,7 +19,7 @@ use Rattle.entries.specs.Through.{WriteReady, Through}
 use Rattle.entries.specs.Entry.{tableIsNew, need, setInTable, setInNewTable, writing, find, tailWith}
 use Rattle.entries.specs.declared.find.Found.the-variants.{Entry, Misplaced}
 use Rattle.chains.specs.Chain.{chain, descriptors}
-use Rattle.chains.proofs.ChainLaws.{cost-least}
+use Rattle.links.proofs.ChainLaws.{cost-least}
 use Rattle.entries.specs.declared.find.Found.{Found}
 use Rattle.entries.proofs.EntryLaws.{through-beta, through-end, through-volume, found-table, found-entry, need-more}
 use Rattle.blocks.proofs.Tests.{and-right}

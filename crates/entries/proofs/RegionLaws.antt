@@ -12,7 +12,7 @@ use Rattle.blocks.specs.Descriptor.{tableCount, cost, costOf, noDescriptor, des
 use Rattle.chains.specs.Chain.{Sound, chain, descriptors, ends, startsOf}
 use Rattle.blocks.specs.declared.descriptor.Descriptor.{Descriptor}
 use Rattle.blocks.proofs.BoolLaws.{or-nil, and-false-mid}
-use Rattle.chains.proofs.LinkedLaws.{Linked, last, more, chain-linked, sound-alpha, sound-cost, sound-long, sound-next, regionStart, region-start-zero, region-start-suc, region-start-listed, linked-rise, RegionAt, linked-at, at-cost, starts-long, regions-sound}
+use Rattle.links.proofs.LinkedLaws.{Linked, last, more, chain-linked, sound-alpha, sound-cost, sound-long, sound-next, regionStart, region-start-zero, region-start-suc, region-start-listed, linked-rise, RegionAt, linked-at, at-cost, starts-long, regions-sound}
 use Rattle.entries.specs.InPlace.{isDescriptor, isTable, inPlace, regionOf, inPlaceAt}
 use Rattle.entries.specs.Through.{RisingRegions, Through}
 

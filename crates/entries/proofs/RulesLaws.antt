@@ -18,7 +18,7 @@ use Rattle.blocks.specs.Pick.{pick}
 use Rattle.blocks.specs.Bytes.{blockAt}
 use Rattle.blocks.proofs.BoolLaws.{no}
 use Rattle.entries.proofs.EntryLaws.{placed-below}
-use Rattle.chains.proofs.SharedLaws.{shared-number, Below}
+use Rattle.links.proofs.SharedLaws.{shared-number, Below}
 use Rattle.entries.proofs.LocalLaws.{Region, local-entry, local-phi, local-table}
 use Rattle.entries.proofs.TableLaws.{table-two, under, table-own, table-phi, layout-two}
 

@@ -17,7 +17,7 @@ use lib.ListN.{length}
 use Rattle.blocks.specs.Bytes.{u32At, blockAt}
 use Rattle.blocks.proofs.ByteLaws.{u32-part, number-of}
 use Rattle.blocks.proofs.DescriptorLaws.{Fits, tail-length}
-use Rattle.chains.proofs.StoredLaws.{stored-bytes, block-tail, tail-part}
+use Rattle.links.proofs.StoredLaws.{stored-bytes, block-tail, tail-part}
 
 -- fewer descriptors: what is in place stays in place
 module _ (v w : Descriptor) (ys : List Descriptor) (alpha : w .alpha ≡ v .alpha) (layout : w .layout ≡ v .layout) (volume : w .volume ≡ v .volume) (p : ℕ) where

@@ -10,7 +10,7 @@ use calls::list::SHEET_RECORDS;
 use checking::check;
 use cutter::line::Line;
 use cutter::line::SheetCall;
-use reading::list;
+use listing::list;
 use reading::read;
 use reams::ream;
 use reverts::revert;

@@ -1,7 +1,7 @@
 -- `descriptor_of` meets its contract: layout and L are one for all descriptors, and the regions say the rest.
 use native.Mathlib.Omega.{arith}
 use borrow.Author.Needs.{needs}
-use Rattle.chains.proofs.LinkedLaws.{found-inside, found-descriptor}
+use Rattle.links.proofs.LinkedLaws.{found-inside, found-descriptor}
 use Rattle.indexing.proofs.index.descriptor_of.Statement.{statement}
 use Rattle.indexing.proofs.index.descriptor_of.Tie as tie
 

@@ -1,6 +1,6 @@
 -- `is_called` meets its contract: the bytes are those of the descriptor's name.
 use borrow.Author.Needs.{needs}
-use Rattle.chains.proofs.SoundLaws.{called-at}
+use Rattle.links.proofs.SoundLaws.{called-at}
 use Rattle.walking.proofs.chain.is_called.Statement.{statement}
 use Rattle.walking.proofs.chain.is_called.Tie as tie
 

@@ -1,5 +1,5 @@
 -- `is_formed` meets its contract, test by test.
-use Rattle.chains.proofs.SoundLaws.{form-unmarked, form-layout-low, form-layout-high, form-no-volume, form-large-volume, form-unnamed, form-reserved, form-layout-2, form-layout-1}
+use Rattle.links.proofs.SoundLaws.{form-unmarked, form-layout-low, form-layout-high, form-no-volume, form-large-volume, form-unnamed, form-reserved, form-layout-2, form-layout-1}
 use borrow.Author.Needs.{needs}
 use Rattle.walking.proofs.chain.is_formed.Statement.{statement}
 use Rattle.walking.proofs.chain.is_formed.Tie as tie

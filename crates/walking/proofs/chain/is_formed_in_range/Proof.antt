@@ -1,5 +1,5 @@
 -- `is_formed_in_range` meets its contract, test by test.
-use Rattle.chains.proofs.SoundLaws.{form-unmarked, form-unnamed, form-reserved, form-layout-2, form-layout-1}
+use Rattle.links.proofs.SoundLaws.{form-unmarked, form-unnamed, form-reserved, form-layout-2, form-layout-1}
 use borrow.Author.Needs.{needs}
 use Rattle.walking.proofs.chain.is_formed_in_range.Statement.{statement}
 use Rattle.walking.proofs.chain.is_formed_in_range.Tie as tie

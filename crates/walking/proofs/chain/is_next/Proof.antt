@@ -8,8 +8,8 @@ use borrow.Author.Needs.{needs}
 use borrow.Author.Tests.{eqb-true, not-true, not-false}
 use Rattle.chains.specs.Chain.{formOk}
 use Rattle.blocks.proofs.BoolLaws.{no, and-true, and-false}
-use Rattle.chains.proofs.ChainLaws.{region-layout, region-volume}
-use Rattle.chains.proofs.SoundLaws.{form-layout, form-least, form-most}
+use Rattle.links.proofs.ChainLaws.{region-layout, region-volume}
+use Rattle.links.proofs.SoundLaws.{form-layout, form-least, form-most}
 use Rattle.walking.proofs.chain.is_next.Statement.{statement}
 use Rattle.walking.proofs.chain.is_next.Tie as tie
 

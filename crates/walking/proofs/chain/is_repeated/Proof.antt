@@ -1,6 +1,6 @@
 -- `is_repeated` meets its contract: where the hash of the name has no flag, no name passed has that hash.
 use borrow.Author.Needs.{needs}
-use Rattle.chains.proofs.ChainLaws.{hash-fresh}
+use Rattle.links.proofs.ChainLaws.{hash-fresh}
 use Rattle.walking.proofs.chain.is_repeated.Statement.{statement}
 use Rattle.walking.proofs.chain.is_repeated.Tie as tie
 

@@ -10,7 +10,7 @@ use borrow.Author.Tests.{not-false}
 use Rattle.chains.specs.Chain.{formOk, regionOk}
 use Rattle.blocks.specs.Descriptor.{descriptorAt}
 use Rattle.chains.specs.Walk.{Hashed}
-use Rattle.chains.proofs.ChainLaws.{Walked, walk-none, walked-here, walked-passed, walked-name, walk-out, walk-wrong, walk-repeated, walk-end, walked-next, walked-more, hashed-more, hashed-starts, first-wrong, first-end, first-next, first-more, first-hashed}
+use Rattle.links.proofs.ChainLaws.{Walked, walk-none, walked-here, walked-passed, walked-name, walk-out, walk-wrong, walk-repeated, walk-end, walked-next, walked-more, hashed-more, hashed-starts, first-wrong, first-end, first-next, first-more, first-hashed}
 use Rattle.blocks.proofs.Tests.{and-left}
 use Rattle.walking.proofs.chain.walk_chain.Statement.{statement}
 use Rattle.walking.proofs.chain.walk_chain.Tie as tie

@@ -57,18 +57,18 @@ use Rattle.calls.proofs.list.Plan as P
 use Rattle.calls.proofs.list.Plan.Laws as P′
 use Rattle.calls.proofs.answer.Answer as N
 use Rattle.calls.proofs.answer.Answer.Laws as N′
-use Rattle.reading.proofs.list.make_plan as make-plan
-use Rattle.reading.proofs.list.make_plan.Symbol as make-plan-def
-use Rattle.reading.proofs.list.make_plan.Symbol.{name as #reading·make-plan}
-use Rattle.reading.proofs.list.make_plan.Met as make-plan-thm
-use Rattle.reading.proofs.list.fill as fill
-use Rattle.reading.proofs.list.fill.Symbol as fill-def
-use Rattle.reading.proofs.list.fill.Symbol.{name as #reading·fill}
-use Rattle.reading.proofs.list.fill.Met as fill-thm
-use Rattle.reading.proofs.list.list.Key.{name as #reading·list}
-use Rattle.reading.proofs.list.list as list
-use Rattle.reading.proofs.list.list.Statement as stated
-use Rattle.reading.proofs.list.list.Code as code
+use Rattle.listing.proofs.list.make_plan as make-plan
+use Rattle.listing.proofs.list.make_plan.Symbol as make-plan-def
+use Rattle.listing.proofs.list.make_plan.Symbol.{name as #listing·make-plan}
+use Rattle.listing.proofs.list.make_plan.Met as make-plan-thm
+use Rattle.listing.proofs.list.fill as fill
+use Rattle.listing.proofs.list.fill.Symbol as fill-def
+use Rattle.listing.proofs.list.fill.Symbol.{name as #listing·fill}
+use Rattle.listing.proofs.list.fill.Met as fill-thm
+use Rattle.listing.proofs.list.list.Key.{name as #listing·list}
+use Rattle.listing.proofs.list.list as list
+use Rattle.listing.proofs.list.list.Statement as stated
+use Rattle.listing.proofs.list.list.Code as code
 
 abbrev R : RattleType
 R = T.the-row
@@ -170,7 +170,7 @@ module _ {M : Type 1} (𝓤 : URA M) (H : Heap 𝓤) (A : Atoms 𝓤) (W : Given
       nothing ! $ move ! (1 ∷ 0 ∷ []) $ fjoin ! $ move ! (1 ∷ 0 ∷ []) $ fjoin ! $ frame ! $
       owned ! N.the-row (Is N.the-row) (LL.makes N.the-type N′.the-plain 𝓤 H A) n (v ∷ []) n-is $ done !
 
-  module _ (C : Calls 𝓤 H) (Λ : Loops 𝓤 H) (fm : FmC 𝓤 H (W .laws) C) (known-plan : Triple 𝓤 (C #reading·make-plan) (MakePlan 𝓤 H A mem run)) (known-fill : Triple 𝓤 (C #reading·fill) (Fill 𝓤 H A mem run)) where
+  module _ (C : Calls 𝓤 H) (Λ : Loops 𝓤 H) (fm : FmC 𝓤 H (W .laws) C) (known-plan : Triple 𝓤 (C #listing·make-plan) (MakePlan 𝓤 H A mem run)) (known-fill : Triple 𝓤 (C #listing·fill) (Fill 𝓤 H A mem run)) where
     abbrev starts-ty : Ty
     starts-ty = sliceTy (tyRef erased imm (tyInt w32))
 
@@ -258,7 +258,7 @@ module _ {M : Type 1} (𝓤 : URA M) (H : Heap 𝓤) (A : Atoms 𝓤) (W : Given
         by ! (exits l (r .answer) _ (fields .0) len (plan-done (now x) ys l r (e ys refl) e₁)))))))))))))))))))))))))))
 
 module _ {M : Type 1} (𝓤 : URA M) (H : Heap 𝓤) (A : Atoms 𝓤) (W : Given 𝓤 H A) (mem : Memory → SProp 𝓤) (run : Routine → Fun 𝓤) where
-  list-walks : (C : Calls 𝓤 H) (Λ : Loops 𝓤 H) → FmC 𝓤 H (W .laws) C → Triple 𝓤 (C #reading·make-plan) (MakePlan 𝓤 H A mem run) → Triple 𝓤 (C #reading·fill) (Fill 𝓤 H A mem run)
+  list-walks : (C : Calls 𝓤 H) (Λ : Loops 𝓤 H) → FmC 𝓤 H (W .laws) C → Triple 𝓤 (C #listing·make-plan) (MakePlan 𝓤 H A mem run) → Triple 𝓤 (C #listing·fill) (Fill 𝓤 H A mem run)
       → Walks 𝓤 H A list.ended stayed (WpFn 𝓤 H C Λ code.function) (list.clauses 𝓤 H A mem run)
   list-walks C Λ fm known-plan known-fill = walked 𝓤 H A list.ended stayed (list.clauses 𝓤 H A mem run) (WpFn 𝓤 H C Λ code.function)
       (λ κs. (slice-vals, (slice-vals, tt))) (λ κs. (shr-slice-tells (named 0) (κs .0) u8, (mut-slice-tells (named 1) (κs .1 .0) R, tt)))
@@ -266,7 +266,7 @@ module _ {M : Type 1} (𝓤 : URA M) (H : Heap 𝓤) (A : Atoms 𝓤) (W : Given
       (walk 𝓤 H A W mem run (κs .0) (κs .1 .0) (qs .0) (qs .1 .0) (a .0) (a .1 .0 .ptr .0) (a .1 .0 .ptr .1) (a .1 .0 .name) (a .1 .0 .now) (are .0 .0 .1 .0) (are .1 .0 .0 .1) C Λ fm known-plan known-fill))
 
 list-meets : {M : Type 1} (𝓤 : URA M) (H : Heap 𝓤) (A : Atoms 𝓤) → Given 𝓤 H A → (mem : Memory → SProp 𝓤) (run : Routine → Fun 𝓤) (𝓣 : Tables 𝓤 H)
-    → Triple 𝓤 (𝓣 .C #reading·make-plan) (MakePlan 𝓤 H A mem run) → Triple 𝓤 (𝓣 .C #reading·fill) (Fill 𝓤 H A mem run)
+    → Triple 𝓤 (𝓣 .C #listing·make-plan) (MakePlan 𝓤 H A mem run) → Triple 𝓤 (𝓣 .C #listing·fill) (Fill 𝓤 H A mem run)
     → Meets 𝓤 H A list.signature (WpFn 𝓤 H (𝓣 .C) (𝓣 .Λ) code.function) (list.spec 𝓤 H A mem run)
 list-meets 𝓤 H A W mem run 𝓣 known-plan known-fill =
     walk-meets 𝓤 H A list.ended stayed W (goes-none-slice 𝓤 H A W 2 (0 ∷ []) tt (plain (λ _. u8)) yes, (goes-gave-slice 𝓤 H A W 2 1 tt (plain (λ _. R)), tt)) (list.clauses 𝓤 H A mem run)
@@ -276,7 +276,7 @@ pub list-spec : {M : Type 1} → stated.statement M
 unfolding code.routine tablesOf
 list-spec 𝓤 H 𝓜 𝓖 𝓡 =
     entered 𝓤 H (tripleOf 𝓤 H (𝓖 .A) list.signature (list.spec 𝓤 H (𝓖 .A) (𝓜 .mem) (𝓡 .run)))
-    (tables 𝓤 H 𝓜 𝓡 code.env .C) (tables 𝓤 H 𝓜 𝓡 code.env .Λ) #reading·list code.function (code.unfolded 𝓤 H 𝓜 𝓡)
+    (tables 𝓤 H 𝓜 𝓡 code.env .C) (tables 𝓤 H 𝓜 𝓡 code.env .Λ) #listing·list code.function (code.unfolded 𝓤 H 𝓜 𝓡)
     (list-meets 𝓤 H (𝓖 .A) (givenOf 𝓤 H 𝓜 𝓖) (𝓜 .mem) (𝓡 .run) (tablesOf 𝓤 H 𝓜 (tables 𝓤 H 𝓜 𝓡 code.env))
-    (cited 𝓤 H (MakePlan 𝓤 H (𝓖 .A) (𝓜 .mem) (𝓡 .run)) 𝓜 𝓡 code.env #reading·make-plan make-plan-def.routine code.calls-reading·list·make-plan (make-plan-thm.met 𝓤 H 𝓜 𝓖 𝓡))
-    (cited 𝓤 H (Fill 𝓤 H (𝓖 .A) (𝓜 .mem) (𝓡 .run)) 𝓜 𝓡 code.env #reading·fill fill-def.routine code.calls-reading·list·fill (fill-thm.met 𝓤 H 𝓜 𝓖 𝓡)))
+    (cited 𝓤 H (MakePlan 𝓤 H (𝓖 .A) (𝓜 .mem) (𝓡 .run)) 𝓜 𝓡 code.env #listing·make-plan make-plan-def.routine code.calls-listing·list·make-plan (make-plan-thm.met 𝓤 H 𝓜 𝓖 𝓡))
+    (cited 𝓤 H (Fill 𝓤 H (𝓖 .A) (𝓜 .mem) (𝓡 .run)) 𝓜 𝓡 code.env #listing·fill fill-def.routine code.calls-listing·list·fill (fill-thm.met 𝓤 H 𝓜 𝓖 𝓡)))

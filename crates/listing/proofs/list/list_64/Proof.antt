@@ -55,17 +55,17 @@ use Rattle.calls.proofs.answer.Record as T
 use Rattle.calls.proofs.answer.Record.Laws as T′
 use Rattle.calls.proofs.answer.Answer as N
 use Rattle.calls.proofs.answer.Answer.Laws as N′
-use Rattle.reading.specs.declared.list.List64.{List64}
-use Rattle.reading.proofs.list.List64 as L
-use Rattle.reading.proofs.list.List64.Laws as L′
-use Rattle.reading.proofs.list.list as list
-use Rattle.reading.proofs.list.list.Symbol as list-def
-use Rattle.reading.proofs.list.list.Symbol.{name as #reading·list}
-use Rattle.reading.proofs.list.list.Met as list-thm
-use Rattle.reading.proofs.list.list_64.Key.{name as #reading·list-64}
-use Rattle.reading.proofs.list.list_64 as list-64
-use Rattle.reading.proofs.list.list_64.Statement as stated
-use Rattle.reading.proofs.list.list_64.Code as code
+use Rattle.listing.specs.declared.list.List64.{List64}
+use Rattle.listing.proofs.list.List64 as L
+use Rattle.listing.proofs.list.List64.Laws as L′
+use Rattle.listing.proofs.list.list as list
+use Rattle.listing.proofs.list.list.Symbol as list-def
+use Rattle.listing.proofs.list.list.Symbol.{name as #listing·list}
+use Rattle.listing.proofs.list.list.Met as list-thm
+use Rattle.listing.proofs.list.list_64.Key.{name as #listing·list-64}
+use Rattle.listing.proofs.list.list_64 as list-64
+use Rattle.listing.proofs.list.list_64.Statement as stated
+use Rattle.listing.proofs.list.list_64.Code as code
 
 abbrev R : RattleType
 R = T.the-row
@@ -158,7 +158,7 @@ module _ {M : Type 1} (𝓤 : URA M) (H : Heap 𝓤) (A : Atoms 𝓤) (W : Given
       nothing ! $ nothing ! $ fjoin ! $ move ! (1 ∷ 0 ∷ []) $ fjoin ! $ frame ! $
       owned ! L.the-row (Is L.the-row) (LL.makes L.the-type L′.the-plain 𝓤 H A) (made n l) (packed v l ∷ []) (made-is n v l n-is l-is) $ done !
 
-  module _ (C : Calls 𝓤 H) (Λ : Loops 𝓤 H) (fm : FmC 𝓤 H (W .laws) C) (known : Triple 𝓤 (C #reading·list) (Lists 𝓤 H A at-mem run)) where
+  module _ (C : Calls 𝓤 H) (Λ : Loops 𝓤 H) (fm : FmC 𝓤 H (W .laws) C) (known : Triple 𝓤 (C #listing·list) (Lists 𝓤 H A at-mem run)) where
     abbrev slice-ty : Ty
     slice-ty = sliceTy (tyRef erased mut (pointee (R .written)))
 
@@ -216,14 +216,14 @@ module _ {M : Type 1} (𝓤 : URA M) (H : Heap 𝓤) (A : Atoms 𝓤) (W : Given
         move ! (1 ∷ 0 ∷ []) $ join ! $ by ! (exits l r w r-is l-is e)))))))))))))))))))
 
 module _ {M : Type 1} (𝓤 : URA M) (H : Heap 𝓤) (A : Atoms 𝓤) (W : Given 𝓤 H A) (at-mem : Memory → SProp 𝓤) (run : Routine → Fun 𝓤) where
-  list-64-walks : (C : Calls 𝓤 H) (Λ : Loops 𝓤 H) → FmC 𝓤 H (W .laws) C → Triple 𝓤 (C #reading·list) (Lists 𝓤 H A at-mem run)
+  list-64-walks : (C : Calls 𝓤 H) (Λ : Loops 𝓤 H) → FmC 𝓤 H (W .laws) C → Triple 𝓤 (C #listing·list) (Lists 𝓤 H A at-mem run)
       → Walks 𝓤 H A list-64.ended stayed (WpFn 𝓤 H C Λ code.function) (list-64.clauses 𝓤 H A at-mem run)
   list-64-walks C Λ fm known = walked 𝓤 H A list-64.ended stayed (list-64.clauses 𝓤 H A at-mem run) (WpFn 𝓤 H C Λ code.function)
       (λ κs. (slice-vals, (avals, tt))) (λ κs. (shr-slice-tells (named 0) (κs .0) u8, (array-tells R vals (LL.tells T.the-type T′.the-laws) 64, tt)))
       (λ κs qs bounds a g are. via 𝓤 _ (fst∗ 𝓤 _ (emp 𝓤)) (walk 𝓤 H A W at-mem run (κs .0) (qs .0) (a .0) (a .1 .0) (are .0 .0 .1 .0) (are .1 .0) C Λ fm known))
 
 list-64-meets : {M : Type 1} (𝓤 : URA M) (H : Heap 𝓤) (A : Atoms 𝓤) → Given 𝓤 H A → (at-mem : Memory → SProp 𝓤) (run : Routine → Fun 𝓤) (𝓣 : Tables 𝓤 H)
-    → Triple 𝓤 (𝓣 .C #reading·list) (Lists 𝓤 H A at-mem run)
+    → Triple 𝓤 (𝓣 .C #listing·list) (Lists 𝓤 H A at-mem run)
     → Meets 𝓤 H A list-64.signature (WpFn 𝓤 H (𝓣 .C) (𝓣 .Λ) code.function) (list-64.spec 𝓤 H A at-mem run)
 list-64-meets 𝓤 H A W at-mem run 𝓣 known =
     walk-meets 𝓤 H A list-64.ended stayed W (goes-none-slice 𝓤 H A W 1 (0 ∷ []) tt (plain (λ _. u8)) yes, (goes-dropped 𝓤 H A W 1 (arrayOf (plain (λ _. R)) 64) yes (λ κs x f. refl), tt))
@@ -234,6 +234,6 @@ pub list-64-spec : {M : Type 1} → stated.statement M
 unfolding code.routine tablesOf
 list-64-spec 𝓤 H 𝓜 𝓖 𝓡 =
     entered 𝓤 H (tripleOf 𝓤 H (𝓖 .A) list-64.signature (list-64.spec 𝓤 H (𝓖 .A) (𝓜 .mem) (𝓡 .run)))
-    (tables 𝓤 H 𝓜 𝓡 code.env .C) (tables 𝓤 H 𝓜 𝓡 code.env .Λ) #reading·list-64 code.function (code.unfolded 𝓤 H 𝓜 𝓡)
+    (tables 𝓤 H 𝓜 𝓡 code.env .C) (tables 𝓤 H 𝓜 𝓡 code.env .Λ) #listing·list-64 code.function (code.unfolded 𝓤 H 𝓜 𝓡)
     (list-64-meets 𝓤 H (𝓖 .A) (givenOf 𝓤 H 𝓜 𝓖) (𝓜 .mem) (𝓡 .run) (tablesOf 𝓤 H 𝓜 (tables 𝓤 H 𝓜 𝓡 code.env))
-    (cited 𝓤 H (Lists 𝓤 H (𝓖 .A) (𝓜 .mem) (𝓡 .run)) 𝓜 𝓡 code.env #reading·list list-def.routine code.calls-reading·list·list (list-thm.met 𝓤 H 𝓜 𝓖 𝓡)))
+    (cited 𝓤 H (Lists 𝓤 H (𝓖 .A) (𝓜 .mem) (𝓡 .run)) 𝓜 𝓡 code.env #listing·list list-def.routine code.calls-listing·list·list (list-thm.met 𝓤 H 𝓜 𝓖 𝓡)))

@@ -1,8 +1,8 @@
 -- `make_plan` meets its contract, with what the walk found.
 use borrow.Author.Needs.{needs}
 use Rattle.calls.proofs.ListingLaws.{plan-told}
-use Rattle.reading.proofs.list.make_plan.Statement.{statement}
-use Rattle.reading.proofs.list.make_plan.Tie as tie
+use Rattle.listing.proofs.list.make_plan.Statement.{statement}
+use Rattle.listing.proofs.list.make_plan.Tie as tie
 
 walk-chain-requires : tie.Need-walk-chain-requires
 walk-chain-requires c κs = search needs

@@ -11,15 +11,15 @@ use borrow.Author.Tests.{eqb-true, eqb-false}
 use Rattle.blocks.specs.Bytes.{part, blockCount, blockAt}
 use Rattle.blocks.specs.Name.{isName}
 use Rattle.blocks.specs.Descriptor.{costOf, descriptorAt, descriptorBlock, reservedOk, phiOk}
 use Rattle.chains.specs.Chain.{named, sound, Sound, chain}
 use Rattle.blocks.specs.declared.descriptor.Descriptor.{Descriptor}
 use Rattle.blocks.proofs.DescriptorLaws.{Fits}
-use Rattle.chains.proofs.ChainLaws.{region-layout, region-volume}
-use Rattle.chains.proofs.LinkedLaws.{last, chain-linked}
-use Rattle.chains.proofs.SharedLaws.{linked-chain, shared-descriptor}
-use Rattle.chains.proofs.RelinkedLaws.{relinked}
-use Rattle.chains.proofs.StoredLaws.{stored-descriptor, stored-form, region-ok}
-use Rattle.chains.proofs.MemberLaws.{member-region, member-form, member-inside}
+use Rattle.links.proofs.ChainLaws.{region-layout, region-volume}
+use Rattle.links.proofs.LinkedLaws.{last, chain-linked}
+use Rattle.links.proofs.SharedLaws.{linked-chain, shared-descriptor}
+use Rattle.links.proofs.RelinkedLaws.{relinked}
+use Rattle.links.proofs.StoredLaws.{stored-descriptor, stored-form, region-ok}
+use Rattle.links.proofs.MemberLaws.{member-region, member-form, member-inside}
 
 -- a descriptor of a chain, by its place in the list
 module _ (s : List ℕ) (ds xs : List Descriptor) (d : Descriptor) (ys : List Descriptor) (sound-s : chain s ≡ Sound ds) (split : ds ≡ xs ++ (d ∷ ys)) where

@@ -55,15 +55,15 @@ use Rattle.calls.specs.declared.answer.Record.{Record}
 use Rattle.calls.proofs.ListingLaws.{Ready, filled-more, filled-all, length-filled}
 use Rattle.calls.proofs.answer.Record as T
 use Rattle.calls.proofs.answer.Record.Laws as T′
-use Rattle.reading.proofs.list.record_of as record-of
-use Rattle.reading.proofs.list.record_of.Symbol as record-of-def
-use Rattle.reading.proofs.list.record_of.Symbol.{name as #reading·record-of}
-use Rattle.reading.proofs.list.record_of.Met as record-of-thm
-use Rattle.reading.proofs.list.fill.Key.{name as #reading·fill}
-use Rattle.reading.proofs.list.fill as fill′
-use Rattle.reading.proofs.list.fill.Statement as stated
-use Rattle.reading.proofs.list.fill.Code as code
-use Rattle.reading.proofs.list.fill.Code.Mir as mir′
+use Rattle.listing.proofs.list.record_of as record-of
+use Rattle.listing.proofs.list.record_of.Symbol as record-of-def
+use Rattle.listing.proofs.list.record_of.Symbol.{name as #listing·record-of}
+use Rattle.listing.proofs.list.record_of.Met as record-of-thm
+use Rattle.listing.proofs.list.fill.Key.{name as #listing·fill}
+use Rattle.listing.proofs.list.fill as fill′
+use Rattle.listing.proofs.list.fill.Statement as stated
+use Rattle.listing.proofs.list.fill.Code as code
+use Rattle.listing.proofs.list.fill.Code.Mir as mir′
 
 abbrev R : RattleType
 R = T.the-row
@@ -158,7 +158,7 @@ module _ {M : Type 1} (𝓤 : URA M) (H : Heap 𝓤) (A : Atoms 𝓤) (W : Given
   abbrev out-ty : Ty
   out-ty = sliceTy (tyRef (named 2) mut (pointee (R .written)))
 
-  module _ (𝓣 : Tables 𝓤 H) (known : Triple 𝓤 (𝓣 .C #reading·record-of) (RecordOf 𝓤 H A mem run)) (l₀ l₁ l₂ l₃ l₄ l₅ l₆ l₇ l₈ l₉ : ℕ) where
+  module _ (𝓣 : Tables 𝓤 H) (known : Triple 𝓤 (𝓣 .C #listing·record-of) (RecordOf 𝓤 H A mem run)) (l₀ l₁ l₂ l₃ l₄ l₅ l₆ l₇ l₈ l₉ : ℕ) where
     abbrev C : Calls 𝓤 H
     C = 𝓣 .C
 
@@ -243,7 +243,7 @@ module _ {M : Type 1} (𝓤 : URA M) (H : Heap 𝓤) (A : Atoms 𝓤) (W : Given
     turns i = turn-by i (ltb (i .0) n) refl
 
   -- the MIR up to the loop
-  walk : (𝓣 : Tables 𝓤 H) → Triple 𝓤 (𝓣 .C #reading·record-of) (RecordOf 𝓤 H A mem run) → ent 𝓤 (onEntry 𝓤 H A fill′.signature (κ, (κ₁, (κ₂, tt))) (q, (q₁, (q₂, tt))) a at)
+  walk : (𝓣 : Tables 𝓤 H) → Triple 𝓤 (𝓣 .C #listing·record-of) (RecordOf 𝓤 H A mem run) → ent 𝓤 (onEntry 𝓤 H A fill′.signature (κ, (κ₁, (κ₂, tt))) (q, (q₁, (q₂, tt))) a at)
       (WpFn 𝓤 H (𝓣 .C) (𝓣 .Λ) code.function (sliceVal (x .ptr) (length (now x)) ∷ sliceVal (s .ptr) (length (now s)) ∷ sliceVal (b, o) (length ys) ∷ vint w64 n ∷ []) Post)
   unfolding filledTo
   walk 𝓣 known =
@@ -260,7 +260,7 @@ module _ {M : Type 1} (𝓤 : URA M) (H : Heap 𝓤) (A : Atoms 𝓤) (W : Given
       first ! $ blocks ! $ loops ! 𝓣 Nearer Nearer-wf (At 𝓣 known l₀ l₁ l₂ l₃ l₄ l₅ l₆ l₇ l₈ l₉) (turns 𝓣 known l₀ l₁ l₂ l₃ l₄ l₅ l₆ l₇ l₈ l₉) (0, zero-le)))))))))))
 
 module _ {M : Type 1} (𝓤 : URA M) (H : Heap 𝓤) (A : Atoms 𝓤) (W : Given 𝓤 H A) (mem : Memory → SProp 𝓤) (run : Routine → Fun 𝓤) where
-  fill-walks : (𝓣 : Tables 𝓤 H) → Triple 𝓤 (𝓣 .C #reading·record-of) (RecordOf 𝓤 H A mem run) → Walks 𝓤 H A fill′.ended stayed (WpFn 𝓤 H (𝓣 .C) (𝓣 .Λ) code.function) (fill′.clauses 𝓤 H A mem run)
+  fill-walks : (𝓣 : Tables 𝓤 H) → Triple 𝓤 (𝓣 .C #listing·record-of) (RecordOf 𝓤 H A mem run) → Walks 𝓤 H A fill′.ended stayed (WpFn 𝓤 H (𝓣 .C) (𝓣 .Λ) code.function) (fill′.clauses 𝓤 H A mem run)
   fill-walks 𝓣 known = walked 𝓤 H A fill′.ended stayed (fill′.clauses 𝓤 H A mem run) (WpFn 𝓤 H (𝓣 .C) (𝓣 .Λ) code.function)
       (λ κs. (slice-vals, (slice-vals, (slice-vals, (uint-vals w64, tt)))))
       (λ κs. (shr-slice-tells (named 0) (κs .0) u8, (shr-slice-tells (named 1) (κs .1 .0) u32, (mut-slice-tells (named 2) (κs .1 .1 .0) R, (uint-tells w64, tt)))))
@@ -268,7 +268,7 @@ module _ {M : Type 1} (𝓤 : URA M) (H : Heap 𝓤) (A : Atoms 𝓤) (W : Given
       walk 𝓤 H A W mem run (κs .0) (κs .1 .0) (κs .1 .1 .0) (qs .0) (qs .1 .0) (qs .1 .1 .0) (a .0) (a .1 .0) (a .1 .1 .0 .ptr .0) (a .1 .1 .0 .ptr .1) (a .1 .1 .0 .name) (a .1 .1 .0 .now) (a .1 .1 .1 .0)
       (are .0 .0 .1 .0) (are .1 .0 .0 .1 .0) (are .1 .1 .0 .0 .1) (are .1 .1 .1 .0 .1) ready 𝓣 known))
 
-fill-meets : {M : Type 1} (𝓤 : URA M) (H : Heap 𝓤) (A : Atoms 𝓤) → Given 𝓤 H A → (mem : Memory → SProp 𝓤) (run : Routine → Fun 𝓤) (𝓣 : Tables 𝓤 H) → Triple 𝓤 (𝓣 .C #reading·record-of) (RecordOf 𝓤 H A mem run)
+fill-meets : {M : Type 1} (𝓤 : URA M) (H : Heap 𝓤) (A : Atoms 𝓤) → Given 𝓤 H A → (mem : Memory → SProp 𝓤) (run : Routine → Fun 𝓤) (𝓣 : Tables 𝓤 H) → Triple 𝓤 (𝓣 .C #listing·record-of) (RecordOf 𝓤 H A mem run)
     → Meets 𝓤 H A fill′.signature (WpFn 𝓤 H (𝓣 .C) (𝓣 .Λ) code.function) (fill′.spec 𝓤 H A mem run)
 fill-meets 𝓤 H A W mem run 𝓣 known =
     walk-meets 𝓤 H A fill′.ended stayed W (
@@ -284,6 +284,6 @@ pub fill-spec : {M : Type 1} → stated.statement M
 unfolding code.routine tablesOf
 fill-spec 𝓤 H 𝓜 𝓖 𝓡 =
     entered 𝓤 H (tripleOf 𝓤 H (𝓖 .A) fill′.signature (fill′.spec 𝓤 H (𝓖 .A) (𝓜 .mem) (𝓡 .run)))
-    (tables 𝓤 H 𝓜 𝓡 code.env .C) (tables 𝓤 H 𝓜 𝓡 code.env .Λ) #reading·fill code.function (code.unfolded 𝓤 H 𝓜 𝓡)
+    (tables 𝓤 H 𝓜 𝓡 code.env .C) (tables 𝓤 H 𝓜 𝓡 code.env .Λ) #listing·fill code.function (code.unfolded 𝓤 H 𝓜 𝓡)
     (fill-meets 𝓤 H (𝓖 .A) (givenOf 𝓤 H 𝓜 𝓖) (𝓜 .mem) (𝓡 .run) (tablesOf 𝓤 H 𝓜 (tables 𝓤 H 𝓜 𝓡 code.env))
-    (cited 𝓤 H (RecordOf 𝓤 H (𝓖 .A) (𝓜 .mem) (𝓡 .run)) 𝓜 𝓡 code.env #reading·record-of record-of-def.routine code.calls-reading·list·record-of (record-of-thm.met 𝓤 H 𝓜 𝓖 𝓡)))
+    (cited 𝓤 H (RecordOf 𝓤 H (𝓖 .A) (𝓜 .mem) (𝓡 .run)) 𝓜 𝓡 code.env #listing·record-of record-of-def.routine code.calls-listing·list·record-of (record-of-thm.met 𝓤 H 𝓜 𝓖 𝓡)))

@@ -2,8 +2,8 @@
 use native.Mathlib.Omega.{arith}
 use borrow.Author.Needs.{needs}
 use Rattle.calls.specs.Listing.{recordBy}
-use Rattle.reading.proofs.list.record_of.Statement.{statement}
-use Rattle.reading.proofs.list.record_of.Tie as tie
+use Rattle.listing.proofs.list.record_of.Statement.{statement}
+use Rattle.listing.proofs.list.record_of.Tie as tie
 
 mul-start : tie.Need-mul-start
 mul-start c = omega arith

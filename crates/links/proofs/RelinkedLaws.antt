@@ -8,11 +8,11 @@ use lib.ListN.{length, length-append}
 use lib.Seq.{append-snoc}
 use Rattle.blocks.specs.Bytes.{blockAt}
 use Rattle.blocks.specs.Descriptor.{descriptorAt}
 use Rattle.chains.specs.Chain.{sound}
 use Rattle.blocks.specs.declared.descriptor.Descriptor.{Descriptor}
-use Rattle.chains.proofs.ChainLaws.{cost-least}
-use Rattle.chains.proofs.LinkedLaws.{Linked, last, more, sound-alpha, sound-long, sound-next, linked-some}
-use Rattle.chains.proofs.SharedLaws.{shared-descriptor, shared-sound}
+use Rattle.links.proofs.ChainLaws.{cost-least}
+use Rattle.links.proofs.LinkedLaws.{Linked, last, more, sound-alpha, sound-long, sound-next, linked-some}
+use Rattle.links.proofs.SharedLaws.{shared-descriptor, shared-sound}
 
 -- where the descriptors of a chain stand
 module _ (s : List ℕ) where

@@ -6,8 +6,8 @@ use lib.ListN.{length}
 use borrow.Author.Needs.{needs}
 use Rattle.calls.specs.Listing.{recordCount}
 use Rattle.calls.proofs.ListingLaws.{countFrom, count-none, count-last, count-more, count-all}
-use Rattle.reading.proofs.list.count_records.Statement.{statement}
-use Rattle.reading.proofs.list.count_records.Tie as tie
+use Rattle.listing.proofs.list.count_records.Statement.{statement}
+use Rattle.listing.proofs.list.count_records.Tie as tie
 
 abbrev Inv-loop : tie.InvT-loop
 Inv-loop records i₀ i = (i ≤ 64) × (recordCount records ≡ countFrom records i)

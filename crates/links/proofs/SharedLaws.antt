@@ -9,11 +9,11 @@ use lib.Seq.{append-snoc}
 use borrow.Author.Tests.{ne-eqb}
 use Rattle.blocks.specs.Bytes.{u32At, part, blockCount, blockAt}
 use Rattle.blocks.specs.Descriptor.{costOf, descriptorAt}
 use Rattle.chains.specs.Chain.{formOk, regionOk, sound, Sound, chainFrom, chain}
 use Rattle.blocks.specs.declared.descriptor.Descriptor.{Descriptor}
 use Rattle.blocks.proofs.ByteLaws.{u32-part, part-part}
-use Rattle.chains.proofs.ChainLaws.{cost-least}
-use Rattle.chains.proofs.LinkedLaws.{Linked, last, more, sound-long, sound-next, regionStart, region-start-zero, region-start-suc, linked-low}
+use Rattle.links.proofs.ChainLaws.{cost-least}
+use Rattle.links.proofs.LinkedLaws.{Linked, last, more, sound-long, sound-next, regionStart, region-start-zero, region-start-suc, linked-low}
 
 -- a block that two cards share
 module _ (s t : List ℕ) (p : ℕ) (in-s : 512 * p + 512 ≤ length s) (in-t : 512 * p + 512 ≤ length t) (shared : blockAt s p ≡ blockAt t p) where

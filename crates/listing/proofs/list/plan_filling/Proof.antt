@@ -2,8 +2,8 @@
 use mathlib.Core.Path.{_∙_}
 use borrow.Author.Needs.{needs}
 use Rattle.calls.proofs.ListingLaws.{found-1, found-6, found-14, found-0}
-use Rattle.reading.proofs.list.plan_filling.Statement.{statement}
-use Rattle.reading.proofs.list.plan_filling.Tie as tie
+use Rattle.listing.proofs.list.plan_filling.Statement.{statement}
+use Rattle.listing.proofs.list.plan_filling.Tie as tie
 
 admit-requires : tie.Need-admit-requires
 admit-requires c κs = search needs

@@ -10,14 +10,14 @@ use borrow.Author.Tests.{eqb-true, not-true}
 use Rattle.blocks.specs.Bytes.{part, blockCount}
 use Rattle.blocks.specs.Name.{isName}
 use Rattle.blocks.specs.Descriptor.{costOf, descriptorAt, reservedOk, phiOk, tailAt}
 use Rattle.chains.specs.Chain.{formOk, regionOk, named, sound, Sound, chain, activeOf}
 use Rattle.blocks.specs.declared.descriptor.Descriptor.{Descriptor}
 use Rattle.blocks.proofs.Tests.{and-right}
-use Rattle.chains.proofs.ChainLaws.{region-end, region-long, cost-least}
-use Rattle.chains.proofs.LinkedLaws.{Linked, chain-linked, sound-form, sound-region, linked-rise, region-start-suc, region-start-zero, end-from, active-append}
-use Rattle.chains.proofs.RelinkedLaws.{linked-from, linked-head}
-use Rattle.chains.proofs.StoredLaws.{tail-part, form-kept, form-phi, form-name}
-use Rattle.chains.proofs.SoundLaws.{form-layout, form-most}
+use Rattle.links.proofs.ChainLaws.{region-end, region-long, cost-least}
+use Rattle.links.proofs.LinkedLaws.{Linked, chain-linked, sound-form, sound-region, linked-rise, region-start-suc, region-start-zero, end-from, active-append}
+use Rattle.links.proofs.RelinkedLaws.{linked-from, linked-head}
+use Rattle.links.proofs.StoredLaws.{tail-part, form-kept, form-phi, form-name}
+use Rattle.links.proofs.SoundLaws.{form-layout, form-most}
 
 -- a layout is small
 layout-by : (l : ℕ) (x y : Bool) → eqb l 1 ≡ x → eqb l 2 ≡ y → (x || y) ≡ true → l ≤ 2

@@ -13,14 +13,14 @@ use Rattle.blocks.specs.Pick.{same}
 use Rattle.blocks.specs.Bytes.{splice, part, blockAt}
 use Rattle.blocks.specs.Name.{isName}
 use Rattle.blocks.specs.Descriptor.{costOf, mark, descriptorAt, headBytes, tailAt, descriptorBlock, reservedOk, phiOk}
 use Rattle.chains.specs.Chain.{formOk, regionOk}
 use Rattle.blocks.specs.declared.descriptor.Descriptor.{Descriptor}
 use Rattle.blocks.proofs.Tests.{and-left, and-right}
 use Rattle.blocks.proofs.BoolLaws.{or-true}
 use Rattle.blocks.proofs.ByteLaws.{u32-part, part-part, splice-start}
 use Rattle.blocks.proofs.ListLaws.{same-self}
 use Rattle.blocks.proofs.DescriptorLaws.{Fits, head-length, read-back}
-use Rattle.chains.proofs.SoundLaws.{form-most, form-least, form-layout}
+use Rattle.links.proofs.SoundLaws.{form-most, form-least, form-layout}
 
 -- the descriptor of a block is the one of its bytes
 block-descriptor : (c : List ℕ) (p : ℕ) → 512 * p + 512 ≤ length c → descriptorAt (blockAt c p) 0 ≡ descriptorAt c p

@@ -12,12 +12,12 @@ use borrow.Author.Tests.{eq-eqb, ne-eqb, eqb-true, eqb-false}
 use Rattle.blocks.specs.Pick.{pick}
 use Rattle.blocks.specs.Bytes.{blockCount}
 use Rattle.blocks.specs.Descriptor.{physical, costOf, noDescriptor, descriptorAt}
 use Rattle.chains.specs.Chain.{activeOf, formOk, regionOk, named, sound, Chain, Unsound, Sound, descriptorsAt, chainFrom, chain, descriptors, ends, startsOf, regionsOf}
 use Rattle.blocks.specs.declared.numbers.Physical.{Physical}
 use Rattle.blocks.specs.declared.descriptor.Descriptor.{Descriptor}
 use Rattle.chains.specs.declared.chain.Regions.{Regions}
 use Rattle.blocks.proofs.Tests.{and-left, and-right}
-use Rattle.chains.proofs.ChainLaws.{region-layout, region-volume, region-alpha, region-long, region-end, region-next, length-ends, cost-least}
+use Rattle.links.proofs.ChainLaws.{region-layout, region-volume, region-alpha, region-long, region-end, region-next, length-ends, cost-least}
 
 -- the descriptors from block p on, after the earlier ones
 pub data Linked (c : List ℕ) : List Descriptor → ℕ → List Descriptor → Type 0 where
