@@ -1,4 +1,4 @@
--- Laws of a descriptor's bytes: its fields put one after the other are its bytes, and a descriptor that was stored is the one that is read.
+-- Laws of a descriptor: its fields put one after the other are its bytes, one that was stored is the one that is read, and what a region opens with.
 use mathlib.Core.Path.{_≡_, refl, sym, ap, _∙_}
 use mathlib.Core.Bool.{Bool, true, false}
 use mathlib.Core.List.{List, _++_}
@@ -7,9 +7,11 @@ use native.Mathlib.Omega.{arith}
 use native.Mathlib.Nat.{add-zero}
 use lib.ListN.{length, drop, length-append, length-drop, getD}
 use lib.Seq.{take-all}
-use Rattle.blocks.specs.Pick.{same}
+use lib.Dec.{eqb}
+use borrow.Author.Tests.{eq-eqb}
+use Rattle.blocks.specs.Pick.{pick, same}
 use Rattle.blocks.specs.Bytes.{u32At, u64At, le32, splice, part, blockAt, storeBlock}
-use Rattle.blocks.specs.Descriptor.{mark, descriptorAt, headBytes, tailAt, descriptorBlock, physical, extendedOf}
+use Rattle.blocks.specs.Descriptor.{mark, descriptorAt, headBytes, tailAt, descriptorBlock, physical, extendedOf, tableCount, cost, costOf}
 use Rattle.blocks.specs.declared.descriptor.Descriptor.{Descriptor}
 use Rattle.blocks.proofs.ListLaws.{same-equal}
 use Rattle.blocks.proofs.ByteLaws.{put-next, u32-part, u32-within, part-within, digits, splice-start, length-part, part-part, store-length, store-same, store-other, store-over, put-block, length-blockAt, part-join, number-back}
@@ -198,3 +200,16 @@ pub extended-none : (d : Descriptor) → extendedOf d 0 ≡ d
 extended-none d =
     let e : d .beta .0 + 0 ≡ d .beta .0 = omega arith in
     ap (λ (b : ℕ). record { layout = d .layout; volume = d .volume; alpha = d .alpha; beta = physical b; next = d .next; name = d .name }) e
+
+-- what a region opens with: at least its descriptor; in layout 1 its n table blocks too
+cost-by : (n : ℕ) (t : Bool) → 1 ≤ pick t (1 + n) 1
+cost-by n true = omega arith
+cost-by n false = omega arith
+
+pub cost-least : (layout volume : ℕ) → 1 ≤ cost layout volume
+unfolding cost
+cost-least layout volume = cost-by (tableCount volume) (eqb layout 1)
+
+pub cost-one : (d : Descriptor) → d .layout ≡ 1 → costOf d ≡ 1 + tableCount (d .volume)
+unfolding cost
+cost-one d e = rw (eq-eqb (d .layout) 1 e)

@@ -13,7 +13,8 @@ use Rattle.blocks.specs.Descriptor.{costOf, noDescriptor, descriptorAt, tailAt,
 use Rattle.chains.specs.Chain.{formOk, named, Sound, chain, activeOf, indexOf, chainSound, regionsOf}
 use Rattle.blocks.specs.declared.descriptor.Descriptor.{Descriptor}
 use Rattle.chains.proofs.NamedLaws.{index-below}
-use Rattle.links.proofs.ChainLaws.{cost-least, region-volume, regions-ok}
+use Rattle.links.proofs.ChainLaws.{region-volume, regions-ok}
+use Rattle.blocks.proofs.DescriptorLaws.{cost-least}
 use Rattle.links.proofs.SoundLaws.{form-most}
 use Rattle.links.proofs.LinkedLaws.{Linked, chain-linked, chain-few, regionStart, RegionAt, linked-some, linked-at, linked-rise, at-alpha, at-long, active-at, end-active}
 use Rattle.links.proofs.RelinkedLaws.{linked-next}

@@ -13,7 +13,8 @@ use Rattle.blocks.specs.Descriptor.{physical, tableCount, noDescriptor, tailAt,
 use Rattle.chains.specs.Chain.{activeOf, chain, Sound}
 use Rattle.blocks.specs.declared.descriptor.Descriptor.{Descriptor}
 use Rattle.links.proofs.SoundLaws.{form-most, form-layout}
-use Rattle.links.proofs.ChainLaws.{cost-least, descriptors-are, is-sound}
+use Rattle.links.proofs.ChainLaws.{descriptors-are, is-sound}
+use Rattle.blocks.proofs.DescriptorLaws.{cost-least}
 use Rattle.links.proofs.LinkedLaws.{RegionAt, regionStart, linked-rise, at-alpha, at-long}
 use Rattle.entries.specs.InPlace.{inPlace}
 use Rattle.entries.specs.Entry.{entryAt, phiAt}

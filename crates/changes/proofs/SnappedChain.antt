@@ -15,9 +15,8 @@ use Rattle.chains.specs.Chain.{named, sound, Sound, chain, activeOf}
 use Rattle.blocks.specs.declared.descriptor.Descriptor.{Descriptor}
 use Rattle.blocks.proofs.BoolLaws.{no, or-false-right, or-true}
 use Rattle.blocks.proofs.ListLaws.{same-equal, same-self}
-use Rattle.blocks.proofs.DescriptorLaws.{Fits, tail-length, fits-of}
+use Rattle.blocks.proofs.DescriptorLaws.{Fits, tail-length, fits-of, cost-least}
 use Rattle.chains.proofs.NamedLaws.{named-one, named-append, named-left}
-use Rattle.links.proofs.ChainLaws.{cost-least}
 use Rattle.links.proofs.LinkedLaws.{last, more, chain-linked}
 use Rattle.calls.specs.Parts.{areaBad, descriptorsOf, snapshotsOf}
 use Rattle.calls.specs.Effect.{snapping, snapStores}

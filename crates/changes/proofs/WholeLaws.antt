@@ -12,8 +12,8 @@ use Rattle.chains.specs.Chain.{chain, chainSound, indexOf, named, regionsOf, ac
 use Rattle.blocks.specs.declared.descriptor.Descriptor.{Descriptor}
 use Rattle.chains.specs.declared.chain.Regions.{Regions}
 use Rattle.chains.proofs.NamedLaws.{index-below}
-use Rattle.links.proofs.ChainLaws.{cost-least, regions-ok}
-use Rattle.blocks.proofs.DescriptorLaws.{tail-length, block-whole}
+use Rattle.links.proofs.ChainLaws.{regions-ok}
+use Rattle.blocks.proofs.DescriptorLaws.{tail-length, block-whole, cost-least}
 use Rattle.blocks.proofs.NameLaws.{name-size}
 use Rattle.entries.specs.Entry.{find, need, writing}
 use Rattle.entries.specs.declared.find.Found.{Found}

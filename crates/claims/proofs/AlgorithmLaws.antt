@@ -17,9 +17,9 @@ use Rattle.chains.specs.declared.chain.Regions.{Regions}
 use Rattle.blocks.proofs.Tests.{and-left}
 use Rattle.blocks.proofs.BoolLaws.{no, or-true}
 use Rattle.blocks.proofs.ByteLaws.{u32-part, store-length, store-same, store-other, length-blockAt}
-use Rattle.blocks.proofs.DescriptorLaws.{head-length, block-back, tail-length, block-whole}
+use Rattle.blocks.proofs.DescriptorLaws.{head-length, block-back, tail-length, block-whole, cost-least}
 use Rattle.chains.proofs.NamedLaws.{index-below}
-use Rattle.links.proofs.ChainLaws.{cost-least, regions-ok}
+use Rattle.links.proofs.ChainLaws.{regions-ok}
 use Rattle.links.proofs.LinkedLaws.{at-alpha, RegionAt}
 use Rattle.links.proofs.SoundLaws.{form-mark}
 use Rattle.blocks.proofs.NameLaws.{name-size}

@@ -20,9 +20,8 @@ use Rattle.blocks.proofs.Tests.{and-left, and-right}
 use Rattle.blocks.proofs.ByteLaws.{length-splice, splice-after, store-length, store-same, store-other, u32-part, zero-number}
 use Rattle.blocks.proofs.ListLaws.{same-self}
 use Rattle.blocks.proofs.NameLaws.{drop-replicate, name-size}
-use Rattle.blocks.proofs.DescriptorLaws.{Fits, block-whole}
+use Rattle.blocks.proofs.DescriptorLaws.{Fits, block-whole, cost-least}
 use Rattle.chains.proofs.NamedLaws.{named-none}
-use Rattle.links.proofs.ChainLaws.{cost-least}
 use Rattle.links.proofs.LinkedLaws.{last}
 use Rattle.entries.specs.InPlace.{inPlace}
 use Rattle.entries.specs.Entry.{entryAt, phiAt, tableOf}

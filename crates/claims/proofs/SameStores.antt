@@ -8,7 +8,7 @@ use Rattle.blocks.specs.Descriptor.{costOf, tailAt, copying}
 use Rattle.chains.specs.Chain.{activeOf, chain}
 use Rattle.blocks.specs.declared.numbers.Physical.{Physical}
 use Rattle.blocks.specs.declared.descriptor.Descriptor.{Descriptor}
-use Rattle.links.proofs.ChainLaws.{cost-least}
+use Rattle.blocks.proofs.DescriptorLaws.{cost-least}
 use Rattle.entries.specs.Entry.{find}
 use Rattle.entries.specs.declared.find.Found.the-variants.{Entry}
 use Rattle.entries.proofs.EntryLaws.{found-table}

@@ -16,7 +16,7 @@ use Rattle.blocks.specs.declared.descriptor.Descriptor.{Descriptor}
 use Rattle.blocks.proofs.Tests.{and-right, and-left}
 use Rattle.blocks.proofs.BoolLaws.{or-false-left, or-false-both, true-or, no}
 use Rattle.links.proofs.SoundLaws.{form-most}
-use Rattle.links.proofs.ChainLaws.{cost-least, cost-one}
+use Rattle.blocks.proofs.DescriptorLaws.{cost-least, cost-one}
 use Rattle.links.proofs.LinkedLaws.{at-alpha, at-long, at-end}
 use Rattle.entries.specs.InPlace.{isDescriptor, isTable, inPlaceAt, inPlace}
 use Rattle.entries.specs.Entry.{tableOf, entryAt, entryFound, find, tableIsNew, need}

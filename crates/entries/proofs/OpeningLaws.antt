@@ -16,7 +16,7 @@ use Rattle.chains.specs.Chain.{chain, descriptors}
 use Rattle.blocks.specs.declared.descriptor.Descriptor.{Descriptor}
 use Rattle.blocks.proofs.BoolLaws.{no, or-assoc, or-nil}
 use Rattle.links.proofs.SoundLaws.{form-layout}
-use Rattle.links.proofs.ChainLaws.{cost-least, cost-one}
+use Rattle.blocks.proofs.DescriptorLaws.{cost-least, cost-one}
 use Rattle.links.proofs.LinkedLaws.{at-alpha, at-cost, at-long, at-end}
 use Rattle.entries.specs.InPlace.{isDescriptor, isTable}
 use Rattle.entries.specs.Through.{Through}

@@ -14,12 +14,11 @@ use Rattle.blocks.specs.Descriptor.{tailAt, extendedOf}
 use Rattle.blocks.specs.declared.numbers.Physical.{Physical}
 use Rattle.blocks.specs.declared.descriptor.Descriptor.{Descriptor}
 use Rattle.blocks.proofs.ByteLaws.{store-other, length-blockAt}
-use Rattle.blocks.proofs.DescriptorLaws.{store-tail, tail-length, block-whole}
+use Rattle.blocks.proofs.DescriptorLaws.{store-tail, tail-length, block-whole, cost-least}
 use Rattle.entries.specs.Through.{WriteReady, Through}
 use Rattle.entries.specs.Entry.{tableIsNew, need, setInTable, setInNewTable, writing, find, tailWith}
 use Rattle.entries.specs.declared.find.Found.the-variants.{Entry, Misplaced}
 use Rattle.chains.specs.Chain.{chain, descriptors}
-use Rattle.links.proofs.ChainLaws.{cost-least}
 use Rattle.entries.specs.declared.find.Found.{Found}
 use Rattle.entries.proofs.EntryLaws.{through-beta, through-end, through-volume, found-table, found-entry, need-more}
 use Rattle.blocks.proofs.Tests.{and-right}

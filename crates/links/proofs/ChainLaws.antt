@@ -1,4 +1,4 @@
--- Laws of the walk along the chain, as the code asks them; of regions, and of c.
+-- Laws of the walk along the chain, as the code asks them, and of regions.
 use mathlib.Core.Path.{_≡_, refl, sym, ap, _∙_}
 use mathlib.Core.Bool.{Bool, true, false, not, _&&_, _||_}
 use mathlib.Core.List.{List, [], _∷_, _++_}
@@ -8,10 +8,10 @@ use native.Mathlib.Omega.{arith}
 use lib.ListN.{length, take, getD, set, replicate, length-append, length-take, length-set}
 use lib.Seq.{take-suc, take-set-le, getD-set-same, getD-set-other, set-at, append-snoc}
 use lib.Dec.{eqb, ltb, leb}
-use borrow.Author.Tests.{ne-eqb, eqb-true, eqb-false, ltb-true, ltb-false, le-ltb, leb-true, not-true, not-false, eq-eqb}
+use borrow.Author.Tests.{ne-eqb, eqb-true, eqb-false, ltb-true, ltb-false, le-ltb, leb-true, not-true, not-false}
 use Rattle.blocks.specs.Pick.{pick, same}
 use Rattle.blocks.specs.Bytes.{blockCount}
-use Rattle.blocks.specs.Descriptor.{physical, tableCount, cost, costOf, descriptorAt}
+use Rattle.blocks.specs.Descriptor.{physical, costOf, descriptorAt}
 use Rattle.blocks.specs.Name.{hashOf}
 use Rattle.chains.specs.Chain.{activeOf, formOk, regionOk, indexOf, named, sound, Unsound, Sound, descriptorsAt, chainFrom, chain, ends, startsOf, regionsOf, chainSound, descriptors, Chain}
 use Rattle.chains.specs.Walk.{Hashed}
@@ -21,6 +21,7 @@ use Rattle.blocks.proofs.Tests.{and-left, and-right}
 use Rattle.blocks.proofs.BoolLaws.{and-false-mid}
 use Rattle.blocks.proofs.ListLaws.{same-equal}
 use Rattle.chains.proofs.NamedLaws.{indexFrom, index-start, index-more, index-end, named-index, length-descriptors}
+use Rattle.blocks.proofs.DescriptorLaws.{cost-least}
 
 -- names passed: where the hash of a name has no flag, none of them is that name
 hash-apart : (hashes : List Bool) (a name : List ℕ) → getD hashes (hashOf a) false ≡ true → getD hashes (hashOf name) false ≡ false → (b : Bool) → same a name ≡ b → b ≡ false
@@ -119,14 +120,6 @@ module _ (first : Descriptor) (n p : ℕ) (d : Descriptor) (ok : regionOk first 
 
   pub region-next : (d .next .0 ≡ 0 → ⊥) → (d .next .0 ≡ d .beta .0) × (d .beta .0 < n)
   region-next z = link-by (eqb (d .next .0) 0) refl z
-
-cost-by : (n : ℕ) (t : Bool) → 1 ≤ pick t (1 + n) 1
-cost-by n true = omega arith
-cost-by n false = omega arith
-
-pub cost-least : (layout volume : ℕ) → 1 ≤ cost layout volume
-unfolding cost
-cost-least layout volume = cost-by (tableCount volume) (eqb layout 1)
 
 -- an area with no whole block has no sound descriptor
 region-none : (first d : Descriptor) (p : ℕ) (t : Bool) → regionOk first 0 p d ≡ t → t ≡ false
@@ -324,8 +317,3 @@ pub regions-ok : (ch : Chain) → chainSound ch ≡ true → regionsOf ch .sound
 unfolding regionsOf chainSound
 regions-ok (Sound ds) e = refl
 regions-ok (Unsound p) e = e
-
--- in layout 1 a region opens with its descriptor and its n table blocks
-pub cost-one : (d : Descriptor) → d .layout ≡ 1 → costOf d ≡ 1 + tableCount (d .volume)
-unfolding cost
-cost-one d e = rw (eq-eqb (d .layout) 1 e)

@@ -17,7 +17,8 @@ use Rattle.blocks.specs.declared.numbers.Physical.{Physical}
 use Rattle.blocks.specs.declared.descriptor.Descriptor.{Descriptor}
 use Rattle.chains.specs.declared.chain.Regions.{Regions}
 use Rattle.blocks.proofs.Tests.{and-left, and-right}
-use Rattle.links.proofs.ChainLaws.{region-layout, region-volume, region-alpha, region-long, region-end, region-next, length-ends, cost-least}
+use Rattle.links.proofs.ChainLaws.{region-layout, region-volume, region-alpha, region-long, region-end, region-next, length-ends}
+use Rattle.blocks.proofs.DescriptorLaws.{cost-least}
 
 -- the descriptors from block p on, after the earlier ones
 pub data Linked (c : List ℕ) : List Descriptor → ℕ → List Descriptor → Type 0 where

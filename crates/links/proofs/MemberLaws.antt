@@ -13,7 +13,8 @@ use Rattle.blocks.specs.Descriptor.{costOf, descriptorAt, reservedOk, phiOk, ta
 use Rattle.chains.specs.Chain.{formOk, regionOk, named, sound, Sound, chain, activeOf}
 use Rattle.blocks.specs.declared.descriptor.Descriptor.{Descriptor}
 use Rattle.blocks.proofs.Tests.{and-right}
-use Rattle.links.proofs.ChainLaws.{region-end, region-long, cost-least}
+use Rattle.links.proofs.ChainLaws.{region-end, region-long}
+use Rattle.blocks.proofs.DescriptorLaws.{cost-least}
 use Rattle.links.proofs.LinkedLaws.{Linked, chain-linked, sound-form, sound-region, linked-rise, region-start-suc, region-start-zero, end-from, active-append}
 use Rattle.links.proofs.RelinkedLaws.{linked-from, linked-head}
 use Rattle.links.proofs.StoredLaws.{tail-part, form-kept, form-phi, form-name}

@@ -10,7 +10,7 @@ use Rattle.blocks.specs.Bytes.{blockAt}
 use Rattle.blocks.specs.Descriptor.{descriptorAt}
 use Rattle.chains.specs.Chain.{sound}
 use Rattle.blocks.specs.declared.descriptor.Descriptor.{Descriptor}
-use Rattle.links.proofs.ChainLaws.{cost-least}
+use Rattle.blocks.proofs.DescriptorLaws.{cost-least}
 use Rattle.links.proofs.LinkedLaws.{Linked, last, more, sound-alpha, sound-long, sound-next, linked-some}
 use Rattle.links.proofs.SharedLaws.{shared-descriptor, shared-sound}
 

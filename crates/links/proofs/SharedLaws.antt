@@ -12,7 +12,7 @@ use Rattle.blocks.specs.Descriptor.{costOf, descriptorAt}
 use Rattle.chains.specs.Chain.{formOk, regionOk, sound, Sound, chainFrom, chain}
 use Rattle.blocks.specs.declared.descriptor.Descriptor.{Descriptor}
 use Rattle.blocks.proofs.ByteLaws.{u32-part, part-part}
-use Rattle.links.proofs.ChainLaws.{cost-least}
+use Rattle.blocks.proofs.DescriptorLaws.{cost-least}
 use Rattle.links.proofs.LinkedLaws.{Linked, last, more, sound-long, sound-next, regionStart, region-start-zero, region-start-suc, linked-low}
 
 -- a block that two cards share

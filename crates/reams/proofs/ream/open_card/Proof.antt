@@ -1,6 +1,6 @@
 -- `open_card` meets its contract: the tables are cleared, then the first descriptor is stored.
 use native.Mathlib.Omega.{arith}
-use Rattle.links.proofs.ChainLaws.{cost-least}
+use Rattle.blocks.proofs.DescriptorLaws.{cost-least}
 use Rattle.calls.proofs.ReamLaws.{opened}
 use borrow.Author.Needs.{needs}
 use Rattle.reams.proofs.ream.open_card.Statement.{statement}

@@ -6,7 +6,7 @@ use lib.ListN.{drop}
 use Rattle.calls.specs.Call.{Snap}
 use Rattle.calls.specs.Ladder.{snapRows}
 use Rattle.calls.specs.Meaning.{rowsOf, answerOf, lentOf, filledOf, givenOf}
-use Rattle.links.proofs.ChainLaws.{cost-least}
+use Rattle.blocks.proofs.DescriptorLaws.{cost-least}
 use Rattle.entries.proofs.EntryLaws.{through-beta}
 use Rattle.calls.proofs.StepLaws.{step-barred, step-refused, step-accepted}
 use Rattle.calls.proofs.CardLaws.{card-active-through, card-inside, card-long, card-small}
