@@ -1,2 +1,2 @@
-// The bytes that a work sheet prints.
-pub mod text; // numbers, names, answers and records as text
+// The bytes that a work sheet prints: definitions, and the code of what they are made of.
+pub mod text; // text, numbers and names

@@ -1,18 +1,14 @@
 // Text put into a lent area: each function writes from index `at` and returns the index after what it wrote.
 use blocks::bytes;
 use blocks::sizes::NAME_SIZE;
-use calls::answer::Answer;
-use calls::answer::Record;
-use calls::list::SHEET_RECORDS;
 use names::name;
 ghost use mathlib.Core.Path.{_≡_};
 ghost use mathlib.Core.List.{_∷_, [], _++_};
-ghost use Prim.Native.Nat.{_+_, _*_, _≤_, _<_};
-ghost use lib.ListN.{length, take};
+ghost use Prim.Native.Nat.{_+_, _≤_, _<_};
+ghost use lib.ListN.{length};
 ghost use Rattle.blocks.specs.Bytes.{splice};
 ghost use Rattle.blocks.specs.Name.{nameSize};
-ghost use Rattle.calls.specs.Listing.{sheetRecords};
-ghost use Rattle.printing.specs.Text.{mostDigits, answerRoom, byteRoom, recordRoom, decimal, nameText, answerText, byteText, recordText, recordsText};
+ghost use Rattle.printing.specs.Text.{mostDigits, decimal, nameText};
 
 // The text as it is.
 pub fn put_text(out: &mut [u8], at: usize, text: &[u8]) -> usize
@@ -46,7 +42,7 @@ fn put_decimal(out: &mut [u8], at: usize, v: u32) -> usize
 }
 
 // A key and a number in decimal.
-fn put_field(out: &mut [u8], at: usize, key: &[u8], v: u32) -> usize
+pub fn put_field(out: &mut [u8], at: usize, key: &[u8], v: u32) -> usize
     requires { ⌜ at + length (now key) + mostDigits ≤ length (now out) ⌝ }
     ensures { λ r. ⌜ (r ≡ at + length (now (key .entry) ++ decimal v)) × (now (out .exit) ≡ splice (now (out .entry)) at (now (key .entry) ++ decimal v)) ⌝ }
     ensures { λ r. ⌜ r ≤ at + length (now (key .entry)) + mostDigits ⌝ }
@@ -66,70 +62,10 @@ fn put_unpadded(out: &mut [u8], at: usize, name: &[u8]) -> usize
 }
 
 // A name without the zero bytes that pad it.
-fn put_name_text(out: &mut [u8], at: usize, name: [u8; NAME_SIZE]) -> usize
+pub fn put_name_text(out: &mut [u8], at: usize, name: [u8; NAME_SIZE]) -> usize
     requires { ⌜ at + nameSize ≤ length (now out) ⌝ }
     ensures { λ r. ⌜ (r ≡ at + length (nameText name)) × (now (out .exit) ≡ splice (now (out .entry)) at (nameText name)) ⌝ }
     ensures { λ r. ⌜ r ≤ at + nameSize ⌝ }
 {
     put_unpadded(out, at, &name)
-}
-
-// The number and the place of an answer.
-pub fn put_answer(out: &mut [u8], at: usize, a: Answer) -> usize
-    requires { ⌜ at + answerRoom ≤ length (now out) ⌝ }
-    ensures { λ r. ⌜ (r ≡ at + length (answerText a)) × (now (out .exit) ≡ splice (now (out .entry)) at (answerText a)) ⌝ }
-    ensures { λ r. ⌜ r ≤ at + answerRoom ⌝ }
-{
-    let number = a.number;
-    let place = a.place;
-    let next = put_field(out, at, b"answer=", number);
-    put_field(out, next, b" place=", place)
-}
-
-// The byte that a read adds to its answer.
-pub fn put_byte(out: &mut [u8], at: usize, b: u8) -> usize
-    requires { ⌜ at + byteRoom ≤ length (now out) ⌝ }
-    ensures { λ r. ⌜ (r ≡ at + length (byteText b)) × (now (out .exit) ≡ splice (now (out .entry)) at (byteText b)) ⌝ }
-    ensures { λ r. ⌜ r ≤ at + byteRoom ⌝ }
-{
-    put_field(out, at, b" byte=", b as u32)
-}
-
-// A record of a listing, with the line feed that ends it.
-fn put_record_text(out: &mut [u8], at: usize, r: Record) -> usize
-    requires { ⌜ at + recordRoom ≤ length (now out) ⌝ }
-    ensures { λ e. ⌜ (e ≡ at + length (recordText r)) × (now (out .exit) ≡ splice (now (out .entry)) at (recordText r)) ⌝ }
-    ensures { λ e. ⌜ e ≤ at + recordRoom ⌝ }
-{
-    let name = r.name;
-    let alpha = r.alpha.0;
-    let beta = r.beta.0;
-    let link = r.next.0;
-    let mut next = put_text(out, at, b"name=");
-    next = put_name_text(out, next, name);
-    next = put_field(out, next, b" alpha=", alpha);
-    next = put_field(out, next, b" beta=", beta);
-    next = put_field(out, next, b" next=", link);
-    put_text(out, next, b"\n")
-}
-
-// The first `n` records, one after the other.
-pub fn put_records_text(
-    out: &mut [u8],
-    at: usize,
-    records: [Record; SHEET_RECORDS],
-    n: usize,
-) -> usize
-    requires { ⌜ (n ≤ sheetRecords) × (at + recordRoom * n ≤ length (now out)) ⌝ }
-    ensures { λ r. ⌜ (r ≡ at + length (recordsText (take n records))) × (now (out .exit) ≡ splice (now (out .entry)) at (recordsText (take n records))) ⌝ }
-    ensures { λ r. ⌜ r ≤ at + recordRoom * n ⌝ }
-{
-    let mut next = at;
-    let mut i = 0;
-    while i < n {
-        let r = records[i];
-        next = put_record_text(out, next, r);
-        i += 1;
-    }
-    next
 }

@@ -3,6 +3,7 @@ use calls::answer::Answer;
 use calls::answer::Record;
 use calls::list::SHEET_RECORDS;
 use printing::text;
+use reporting::report;
 use sheet::run::Addition;
 use sheet::run::Ran;
 ghost use mathlib.Core.Path.{_≡_};
@@ -20,7 +21,7 @@ fn put_added_byte(out: &mut [u8], at: usize, addition: Addition) -> usize
     ensures { λ r. ⌜ r ≤ at + byteRoom ⌝ }
 {
     match addition {
-        Addition::Byte(b) => text::put_byte(out, at, b),
+        Addition::Byte(b) => report::put_byte(out, at, b),
         Addition::Nothing => text::put_text(out, at, b""),
         Addition::FirstRecords(_) => text::put_text(out, at, b""),
     }
@@ -38,7 +39,7 @@ fn put_added_records(
     ensures { λ r. ⌜ r ≤ at + recordRoom * sheetRecords ⌝ }
 {
     match addition {
-        Addition::FirstRecords(n) => text::put_records_text(out, at, records, n),
+        Addition::FirstRecords(n) => report::put_records_text(out, at, records, n),
         Addition::Nothing => text::put_text(out, at, b""),
         Addition::Byte(_) => text::put_text(out, at, b""),
     }
@@ -53,7 +54,7 @@ pub fn print_ran(out: &mut [u8], ran: Ran) -> usize
     let answer = ran.answer;
     let addition = ran.addition;
     let records = ran.records;
-    let a = text::put_answer(out, 0, answer);
+    let a = report::put_answer(out, 0, answer);
     let b = put_added_byte(out, a, addition);
     let c = text::put_text(out, b, b"\n");
     put_added_records(out, c, addition, records)
@@ -69,6 +70,6 @@ pub fn print_too_long(out: &mut [u8]) -> usize
         number: 15,
         place: 0,
     };
-    let at = text::put_answer(out, 0, answer);
+    let at = report::put_answer(out, 0, answer);
     text::put_text(out, at, b"\n")
 }
