@@ -30,9 +30,21 @@ unended = 111 ∷ 112 ∷ 61 ∷ 108 ∷ 105 ∷ 115 ∷ 116 ∷ []
 abbrev checkLine : List ℕ
 checkLine = 111 ∷ 112 ∷ 61 ∷ 99 ∷ 104 ∷ 101 ∷ 99 ∷ 107 ∷ 10 ∷ []
 
+-- `op=check`, with a tab after it
+abbrev checkTab : List ℕ
+checkTab = 111 ∷ 112 ∷ 61 ∷ 99 ∷ 104 ∷ 101 ∷ 99 ∷ 107 ∷ 9 ∷ 10 ∷ []
+
 -- `op=snap`
 abbrev snapAlone : List ℕ
 snapAlone = 111 ∷ 112 ∷ 61 ∷ 115 ∷ 110 ∷ 97 ∷ 112 ∷ 10 ∷ []
+
+-- `op=snap name`
+abbrev snapName : List ℕ
+snapName = 111 ∷ 112 ∷ 61 ∷ 115 ∷ 110 ∷ 97 ∷ 112 ∷ 32 ∷ 110 ∷ 97 ∷ 109 ∷ 101 ∷ 10 ∷ []
+
+-- `op=snap oame=fs`
+abbrev snapOame : List ℕ
+snapOame = 111 ∷ 112 ∷ 61 ∷ 115 ∷ 110 ∷ 97 ∷ 112 ∷ 32 ∷ 111 ∷ 97 ∷ 109 ∷ 101 ∷ 61 ∷ 102 ∷ 115 ∷ 10 ∷ []
 
 -- `op=snap name=`, which a name follows
 abbrev snapKey : List ℕ
@@ -57,6 +69,10 @@ revertMon = 111 ∷ 112 ∷ 61 ∷ 114 ∷ 101 ∷ 118 ∷ 101 ∷ 114 ∷ 116 �
 -- `op=write block=0 fill=255`
 abbrev write0 : List ℕ
 write0 = 111 ∷ 112 ∷ 61 ∷ 119 ∷ 114 ∷ 105 ∷ 116 ∷ 101 ∷ 32 ∷ 98 ∷ 108 ∷ 111 ∷ 99 ∷ 107 ∷ 61 ∷ 48 ∷ 32 ∷ 102 ∷ 105 ∷ 108 ∷ 108 ∷ 61 ∷ 50 ∷ 53 ∷ 53 ∷ 10 ∷ []
+
+-- `op=write block=0 fill=10`
+abbrev write10 : List ℕ
+write10 = 111 ∷ 112 ∷ 61 ∷ 119 ∷ 114 ∷ 105 ∷ 116 ∷ 101 ∷ 32 ∷ 98 ∷ 108 ∷ 111 ∷ 99 ∷ 107 ∷ 61 ∷ 48 ∷ 32 ∷ 102 ∷ 105 ∷ 108 ∷ 108 ∷ 61 ∷ 49 ∷ 48 ∷ 10 ∷ []
 
 -- `op=write block=1 fill=9`
 abbrev write1 : List ℕ
@@ -138,6 +154,10 @@ accepted = 97 ∷ 110 ∷ 115 ∷ 119 ∷ 101 ∷ 114 ∷ 61 ∷ 48 ∷ 32 ∷ 1
 -- `answer=0 place=0 byte=0`
 abbrev byte0 : List ℕ
 byte0 = 97 ∷ 110 ∷ 115 ∷ 119 ∷ 101 ∷ 114 ∷ 61 ∷ 48 ∷ 32 ∷ 112 ∷ 108 ∷ 97 ∷ 99 ∷ 101 ∷ 61 ∷ 48 ∷ 32 ∷ 98 ∷ 121 ∷ 116 ∷ 101 ∷ 61 ∷ 48 ∷ 10 ∷ []
+
+-- `answer=0 place=0 byte=10`
+abbrev byte10 : List ℕ
+byte10 = 97 ∷ 110 ∷ 115 ∷ 119 ∷ 101 ∷ 114 ∷ 61 ∷ 48 ∷ 32 ∷ 112 ∷ 108 ∷ 97 ∷ 99 ∷ 101 ∷ 61 ∷ 48 ∷ 32 ∷ 98 ∷ 121 ∷ 116 ∷ 101 ∷ 61 ∷ 49 ∷ 48 ∷ 10 ∷ []
 
 -- `answer=0 place=0 byte=255`
 abbrev byte255 : List ℕ
@@ -225,6 +245,10 @@ shortSheets =
     ∷ record { sheet = checkLine ++ unended; prints = refused6 ++ malformed2 }
     -- a line that is not of the form, and after it one that is
     ∷ record { sheet = snapAlone ++ checkLine; prints = malformed1 }
+    -- a key without its `=`; a key of which one byte is another; a byte below the line feed, which ends no line
+    ∷ record { sheet = snapName ++ checkLine; prints = malformed1 }
+    ∷ record { sheet = snapOame ++ checkLine; prints = malformed1 }
+    ∷ record { sheet = checkTab ++ checkLine; prints = malformed1 }
     -- a line of 127 bytes, of which 114 are no name; one byte more
     ∷ record { sheet = snapKey ++ letters 114 ++ lineFeed ++ snapKey ++ letters 115 ++ lineFeed; prints = refused4 ++ malformed2 }
     -- a line that is not of the form, though what would be its name is none
@@ -238,6 +262,8 @@ shortSheets =
     ∷ record { sheet = tables64 ++ tables63; prints = refused5 ++ accepted }
     -- a format of two blocks, too few for a write, then one of three in layout 1, which its tables fill
     ∷ record { sheet = ream2 ++ write0 ++ tables2 ++ listLine ++ write0; prints = accepted ++ refused11 ++ accepted ++ accepted ++ homeTo3 ++ refused11 }
+    -- the least number of two digits, read and printed
+    ∷ record { sheet = ream3 ++ write10 ++ read0; prints = accepted ++ accepted ++ byte10 }
     -- a refused format of 64 blocks leaves a card of three as it is: no room for a second block, and the first is there
     ∷ record {
       sheet = ream3 ++ write0 ++ layout3 ++ write1 ++ read0 ++ listLine;
