@@ -11,7 +11,7 @@ use lib.Dec.{ltb}
 use borrow.Author.Tests.{ltb-true, ltb-false}
 use lib.ListN.{length, take, drop, getD, set, length-append, length-take, length-drop, List·getD-append, take-append-drop, replicate, length-replicate, getD-replicate}
 use lib.Seq.{take-length, drop-length, paste, paste-zero, paste-suc, take-at, getD-take, getD-drop, getD-append-add, ext-getD, drop-drop, take-append-add, drop-append-add, take-append-le, drop-append-le, length-take-le, take-add, drop-cons}
-use Rattle.blocks.specs.Bytes.{u32At, le32, splice, part, blockAt, storeBlock, blockCount}
+use Rattle.blocks.specs.Bytes.{u32At, le32, splice, part, blockAt, storeBlock, storeUpto, blockCount}
 
 -- area after the first n elements of s were copied in from index at. Shut, so that `_` and `rw` find its arguments
 unfoldable pub copied : List ℕ → ℕ → List ℕ → ℕ → List ℕ
@@ -317,33 +317,40 @@ store-over c p x y n m h =
     ∙ splice-over c (512 * p) x 0 y (rw n h) (omega arith)
     ∙ ap (splice c (512 * p)) (splice-whole x y (m ∙ sym n))
 
--- a copy of block p to block q, byte by byte: the byte that comes next is as it was
-copied-splice : (d : List ℕ) (at : ℕ) (s : List ℕ) (n : ℕ) → n ≤ length s → copied d at s n ≡ splice d at (take n s)
+-- what has been copied is the first n bytes put in, and every other byte is as it was
+pub copied-splice : (d : List ℕ) (at : ℕ) (s : List ℕ) (n : ℕ) → n ≤ length s → copied d at s n ≡ splice d at (take n s)
 unfolding copied splice
 copied-splice d at s n h = rw (length-take-le n s h)
 
-copied-other : (d : List ℕ) (at : ℕ) (s : List ℕ) (n i : ℕ) → n ≤ length s → at + n ≤ length d → (i < at) ⊎ (at + n ≤ i) → getD (copied d at s n) i 0 ≡ getD d i 0
+pub copied-other : (d : List ℕ) (at : ℕ) (s : List ℕ) (n i : ℕ) → n ≤ length s → at + n ≤ length d → (i < at) ⊎ (at + n ≤ i) → getD (copied d at s n) i 0 ≡ getD d i 0
 copied-other d at s n i h l o =
     let long = length-take-le n s h in
     ap (λ (y : List ℕ). getD y i 0) (copied-splice d at s n h) ∙ splice-other d at (take n s) (rw long l) i (rw long o)
 
-pub block-copied-more : (c x : List ℕ) (p q i : ℕ) → 512 * p + 512 ≤ length c → 512 * q + 512 ≤ length c → i < 512 → x ≡ copied c (512 * q) (part c (512 * p) 512) i
-    → set x (512 * q + i) (getD x (512 * p + i) 0) ≡ copied c (512 * q) (part c (512 * p) 512) (i + 1)
-block-copied-more c x p q i hp hq hi e =
-    ap (set x (512 * q + i)) byte ∙ ap (λ (y : List ℕ). set y (512 * q + i) (getD (part c (512 * p) 512) i 0)) e ∙ copied-more c (512 * q) (part c (512 * p) 512) i (omega arith) (rw long hi)
-  where
-    long : length (part c (512 * p) 512) ≡ 512
-    long = length-part c (512 * p) 512 hp
+-- the first k bytes of a store of block p: those bytes, every other byte, none, all
+module _ (c : List ℕ) (p : ℕ) (b : List ℕ) (whole : length b ≡ 512) (inside : 512 * p + 512 ≤ length c) where
+  module _ (k : ℕ) (few : k ≤ 512) where
+    upto-long : length (take k b) ≡ k
+    upto-long = length-take-le k b (omega arith)
 
-    apart : (t : Bool) → ltb (512 * p + i) (512 * q) ≡ t → (512 * p + i < 512 * q) ⊎ (512 * q + i ≤ 512 * p + i)
-    apart true h = inl (ltb-true (512 * p + i) (512 * q) h)
-    apart false h = inr (omega (arith, ltb-false (512 * p + i) (512 * q) h))
+    upto-fits : 512 * p + length (take k b) ≤ length c
+    upto-fits = rw upto-long (omega arith)
 
-    byte : getD x (512 * p + i) 0 ≡ getD (part c (512 * p) 512) i 0
-    byte =
-        ap (λ (y : List ℕ). getD y (512 * p + i) 0) e
-        ∙ copied-other c (512 * q) (part c (512 * p) 512) i (512 * p + i) (omega (arith, long)) (omega arith) (apart (ltb (512 * p + i) (512 * q)) refl)
-        ∙ sym (part-at c (512 * p) 512 i hi)
+    pub upto-length : length (storeUpto c p b k) ≡ length c
+    unfolding storeUpto
+    upto-length = length-splice c (512 * p) (take k b) upto-fits
+
+    pub upto-in : (i : ℕ) → i < k → getD (storeUpto c p b k) (512 * p + i) 0 ≡ getD b i 0
+    unfolding storeUpto
+    upto-in i h = splice-in c (512 * p) (take k b) upto-fits i (rw upto-long h) ∙ getD-take k b i 0 h
+
+    pub upto-other : (i : ℕ) → (i < 512 * p) ⊎ (512 * p + k ≤ i) → getD (storeUpto c p b k) i 0 ≡ getD c i 0
+    unfolding storeUpto
+    upto-other i o = splice-other c (512 * p) (take k b) upto-fits i (rw upto-long o)
+
+  pub upto-whole : storeUpto c p b 512 ≡ storeBlock c p b
+  unfolding storeUpto storeBlock
+  upto-whole = rw (← whole, take-length b)
 
 -- zeros copied, one by one
 pub cleared-more : (c x : List ℕ) (at n i : ℕ) → at + n ≤ length c → i < n → x ≡ copied c at (replicate n 0) i → set x (at + i) 0 ≡ copied c at (replicate n 0) (i + 1)

@@ -14,7 +14,7 @@ use Rattle.blocks.specs.Bytes.{u32At, u64At, le32, splice, part, blockAt
 use Rattle.blocks.specs.Descriptor.{mark, descriptorAt, headBytes, tailAt, descriptorBlock, physical, extendedOf, tableCount, cost, costOf}
 use Rattle.blocks.specs.declared.descriptor.Descriptor.{Descriptor}
 use Rattle.blocks.proofs.ListLaws.{same-equal}
-use Rattle.blocks.proofs.ByteLaws.{put-next, u32-part, u32-within, part-within, digits, splice-start, length-part, part-part, store-length, store-same, store-other, store-over, put-block, length-blockAt, part-join, number-back}
+use Rattle.blocks.proofs.ByteLaws.{put-next, u32-part, u32-within, part-within, digits, splice-start, length-part, part-part, store-length, store-other, put-block, part-join, number-back}
 use Rattle.blocks.proofs.NameLaws.{name-size}
 use Rattle.blocks.specs.Name.{isName}
 
@@ -153,24 +153,6 @@ descriptor-put c x p d h n e =
     ∙ ap (λ (at : ℕ). splice c at (headBytes d)) (sym (add-zero (512 * p)))
     ∙ put-block c p 0 (headBytes d) h (omega arith)
     ∙ ap (storeBlock c p) (block-made c p (blockAt c p) (splice (blockAt c p) 0 (headBytes d)) d h n refl refl)
-
--- the same after a copy of block q
-pub descriptor-moved : (c c₁ c₂ : List ℕ) (q p : ℕ) (d : Descriptor) → 512 * q + 512 ≤ length c → 512 * p + 512 ≤ length c → length (headBytes d) ≡ 40
-    → c₁ ≡ storeBlock c p (blockAt c q) → c₂ ≡ storeBlock c₁ p (descriptorBlock d (tailAt c₁ p)) → c₂ ≡ storeBlock c p (descriptorBlock d (tailAt c q))
-descriptor-moved c c₁ c₂ q p d hq hp n e f =
-    f
-    ∙ ap (λ (t : List ℕ). storeBlock c₁ p (descriptorBlock d t)) tail
-    ∙ ap (λ (y : List ℕ). storeBlock y p (descriptorBlock d (tailAt c q))) e
-    ∙ store-over c p (blockAt c q) (descriptorBlock d (tailAt c q)) long (block-length c q d (descriptorBlock d (tailAt c q)) hq n refl) hp
-  where
-    long : length (blockAt c q) ≡ 512
-    long = length-blockAt c q hq
-
-    tail : tailAt c₁ p ≡ tailAt c q
-    tail =
-        sym (tail-block c₁ p (rw (e, store-length c p (blockAt c q) long hp) hp))
-        ∙ ap (λ (y : List ℕ). part y 40 472) (ap (λ (y : List ℕ). blockAt y p) e ∙ store-same c p (blockAt c q) long hp)
-        ∙ tail-block c q hq
 
 -- sixteen bytes that differ from a name in a 64-bit word are not that name
 pub words-apart : (c name : List ℕ) (p place k x y : ℕ) → place ≡ 512 * p + 24 + k → k + 8 ≤ 16 → x ≡ u64At c place → y ≡ u64At name k → (x ≡ y → ⊥) → false ≡ same (descriptorAt c p .name) name

@@ -61,6 +61,10 @@ store p b = record { at = p; bytes = b }
 unfoldable pub storeBlock : List ℕ → ℕ → List ℕ → List ℕ
 storeBlock c p b = splice c (blockSize * p) b
 
+-- the area after the first k bytes of a store of block p
+unfoldable pub storeUpto : List ℕ → ℕ → List ℕ → ℕ → List ℕ
+storeUpto c p b k = splice c (blockSize * p) (take k b)
+
 -- the area after a list of stores, first to last
 unfoldable pub storeAll : List ℕ → List Store → List ℕ
 storeAll c [] = c

@@ -7,7 +7,7 @@ ghost use Prim.Native.Nat.{_+_, _*_, _≤_, _<_};
 ghost use lib.ListN.{length};
 ghost use lib.Dec.{eqb};
 ghost use Rattle.blocks.specs.Pick.{same, allZero};
-ghost use Rattle.blocks.specs.Bytes.{blockSize, u32At, u64At, le32, splice, part, blockAt, zeroBlock, storeBlock};
+ghost use Rattle.blocks.specs.Bytes.{blockSize, u32At, u64At, le32, splice, part, zeroBlock, storeBlock};
 
 fn wide(x: u8) -> u32
     ensures { λ r. ⌜ r ≡ x ⌝ }
@@ -77,20 +77,6 @@ pub fn store_block(card: &mut [u8], p: Physical, block: &[u8])
     ensures { λ _. ⌜ now (card .exit) ≡ storeBlock (now (card .entry)) (p .0) (now (block .entry)) ⌝ }
 {
     put_bytes(card, BLOCK_SIZE * (p.0 as usize), block);
-}
-
-// Block `to` is now a copy of block `from`.
-pub fn copy_block(card: &mut [u8], from: Physical, to: Physical)
-    requires { ⌜ (blockSize * from .0 + blockSize ≤ length (now card)) × (blockSize * «to» .0 + blockSize ≤ length (now card)) ⌝ }
-    ensures { λ _. ⌜ now (card .exit) ≡ storeBlock (now (card .entry)) («to» .0) (blockAt (now (card .entry)) (from .0)) ⌝ }
-{
-    let a = BLOCK_SIZE * (from.0 as usize);
-    let b = BLOCK_SIZE * (to.0 as usize);
-    let mut i = 0;
-    while i < BLOCK_SIZE {
-        card[b + i] = card[a + i];
-        i += 1;
-    }
 }
 
 // Block `p` is now zeros.

@@ -154,12 +154,3 @@ pub fn put_descriptor(card: &mut [u8], p: Physical, d: Descriptor)
     let end = at + HEAD_SIZE;
     put_head(&mut card[at..end], d);
 }
-
-// Block `p` is now the descriptor, with bytes 40 to 511 as they stand in block `from`.
-pub fn store_descriptor(card: &mut [u8], from: Physical, p: Physical, d: Descriptor)
-    requires { ⌜ (blockSize * from .0 + blockSize ≤ length (now card)) × (blockSize * p .0 + blockSize ≤ length (now card)) ⌝ }
-    ensures { λ _. ⌜ now (card .exit) ≡ storeBlock (now (card .entry)) (p .0) (descriptorBlock d (tailAt (now (card .entry)) (from .0))) ⌝ }
-{
-    bytes::copy_block(card, from, p);
-    put_descriptor(card, p, d);
-}

@@ -1,82 +1,39 @@
 -- Laws of the snapshot, as the code asks them.
 use mathlib.Core.Path.{_≡_, refl, sym, ap, _∙_}
 use mathlib.Core.Bool.{Bool, true, false, not}
-use mathlib.Core.List.{List, [], _∷_, _++_}
-use Prim.Native.Nat.{ℕ, zero, suc, _+_, _*_, _-_, _/_, _≤_, _<_}
-use native.Mathlib.Numerals.{add-one}
+use mathlib.Core.List.{List, [], _∷_}
+use Prim.Native.Nat.{ℕ, _+_, _*_, _-_, _/_, _≤_, _<_}
 use native.Mathlib.Omega.{arith}
 use lib.ListN.{length, take, drop}
 use borrow.Author.Tests.{lt-ltb, le-ltb, le-leb, lt-leb}
-use Rattle.blocks.specs.Bytes.{Store, store, part, blockCount, blockAt, storeBlock, storeAll}
+use Rattle.blocks.specs.Bytes.{store, part, blockCount, storeBlock, storeAll, storeUpto}
 use Rattle.blocks.specs.Name.{isName}
 use Rattle.blocks.specs.Descriptor.{costOf, tailAt, descriptorBlock, renamedOf, linkedOf, reopenedOf, copying}
 use Rattle.chains.specs.Chain.{chain, descriptors, named, descriptorsAt, regionsOf}
 use Rattle.blocks.specs.declared.descriptor.Descriptor.{Descriptor}
 use Rattle.chains.specs.declared.chain.Regions.{Regions}
-use Rattle.blocks.proofs.ByteLaws.{store-other, store-length, length-blockAt}
+use Rattle.blocks.proofs.ByteLaws.{upto-whole}
 use Rattle.blocks.proofs.DescriptorLaws.{head-length, block-length, tail-block, store-tail}
 use Rattle.calls.specs.Call.{Snap, answer, accepted}
 use Rattle.calls.specs.Parts.{areaBad}
 use Rattle.calls.specs.Ladder.{admission, firstRow, snapRows}
 use Rattle.calls.specs.Effect.{snapping, snapStores}
 use Rattle.calls.specs.Meaning.{rowsOf, answerOf, storesOf}
-use Rattle.blocks.proofs.StoreLists.{stored-append, stored-one}
+use Rattle.blocks.proofs.StoreLists.{stored-append, stored-length, inside-copying, copied-out}
 use Rattle.calls.proofs.CardLaws.{card-some, card-all, card-snapshot-count, card-found}
 use Rattle.calls.proofs.RowLaws.{row-given, row-passed, last-passed, Reached, reached, admitted, name-passed}
 use Rattle.calls.specs.declared.answer.Answer.{Answer}
 
--- copies of blocks that stand before where they go
-copying-snoc : (c : List ℕ) (from to n : ℕ) → copying c from to (suc n) ≡ copying c from to n ++ (store (to + n) (blockAt c (from + n)) ∷ [])
-unfolding copying
-copying-snoc c from to zero = let e : to + 0 ≡ to = omega arith in let f : from + 0 ≡ from = omega arith in rw (e, f)
-copying-snoc c from to (suc n) =
-    let e : to + suc n ≡ suc to + n = omega arith in
-    let f : from + suc n ≡ suc from + n = omega arith in
-    rw (e, f) (ap (λ (l : List Store). store to (blockAt c from) ∷ l) (copying-snoc c (suc from) (suc to) n))
+-- copies of blocks that stand before where they go: the length, and bytes 40 to 511 of a block before the copies
+module _ (c : List ℕ) (from to n : ℕ) (before : from ≤ to) (inside : 512 * (to + n) ≤ length c) where
+  copied-length : length (storeAll c (copying c from to n)) ≡ length c
+  copied-length = stored-length (length c) c refl (inside-copying c from to n before inside)
 
-module _ (c : List ℕ) (from to : ℕ) where
-  abbrev after : ℕ → List ℕ
-  after n = storeAll c (copying c from to n)
-
-  after-suc : (n : ℕ) → after (suc n) ≡ storeBlock (after n) (to + n) (blockAt c (from + n))
-  after-suc n =
-      ap (storeAll c) (copying-snoc c from to n)
-      ∙ stored-append c (copying c from to n) (store (to + n) (blockAt c (from + n)) ∷ [])
-      ∙ stored-one (after n) (to + n) (blockAt c (from + n))
-
-  after-zero : after 0 ≡ c
-  unfolding copying storeAll
-  after-zero = refl
-
-  copied-length : (n : ℕ) → from + n ≤ to → 512 * (to + n) ≤ length c → length (after n) ≡ length c
-  copied-length zero h l = ap length after-zero
-  copied-length (suc n) h l =
-      let before = copied-length n (omega arith) (omega arith) in
-      ap length (after-suc n) ∙ store-length (after n) (to + n) (blockAt c (from + n)) (length-blockAt c (from + n) (omega arith)) (omega arith) ∙ before
-
-  -- a block before them is as it was
-  pub copied-other : (n q : ℕ) → from + n ≤ to → 512 * (to + n) ≤ length c → q < to → blockAt (after n) q ≡ blockAt c q
-  copied-other zero q h l m = ap (λ (x : List ℕ). blockAt x q) after-zero
-  copied-other (suc n) q h l m =
-      ap (λ (x : List ℕ). blockAt x q) (after-suc n)
-      ∙ store-other (after n) (to + n) (blockAt c (from + n)) (length-blockAt c (from + n) (omega arith)) (omega (arith, copied-length n (omega arith) (omega arith))) q (omega arith)
-      ∙ copied-other n q (omega arith) (omega arith) m
-
-  pub copied-none : c ≡ after 0
-  copied-none = sym after-zero
-
-  pub copied-more : (n i : ℕ) (x y b : List ℕ) → i < n → from + n ≤ to → 512 * (to + n) ≤ length c → x ≡ after i → b ≡ blockAt x (from + i) → y ≡ storeBlock x (to + i) b → y ≡ after (i + 1)
-  copied-more n i x y b m h l e f g =
-      let q : b ≡ blockAt c (from + i) = f ∙ ap (λ (z : List ℕ). blockAt z (from + i)) e ∙ copied-other i (from + i) (omega arith) (omega arith) (omega arith) in
-      rw add-one (g ∙ ap (λ (z : List ℕ). storeBlock z (to + i) b) e ∙ ap (storeBlock (after i) (to + i)) q ∙ sym (after-suc i))
-
-  pub copied-all : (n i : ℕ) (x : List ℕ) → x ≡ after i → i ≤ n → n ≤ i → x ≡ after n
-  copied-all n i x e h k = let q : i ≡ n = omega arith in rw (← q) e
-
--- bytes 40 to 511 of a block before them too
-tail-copied : (c : List ℕ) (from to n q : ℕ) → from + n ≤ to → 512 * (to + n) ≤ length c → q < to → 512 * q + 512 ≤ length c → tailAt (storeAll c (copying c from to n)) q ≡ tailAt c q
-tail-copied c from to n q h l m i =
-    sym (tail-block (after c from to n) q (rw (copied-length c from to n h l) i)) ∙ ap (λ (y : List ℕ). part y 40 472) (copied-other c from to n q h l m) ∙ tail-block c q i
+  tail-copied : (q : ℕ) → q < to → 512 * q + 512 ≤ length c → tailAt (storeAll c (copying c from to n)) q ≡ tailAt c q
+  tail-copied q m i =
+      sym (tail-block (storeAll c (copying c from to n)) q (rw copied-length i))
+      ∙ ap (λ (y : List ℕ). part y 40 472) (copied-out c c refl from to n before inside q (λ j k. omega arith))
+      ∙ tail-block c q i
 
 -- the copy, the new descriptor, the old one
 snap-stored : (c c₁ c₂ c₃ : List ℕ) (d o r e : Descriptor) (name : List ℕ) (k : ℕ) (opened closed : List ℕ) → k ≡ costOf d → o ≡ reopenedOf d → opened ≡ descriptorBlock o (tailAt c (d .alpha .0))
@@ -97,21 +54,30 @@ module _ (c c₁ : List ℕ) (d : Descriptor) (k : ℕ) (some : 1 ≤ k) (below 
   length-is = ap length copied ∙ copied-length c (d .alpha .0 + 1) (d .beta .0 + 1) (k - 1) (omega arith) (omega arith)
 
   tail-first : tailAt c₁ (d .alpha .0) ≡ tailAt c (d .alpha .0)
-  tail-first = ap (λ (y : List ℕ). tailAt y (d .alpha .0)) copied ∙ tail-copied c (d .alpha .0 + 1) (d .beta .0 + 1) (k - 1) (d .alpha .0) (omega arith) (omega arith) (omega arith) (omega arith)
+  tail-first = ap (λ (y : List ℕ). tailAt y (d .alpha .0)) copied ∙ tail-copied c (d .alpha .0 + 1) (d .beta .0 + 1) (k - 1) (omega arith) (omega arith) (d .alpha .0) (omega arith) (omega arith)
 
-  tail-second : (o : Descriptor) → o ≡ reopenedOf d → length (d .name) ≡ 16 → tailAt (storeBlock c₁ (d .beta .0) (descriptorBlock o (tailAt c₁ (d .alpha .0)))) (d .alpha .0) ≡ tailAt c (d .alpha .0)
-  tail-second o o-is n =
-      let b : List ℕ = descriptorBlock o (tailAt c₁ (d .alpha .0)) in
-      let m : length (o .name) ≡ 16 = ap (λ (x : Descriptor). length (x .name)) o-is ∙ n in
-      let l = length-is in
-      let in-alpha : 512 * d .alpha .0 + 512 ≤ length c₁ = omega (arith, l) in
-      store-tail c₁ (d .beta .0) b (d .alpha .0) (block-length c₁ (d .alpha .0) o b in-alpha (head-length o m) refl) (omega (arith, l)) in-alpha (omega arith) ∙ tail-first
+  module _ (o : Descriptor) (o-is : o ≡ reopenedOf d) (n : length (d .name) ≡ 16) where
+    abbrev opened : List ℕ
+    opened = descriptorBlock o (tailAt c₁ (d .alpha .0))
 
-  pub snapped : (c₂ c₃ : List ℕ) (o r e : Descriptor) (name : List ℕ) → length (d .name) ≡ 16 → k ≡ costOf d → o ≡ reopenedOf d → r ≡ renamedOf d name → e ≡ linkedOf r (d .beta)
-      → c₂ ≡ storeBlock c₁ (d .beta .0) (descriptorBlock o (tailAt c₁ (d .alpha .0))) → c₃ ≡ storeBlock c₂ (d .alpha .0) (descriptorBlock e (tailAt c₂ (d .alpha .0))) → c₃ ≡ storeAll c (snapping c d name)
-  snapped c₂ c₃ o r e name n k-is o-is r-is e-is q s =
-      snap-stored c c₁ c₂ c₃ d o r e name k (descriptorBlock o (tailAt c₁ (d .alpha .0))) (descriptorBlock e (tailAt c₂ (d .alpha .0))) k-is o-is (ap (descriptorBlock o) tail-first) r-is e-is
-      (ap (descriptorBlock e) (ap (λ (y : List ℕ). tailAt y (d .alpha .0)) q ∙ tail-second o o-is n)) copied q s
+    in-alpha : 512 * d .alpha .0 + 512 ≤ length c₁
+    in-alpha = omega (arith, length-is)
+
+    in-beta : 512 * d .beta .0 + 512 ≤ length c₁
+    in-beta = omega (arith, length-is)
+
+    opened-length : length opened ≡ 512
+    opened-length = block-length c₁ (d .alpha .0) o opened in-alpha (head-length o (ap (λ (x : Descriptor). length (x .name)) o-is ∙ n)) refl
+
+    tail-second : tailAt (storeBlock c₁ (d .beta .0) opened) (d .alpha .0) ≡ tailAt c (d .alpha .0)
+    tail-second = store-tail c₁ (d .beta .0) opened (d .alpha .0) opened-length in-beta in-alpha (omega arith) ∙ tail-first
+
+    pub snapped : (c₂ c₃ : List ℕ) (r e : Descriptor) (name : List ℕ) → k ≡ costOf d → r ≡ renamedOf d name → e ≡ linkedOf r (d .beta) → c₂ ≡ storeUpto c₁ (d .beta .0) opened 512
+        → c₃ ≡ storeBlock c₂ (d .alpha .0) (descriptorBlock e (tailAt c₂ (d .alpha .0))) → c₃ ≡ storeAll c (snapping c d name)
+    snapped c₂ c₃ r e name k-is r-is e-is stored s =
+        let q : c₂ ≡ storeBlock c₁ (d .beta .0) opened = stored ∙ upto-whole c₁ (d .beta .0) opened opened-length in-beta in
+        snap-stored c c₁ c₂ c₃ d o r e name k opened (descriptorBlock e (tailAt c₂ (d .alpha .0))) k-is o-is (ap (descriptorBlock o) tail-first) r-is e-is
+        (ap (descriptorBlock e) (ap (λ (y : List ℕ). tailAt y (d .alpha .0)) q ∙ tail-second)) copied q s
 
 -- the rows of a snap that follow the chain's, in the order of the code
 pub snap-reached : (c name : List ℕ) (a : Answer) → a ≡ firstRow (admission c) → a .number ≡ 0 → (n : Bool) → n ≡ isName name → not n ≡ false → (r : Regions) → r ≡ regionsOf (chain c)

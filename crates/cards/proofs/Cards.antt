@@ -1,11 +1,14 @@
 -- Whole cards after a call: what the definitions compute is what the tables say.
 use mathlib.Core.Path.{_≡_, refl}
-use mathlib.Core.List.{map}
+use mathlib.Core.List.{List, map}
+use Prim.Native.Nat.{ℕ}
 use native.Mathlib.Omega.{arith}
 use lib.ListN.{getD}
 use Rattle.calls.specs.Step.{Done}
-use Rattle.cards.specs.Cards.{NumberBytes, DescriptorBytes, counting, said, left, writes1, writes2, snaps, reverts, WrongCards}
+use Rattle.cards.specs.Cards.{NumberBytes, DescriptorBytes, counting, said, left, writes1, writes2, snaps, reverts, stops, during, stopped, WrongCards}
+use Rattle.blocks.specs.Bytes.{storeUpto}
 use Rattle.claims.specs.Claims.{lentAtEntry}
+use Rattle.claims.specs.OnePass.{beforePass, duringPass}
 use Rattle.claims.proofs.Bench.{apart}
 use Rattle.claims.proofs.Running.{running}
 
@@ -33,9 +36,14 @@ pub reverts-leave : map left reverts ≡ map said reverts
 unfolding running reverts counting said left lentAtEntry
 reverts-leave = refl
 
+pub stops-leave : map during stops ≡ map stopped stops
+unfolding running stops counting during stopped duringPass beforePass storeUpto
+stops-leave = refl
+
 pub wrong-cards : WrongCards
-unfolding running WrongCards counting said left lentAtEntry
+unfolding running WrongCards counting said left lentAtEntry during stopped duringPass beforePass storeUpto
 wrong-cards = (
   apart (λ (d : Done). d .outcome .answer .number) 11 0 (λ e. omega arith) _ _ refl refl,
   apart (λ (d : Done). getD (d .card) 528 0) 2 3 (λ e. omega arith) _ _ refl refl,
+  apart (λ (c : List ℕ). getD c 1548 0) 3 0 (λ e. omega arith) _ _ refl refl,
 )

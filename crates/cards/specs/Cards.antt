@@ -1,15 +1,16 @@
--- Whole cards after a write, a snap and a revert, in both layouts, block by block as 01 says; a stored number and a descriptor's block, byte by byte.
+-- Whole cards after a write, a snap and a revert, in both layouts, block by block as 01 says, and in a snap's pass as 02 says (W3); a stored number and a descriptor's block, byte by byte.
 -- The bytes of the data blocks count up, so that none is like its neighbours.
 use mathlib.Core.Path.{_≡_}
 use mathlib.Core.List.{List, [], _∷_, _++_}
-use Prim.Native.Nat.{ℕ, zero, suc, _%_}
-use lib.ListN.{replicate}
+use Prim.Native.Nat.{ℕ, zero, suc, _+_, _-_, _%_}
+use lib.ListN.{replicate, take}
 use Rattle.blocks.specs.Bytes.{u32At, le32}
 use Rattle.blocks.specs.Descriptor.{descriptorBlock}
 use Rattle.blocks.specs.declared.descriptor.Descriptor.{Descriptor}
 use Rattle.calls.specs.Call.{Call, Write, Snap, Revert, accepted}
 use Rattle.calls.specs.Step.{Done, step, done}
 use Rattle.claims.specs.Claims.{lentAtEntry}
+use Rattle.claims.specs.OnePass.{duringPass}
 use Rattle.claims.specs.Bench.{fs, mon, tue, lent}
 use Rattle.samples.specs.Samples.{descriptor, bare, withPhi, table}
 
@@ -149,10 +150,92 @@ reverts =
     (fullPhi (descriptor 2 130 0 3 3 mon) 1 0 10 ++ table 2 0 ++ counted 2 ++ fullPhi (descriptor 2 130 3 5 0 fs) 1 0 20 ++ counted 4 ++ fullPhi (descriptor 2 130 5 6 0 fs) 1 0 30 ++ lent)
     ∷ []
 
--- The tables tell wrong from right: a call that is refused, and a card with one wrong byte, are not what is left.
+-- a snap's pass that is stopped: the card at the snap's entry, how many bytes are stored, and the card then
+pub record Stop : Type 0 where
+  pub entry : List ℕ
+  pub count : ℕ
+  pub card : List ℕ
+
+-- the free block that becomes the new descriptor's is counted 50 at entry: its first k bytes replaced
+abbrev pub begun : ℕ → List ℕ → List ℕ
+begun k bytes = bytes ++ counting (512 - k) (50 + k)
+
+-- the first two cards of snaps, and what the pass leaves of them after k bytes; in layout 1 the two table blocks are copied before
+abbrev pub stop1 : ℕ → List ℕ → Stop
+stop1 k bytes =
+    record {
+      entry = bare (descriptor 1 130 0 5 0 fs) ++ counted 1 ++ counted 2 ++ counted 3 ++ counted 4 ++ counted 50 ++ counted 60 ++ counted 70 ++ lent;
+      count = k;
+      card = bare (descriptor 1 130 0 5 0 fs) ++ counted 1 ++ counted 2 ++ counted 3 ++ counted 4 ++ begun k bytes ++ counted 1 ++ counted 2 ++ lent;
+    }
+
+abbrev pub stop2 : ℕ → List ℕ → Stop
+stop2 k bytes =
+    record {
+      entry = fullPhi (descriptor 2 130 0 3 0 letters16) 1 0 10 ++ table 2 0 ++ counted 2 ++ counted 50 ++ lent;
+      count = k;
+      card = fullPhi (descriptor 2 130 0 3 0 letters16) 1 0 10 ++ table 2 0 ++ counted 2 ++ begun k bytes ++ lent;
+    }
+
+-- the third and the fourth, a second snap; and a card of two blocks
+abbrev pub second1 : ℕ → List ℕ → Stop
+second1 k bytes =
+    record {
+      entry = bare (descriptor 1 130 0 4 4 mon) ++ counted 1 ++ counted 2 ++ counted 3 ++ bare (descriptor 1 130 4 8 0 fs) ++ counted 5 ++ counted 6 ++ counted 7 ++ counted 50 ++ counted 60 ++ counted 70 ++ lent;
+      count = k;
+      card = bare (descriptor 1 130 0 4 4 mon) ++ counted 1 ++ counted 2 ++ counted 3 ++ bare (descriptor 1 130 4 8 0 fs) ++ counted 5 ++ counted 6 ++ counted 7 ++ begun k bytes ++ counted 5 ++ counted 6 ++ lent;
+    }
+
+abbrev pub second2 : ℕ → List ℕ → Stop
+second2 k bytes =
+    record {
+      entry = withPhi (descriptor 2 130 0 3 3 mon) 1 0 ++ table 2 0 ++ counted 2 ++ fullPhi (descriptor 2 130 3 6 0 fs) 4 0 10 ++ table 5 0 ++ counted 5 ++ counted 50;
+      count = k;
+      card = withPhi (descriptor 2 130 0 3 3 mon) 1 0 ++ table 2 0 ++ counted 2 ++ fullPhi (descriptor 2 130 3 6 0 fs) 4 0 10 ++ table 5 0 ++ counted 5 ++ begun k bytes;
+    }
+
+abbrev pub small : ℕ → List ℕ → Stop
+small k bytes = record { entry = bare (descriptor 2 300 0 1 0 fs) ++ counted 50; count = k; card = bare (descriptor 2 300 0 1 0 fs) ++ begun k bytes }
+
+-- bytes 0 to 19 of a descriptor's block: the mark, layout, L, whose two lower bytes are given, alpha and beta
+abbrev pub firstTwenty : ℕ → ℕ → ℕ → ℕ → ℕ → List ℕ
+firstTwenty layout low high alpha beta = 115 ∷ 110 ∷ 97 ∷ 112 ∷ layout ∷ 0 ∷ 0 ∷ 0 ∷ low ∷ high ∷ 0 ∷ 0 ∷ alpha ∷ 0 ∷ 0 ∷ 0 ∷ beta ∷ 0 ∷ 0 ∷ 0 ∷ []
+
+-- The pass stores the bytes of the new descriptor's block rising, each in its last form; the old descriptor keeps its bytes.
+unfoldable pub stops : List Stop
+stops =
+    -- layout 2: no byte; one; alpha and beta, which are the new region's at once; all of the name but its last byte; the name whole; one of the 24 bytes before
+    -- Phi; all but the last byte; the whole block
+    stop2 0 []
+    ∷ stop2 1 (115 ∷ [])
+    ∷ stop2 20 (firstTwenty 2 130 0 3 4)
+    ∷ stop2 39 (firstTwenty 2 130 0 3 4 ++ replicate 4 0 ++ take 15 letters16)
+    ∷ stop2 40 (firstTwenty 2 130 0 3 4 ++ replicate 4 0 ++ letters16)
+    ∷ stop2 41 (firstTwenty 2 130 0 3 4 ++ replicate 4 0 ++ letters16 ++ (0 ∷ []))
+    ∷ stop2 511 (firstTwenty 2 130 0 3 4 ++ replicate 4 0 ++ letters16 ++ replicate 24 0 ++ le32 1 ++ le32 0 ++ counting 439 10)
+    ∷ stop2 512 (fullPhi (descriptor 2 130 3 4 0 letters16) 1 0 10)
+    -- layout 1: the table blocks stand before the first byte
+    ∷ stop1 0 []
+    ∷ stop1 20 (firstTwenty 1 130 0 5 8)
+    ∷ stop1 300 (firstTwenty 1 130 0 5 8 ++ replicate 4 0 ++ (102 ∷ 115 ∷ []) ++ replicate 274 0)
+    ∷ stop1 512 (bare (descriptor 1 130 5 8 0 fs))
+    -- the active region is not the first; L is 300
+    ∷ second1 20 (firstTwenty 1 130 0 8 11)
+    ∷ second2 20 (firstTwenty 2 130 0 6 7)
+    ∷ small 20 (firstTwenty 2 44 1 1 2)
+    ∷ []
+
+unfoldable pub during : Stop → List ℕ
+during s = duringPass (s .entry) (s .count)
+
+unfoldable pub stopped : Stop → List ℕ
+stopped s = s .card
+
+-- The tables tell wrong from right: a call that is refused, and a card with one wrong byte, are not what is left; nor are, after 20 bytes of the pass, the old block's alpha and beta.
 unfoldable pub WrongCards : Type 0
 WrongCards =
     (left (change (bare (descriptor 2 1 0 2 0 fs) ++ counted 1) (Snap mon) (bare (descriptor 2 1 0 2 0 fs) ++ counted 1))
     ≡ said (change (bare (descriptor 2 1 0 2 0 fs) ++ counted 1) (Snap mon) (bare (descriptor 2 1 0 2 0 fs) ++ counted 1)) → ⊥)
     × (left (change (bare (descriptor 2 1 0 1 0 fs) ++ counted 1) (Snap mon) (bare (descriptor 2 1 0 1 1 mon) ++ bare (descriptor 2 1 1 3 0 fs)))
     ≡ said (change (bare (descriptor 2 1 0 1 0 fs) ++ counted 1) (Snap mon) (bare (descriptor 2 1 0 1 1 mon) ++ bare (descriptor 2 1 1 3 0 fs))) → ⊥)
+    × (during (stop2 20 (firstTwenty 2 130 0 0 3)) ≡ stopped (stop2 20 (firstTwenty 2 130 0 0 3)) → ⊥)

@@ -6,9 +6,9 @@ use mathlib.Core.List.{List, [], _∷_}
 use Prim.Native.Nat.{ℕ, zero, suc, _+_, _*_, _-_, _/_, _≤_, _<_}
 use native.Mathlib.Omega.{arith}
 use lib.ListN.{length, take, drop, getD, length-take, length-drop}
-use lib.Seq.{getD-take, getD-drop}
+use lib.Seq.{getD-drop}
 use lib.Dec.{eqb, ltb, leb}
-use borrow.Author.Tests.{eq-eqb, ne-eqb, lt-ltb, le-ltb, le-leb, eqb-true, eqb-false, ltb-true, leb-true, not-true}
+use borrow.Author.Tests.{eq-eqb, ne-eqb, lt-ltb, le-leb, eqb-true, ltb-true, leb-true, not-true}
 use Rattle.blocks.specs.Pick.{pick, same, allZero}
 use Rattle.blocks.specs.Bytes.{part, u32At, blockCount}
 use Rattle.blocks.specs.Name.{nameByte, nameLength, isName}
@@ -19,7 +19,7 @@ use Rattle.blocks.proofs.BoolLaws.{no, true-or, or-false-both}
 use Rattle.blocks.proofs.ListLaws.{same-equal, same-self}
 use Rattle.blocks.proofs.ByteLaws.{part-at}
 use Rattle.chains.specs.Chain.{formOk, regionOk, named, sound}
-use Rattle.chains.specs.Soundness.{numberAt, NameByte, NameRules, IsTableCount, SoundRules, NameRulesClaim, SoundRulesClaim}
+use Rattle.chains.specs.Soundness.{numberAt, NameByte, NameRules, SoundRules, NameRulesClaim, SoundRulesClaim}
 use Rattle.chains.proofs.NamedLaws.{named-none, named-cons}
 
 -- both of a conjunction, one of a disjunction

@@ -1,15 +1,15 @@
 -- Two cards that agree, that is with equal bytes below one beta, have one chain, and the rows of every call and what it fills are the same on both.
 use mathlib.Core.Path.{_≡_, refl, sym, ap, _∙_}
-use mathlib.Core.Bool.{false, not, _&&_}
+use mathlib.Core.Bool.{true, false, not, _&&_}
 use mathlib.Core.List.{List, [], _∷_}
 use Prim.Native.Nat.{ℕ, suc, _+_, _*_, _≤_, _<_}
 use native.Mathlib.Omega.{arith}
 use lib.ListN.{length, getD}
 use lib.Dec.{ltb}
 use borrow.Author.Tests.{leb-false}
-use Rattle.blocks.specs.Bytes.{part, blockCount}
+use Rattle.blocks.specs.Bytes.{part, blockAt, blockCount}
 use Rattle.blocks.specs.Descriptor.{noDescriptor}
-use Rattle.chains.specs.Chain.{Sound, chain, named, activeOf}
+use Rattle.chains.specs.Chain.{Chain, Sound, chain, chainSound, descriptors, named, activeOf}
 use Rattle.blocks.specs.declared.descriptor.Descriptor.{Descriptor}
 use Rattle.blocks.proofs.ByteLaws.{blocks-long, taken-block}
 use Rattle.links.proofs.LinkedLaws.{chain-few}
@@ -31,48 +31,72 @@ use Rattle.calls.specs.declared.answer.Record.{Record}
 use Rattle.blocks.specs.declared.descriptor.Format.{Format}
 use Rattle.calls.proofs.ActiveLaws.{target-member, active-target, chain-starts, chain-some, active-rise, active-end, region-end-is, region-below, volume-at}
 use Rattle.calls.proofs.CellLaws.{local-block}
-use Rattle.blocks.proofs.StoreLists.{count-kept}
+use Rattle.blocks.proofs.StoreLists.{count-kept, blocks-taken}
 use Rattle.calls.proofs.RowLaws.{SameRows, then, same-rows}
+
+-- a card with a sound chain: its descriptors, and its beta
+module _ (s : List ℕ) (whole : chainSound (chain s) ≡ true) where
+  sound-is : chain s ≡ Sound (descriptorsOf s)
+  sound-is = chain-is (chain s) whole
+
+  start-below : 0 < betaOf s
+  unfolding betaOf
+  start-below = omega (arith, active-rise s (descriptorsOf s) sound-is)
+
+  beta-inside : 512 * betaOf s ≤ length s
+  unfolding betaOf
+  beta-inside = blocks-long s (activeOf (descriptorsOf s) .beta .0) (active-end s (descriptorsOf s) sound-is)
+
+-- a second card of the same length with the same blocks below that beta: one chain, so the two agree
+module _ (s t : List ℕ) (whole : chainSound (chain s) ≡ true) (long : length s ≡ length t) (same : (p : ℕ) → p < betaOf s → blockAt s p ≡ blockAt t p) where
+  abbrev below : Below s t (betaOf s)
+  below = record { long = long; some = start-below s whole; inside = beta-inside s whole; blocks = same }
+
+  chain-same : chain s ≡ chain t
+  unfolding betaOf
+  chain-same =
+      let ds = descriptorsOf s in
+      let is = sound-is s whole in
+      is ∙ sym (linked-chain t ds (below-linked s t (betaOf s) below (chain-starts s ds is) (omega (arith, region-end-is s ds is))) (chain-few s ds is))
+
+  pub blocks-agree : Agree s t
+  unfolding betaOf
+  blocks-agree =
+      record {
+        long = long;
+        sound = whole;
+        sound′ = ap chainSound (sym chain-same) ∙ whole;
+        beta = ap (λ (x : Chain). activeOf (descriptors x) .beta .0) chain-same;
+        below = blocks-taken s t (betaOf s) same;
+      }
 
 module _ (s t : List ℕ) (agree : Agree s t) where
   abbrev ds : List Descriptor
   ds = descriptorsOf s
 
-  sound-is : chain s ≡ Sound ds
-  sound-is = chain-is (chain s) (agree .sound)
+  sound-ds : chain s ≡ Sound ds
+  sound-ds = sound-is s (agree .sound)
 
   some : 0 < length ds
-  some = chain-some s ds sound-is
+  some = chain-some s ds sound-ds
 
-  start-below : 0 < betaOf s
-  unfolding betaOf
-  start-below = omega (arith, active-rise s ds sound-is)
-
-  beta-inside : 512 * betaOf s ≤ length s
-  unfolding betaOf
-  beta-inside = blocks-long s (activeOf ds .beta .0) (active-end s ds sound-is)
+  same-below : (p : ℕ) → p < betaOf s → blockAt s p ≡ blockAt t p
+  same-below p h =
+      let inside = beta-inside s (agree .sound) in
+      taken-block s (betaOf s) p h inside ∙ ap (λ (c : List ℕ). part c (512 * p) 512) (agree .below) ∙ sym (taken-block t (betaOf s) p h (omega (arith, inside, agree .long)))
 
   pub agree-below : Below s t (betaOf s)
-  agree-below =
-      record {
-        long = agree .long;
-        some = start-below;
-        inside = beta-inside;
-        blocks = λ p h. taken-block s (betaOf s) p h beta-inside ∙ ap (λ (c : List ℕ). part c (512 * p) 512) (agree .below) ∙ sym (taken-block t (betaOf s) p h (omega (arith, beta-inside, agree .long)));
-      }
+  agree-below = below s t (agree .sound) (agree .long) same-below
 
   pub agree-chain : chain s ≡ chain t
-  unfolding betaOf
-  agree-chain =
-      sound-is
-      ∙ sym (linked-chain t ds (below-linked s t (betaOf s) agree-below (chain-starts s ds sound-is) (omega (arith, region-end-is s ds sound-is))) (chain-few s ds sound-is))
+  agree-chain = chain-same s t (agree .sound) (agree .long) same-below
 
   agree-count : blockCount s ≡ blockCount t
   agree-count = count-kept s t (agree .long)
 
   agree-region : (k : ℕ) → k < length ds → Region (getD ds k noDescriptor) (betaOf s)
   unfolding betaOf
-  agree-region k h = region-below s ds sound-is k h
+  agree-region k h = region-below s ds sound-ds k h
 
   -- what a read or a write finds
   module _ (target : Target) (name : List ℕ) (l : ℕ) (standing : (isSnapshot target && not (named (snapshotsOf ds) name)) ≡ false) (inside : l < activeOf ds .volume) where
@@ -82,7 +106,7 @@ module _ (s t : List ℕ) (agree : Agree s t) where
     target-volume : l < targetOf ds target name .volume
     target-volume =
         let m = target-member ds some target name standing in
-        omega (arith, inside, ap (λ (d : Descriptor). d .volume) (m .2), volume-at s ds sound-is (m .0) (m .1))
+        omega (arith, inside, ap (λ (d : Descriptor). d .volume) (m .2), volume-at s ds sound-ds (m .0) (m .1))
 
     pub found-same : find s ds (targetOf ds target name) l ≡ find t ds (targetOf ds target name) l
     found-same = local-find s t (betaOf s) agree-below (targetOf ds target name) target-region ds l target-volume

@@ -36,3 +36,4 @@ pub mod LedgerRun
 pub mod Places
 pub mod LedgerLaws
 pub mod LedgerRevert
+pub mod OnePass

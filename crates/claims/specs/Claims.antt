@@ -11,7 +11,7 @@ use Rattle.blocks.specs.Pick.{pick, same}
 use lib.Dec.{eqb}
 use Rattle.blocks.specs.Bytes.{blockSize, blockCount, blockAt, zeroBlock}
 use Rattle.blocks.specs.Name.{isName}
-use Rattle.blocks.specs.Descriptor.{physical, noDescriptor, tableSize, tailSize, tableCount, costOf, firstOf, descriptorAt, descriptorBlock, renamedOf, linkedOf, extendedOf, reopenedOf, costIn}
+use Rattle.blocks.specs.Descriptor.{physical, noDescriptor, tableSize, tailSize, tableCount, costOf, firstOf, descriptorBlock, renamedOf, linkedOf, extendedOf, reopenedOf, costIn}
 use Rattle.chains.specs.Chain.{Sound, Unsound, chain, chainSound, indexOf, named, activeOf}
 use Rattle.chains.specs.Chained.{FirstUnsound, Chained}
 use Rattle.blocks.specs.declared.descriptor.Descriptor.{Descriptor}

@@ -4,6 +4,7 @@ pub mod Kinds
 pub mod History
 pub mod Ledger
 pub mod Claims
+pub mod OnePass
 pub mod Bench
 pub mod Example
 pub mod SecondExample

@@ -7,6 +7,7 @@ use blocks::numbers::Physical;
 use blocks::sizes::BLOCK_SIZE;
 use blocks::sizes::PHI_START;
 use blocks::sizes::TABLE_SIZE;
+use copying::copy;
 ghost use mathlib.Core.Path.{_≡_};
 ghost use Prim.Native.Nat.{_+_, _*_, _≤_, _<_, _^_};
 ghost use lib.ListN.{length};
@@ -34,7 +35,7 @@ fn put_new_table(card: &mut [u8], p: Physical, m: Physical, j: u32, q: Physical)
         put_entry(card, p, j, q);
         return;
     }
-    bytes::copy_block(card, m, p);
+    copy::copy_block(card, m, p);
     put_entry(card, p, j, q);
 }
 

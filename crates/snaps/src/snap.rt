@@ -1,6 +1,5 @@
 // A snapshot of the active volume.
 use admitting::area;
-use blocks::bytes;
 use blocks::descriptor;
 use blocks::descriptor::Descriptor;
 use blocks::numbers::Physical;
@@ -9,6 +8,7 @@ use blocks::sizes::MOST_SNAPSHOTS;
 use blocks::sizes::NAME_SIZE;
 use calls::answer;
 use calls::answer::Answer;
+use copying::copy;
 use indexing::index;
 use names::name;
 use walking::chain;
@@ -16,24 +16,10 @@ ghost use mathlib.Core.Path.{_≡_};
 ghost use Prim.Native.Nat.{_+_, _*_, _≤_, _<_};
 ghost use lib.ListN.{length};
 ghost use Rattle.blocks.specs.Bytes.{storeAll, blockSize};
-ghost use Rattle.blocks.specs.Descriptor.{costOf, copying};
+ghost use Rattle.blocks.specs.Descriptor.{costOf};
 ghost use Rattle.calls.specs.Call.{Snap, None};
 ghost use Rattle.calls.specs.Effect.{snapping};
 ghost use Rattle.calls.specs.Step.{step, done};
-
-// The `n` blocks from block `to` are copies of those from block `from`, which stand before them.
-fn copy_blocks(card: &mut [u8], from: Physical, to: Physical, n: u32)
-    requires { ⌜ (from .0 + n ≤ «to» .0) × (blockSize * («to» .0 + n) ≤ length (now card)) × («to» .0 + n < 4294967296) ⌝ }
-    ensures { λ _. ⌜ now (card .exit) ≡ storeAll (now (card .entry)) (copying (now (card .entry)) (from .0) («to» .0) n) ⌝ }
-{
-    let mut i: u32 = 0;
-    while i < n {
-        let a = Physical(from.0 + i);
-        let b = Physical(to.0 + i);
-        bytes::copy_block(card, a, b);
-        i += 1;
-    }
-}
 
 // Opens a region at the active descriptor's beta, and leaves that descriptor behind under the name.
 fn take_snapshot(card: &mut [u8], d: Descriptor, cost: u32, name: [u8; NAME_SIZE])
@@ -46,8 +32,8 @@ fn take_snapshot(card: &mut [u8], d: Descriptor, cost: u32, name: [u8; NAME_SIZE
     let closed = d.renamed(name).linked(beta);
     let from = Physical(alpha.0 + 1);
     let to = Physical(beta.0 + 1);
-    copy_blocks(card, from, to, cost - 1);
-    descriptor::store_descriptor(card, alpha, beta, opened);
+    copy::copy_blocks(card, from, to, cost - 1);
+    copy::store_descriptor_upto(card, alpha, beta, opened, BLOCK_SIZE);
     descriptor::put_descriptor(card, alpha, closed);
 }
 

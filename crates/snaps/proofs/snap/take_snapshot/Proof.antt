@@ -27,8 +27,8 @@ sub-copy-blocks c = search needs
 copy-blocks-requires : tie.Need-copy-blocks-requires
 copy-blocks-requires c κs = search needs
 
-store-descriptor-requires : tie.Need-store-descriptor-requires
-store-descriptor-requires c κs = search needs
+store-descriptor-upto-requires : tie.Need-store-descriptor-upto-requires
+store-descriptor-upto-requires c κs = search needs
 
 put-descriptor-requires : tie.Need-put-descriptor-requires
 put-descriptor-requires c κs = search needs
@@ -46,7 +46,7 @@ returns c =
     let k = t .before .before .before .before in
     let e = k .before .before .before .before in
     let s = e .before .before .before .before .before .before in
-    snapped _ _ (s .args .d) _ (s .pre .4) (s .pre .1) (s .pre .2) (k .copy-blocks .ensures) _ _ _ _ _ _ (name-long s) (s .pre .0) (e .before .before .reopened .ensures) (e .before .renamed .ensures) (e .linked .ensures) (t .store-descriptor .ensures) (p .put-descriptor .ensures .0)
+    snapped _ _ (s .args .d) _ (s .pre .4) (s .pre .1) (s .pre .2) (k .copy-blocks .ensures) _ (e .before .before .reopened .ensures) (name-long s) _ _ _ _ _ (s .pre .0) (e .before .renamed .ensures) (e .linked .ensures) (t .store-descriptor-upto .ensures) (p .put-descriptor .ensures .0)
 
 pub take-snapshot-spec : {M : Type 1} → statement M
 take-snapshot-spec =
@@ -59,7 +59,7 @@ take-snapshot-spec =
     add-copy-blocks-2
     sub-copy-blocks
     copy-blocks-requires
-    store-descriptor-requires
+    store-descriptor-upto-requires
     put-descriptor-requires
     same-length
     returns)

@@ -1,5 +1,4 @@
 -- `is_right` meets its contract, by its two tests.
-use mathlib.Core.Path.{_≡_, sym}
 use borrow.Author.Needs.{needs}
 use borrow.Author.Tests.{not-true, not-false}
 use Rattle.validating.proofs.sound.is_right.Statement.{statement}

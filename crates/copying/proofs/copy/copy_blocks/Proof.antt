@@ -5,9 +5,9 @@ use native.Mathlib.Omega.{arith}
 use lib.ListN.{length}
 use Rattle.blocks.specs.Bytes.{storeAll}
 use Rattle.blocks.specs.Descriptor.{copying}
-use Rattle.calls.proofs.SnapLaws.{copied-none, copied-more, copied-all}
-use Rattle.snaps.proofs.snap.copy_blocks.Statement.{statement}
-use Rattle.snaps.proofs.snap.copy_blocks.Tie as tie
+use Rattle.copying.proofs.CopyLaws.{copies-none, copies-more, copies-all}
+use Rattle.copying.proofs.copy.copy_blocks.Statement.{statement}
+use Rattle.copying.proofs.copy.copy_blocks.Tie as tie
 
 abbrev Inv-loop : tie.InvT-loop
 Inv-loop card₀ from to n i₀ card i = (i ≤ n) × (length card ≡ length card₀) × (card ≡ storeAll card₀ (copying card₀ (from .0) («to» .0) i))
@@ -16,7 +16,7 @@ abbrev μ-loop : tie.MeasureT-loop
 μ-loop card₀ from to n i₀ card i = n - i
 
 loop-holds : tie.Need-loop-holds Inv-loop μ-loop
-loop-holds c = (omega arith, refl, copied-none _ _ _)
+loop-holds c = (omega arith, refl, copies-none _ _ _)
 
 add-t9 : tie.Need-add-t9 Inv-loop μ-loop
 add-t9 c = omega arith
@@ -40,14 +40,14 @@ loop-again c =
     let s = l .before .before in (
       omega arith,
       t .copy-block .kept .0 ∙ l .loop .inv .1,
-      copied-more _ _ _ _ _ _ _ _ (omega arith) (s .pre .0) (s .pre .1) (l .loop .inv .2) refl (t .copy-block .ensures),
+      copies-more _ _ _ _ _ _ _ _ (omega arith) (s .pre .0) (s .pre .1) (l .loop .inv .2) refl (t .copy-block .ensures),
     )
 
 same-length : tie.Need-same-length Inv-loop μ-loop
 same-length c = c .before .loop .inv .1
 
 returns : tie.Need-returns Inv-loop μ-loop
-returns c = search copied-all
+returns c = search copies-all
 
 pub copy-blocks-spec : {M : Type 1} → statement M
 copy-blocks-spec =

@@ -1,0 +1,2 @@
+-- What the tests' library gives.
+pub mod Prefix
