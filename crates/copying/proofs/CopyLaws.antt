@@ -15,7 +15,7 @@ use Rattle.blocks.specs.Pick.{pick}
 use Rattle.blocks.specs.Bytes.{Store, store, part, splice, blockAt, storeBlock, storeAll, storeUpto}
 use Rattle.blocks.specs.Descriptor.{headBytes, tailAt, descriptorBlock, copying}
 use Rattle.blocks.specs.declared.descriptor.Descriptor.{Descriptor}
-use Rattle.blocks.proofs.ByteLaws.{copied, copied-more, copied-all, copied-splice, copied-other, length-part, part-at, part-part, part-ext, splice-other, splice-join, splice-whole, length-splice}
+use Rattle.blocks.proofs.ByteLaws.{copied, copied-more, copied-all, copied-splice, copied-other, length-part, part-at, part-part, part-ext, part-join, splice-other, splice-join, splice-whole, length-splice}
 use Rattle.blocks.proofs.StoreLists.{stored-append, stored-one, copied-out}
 
 -- bytes s to e of block p copied to block q, one by one: the byte that comes next is as it was
@@ -87,13 +87,49 @@ pub block-copied : (c x : List ℕ) (p q : ℕ) → x ≡ splice c (512 * q + 0)
 unfolding storeBlock blockAt
 block-copied c x p q e = e ∙ rw (add-zero (512 * q), add-zero (512 * p))
 
--- the lesser of two numbers is above neither
+-- two copies, the second where the first ends, are one: what is still to be copied is as it was
+pub copies-join : (c x y : List ℕ) (p q s m e : ℕ) → s ≤ m → m ≤ e → e ≤ 512 → 512 * p + 512 ≤ length c → 512 * q + 512 ≤ length c → x ≡ splice c (512 * q + s) (part c (512 * p + s) (m - s))
+    → y ≡ splice x (512 * q + m) (part x (512 * p + m) (e - m)) → y ≡ splice c (512 * q + s) (part c (512 * p + s) (e - s))
+copies-join c x y p q s m e l h few inside-p inside-q f g =
+    let first : List ℕ = part c (512 * p + s) (m - s) in
+    let at-p : 512 * p + s + (m - s) ≡ 512 * p + m = omega arith in
+    let at-q : 512 * q + s + length first ≡ 512 * q + m = omega (arith, long) in
+    let last-long = length-part c (512 * p + m) (e - m) (omega arith) in
+    g
+    ∙ ap (splice x (512 * q + m)) (ap (λ (z : List ℕ). part z (512 * p + m) (e - m)) f ∙ kept)
+    ∙ ap (λ (z : List ℕ). splice z (512 * q + m) (part c (512 * p + m) (e - m))) f
+    ∙ splice-join c (512 * q + s) first (512 * q + m) (part c (512 * p + m) (e - m)) at-q (omega (arith, last-long))
+    ∙ ap (splice c (512 * q + s)) (part-join c (512 * p + s) (m - s) (e - m) (e - s) first (part c (512 * p + m) (e - m)) (omega arith) refl (ap (λ (n : ℕ). part c n (e - m)) (sym at-p)))
+  where
+    long : length (part c (512 * p + s) (m - s)) ≡ m - s
+    long = length-part c (512 * p + s) (m - s) (omega arith)
+
+    apart : (i : ℕ) → 512 * p + m ≤ i → i < 512 * p + m + (e - m) → (t : Bool) → ltb i (512 * q + s) ≡ t → (i < 512 * q + s) ⊎ (512 * q + s + length (part c (512 * p + s) (m - s)) ≤ i)
+    apart i j k true n = inl (ltb-true i (512 * q + s) n)
+    apart i j k false n = inr (omega (arith, long, ltb-false i (512 * q + s) n))
+
+    fits : 512 * q + s + length (part c (512 * p + s) (m - s)) ≤ length c
+    fits = omega (arith, long)
+
+    kept : part (splice c (512 * q + s) (part c (512 * p + s) (m - s))) (512 * p + m) (e - m) ≡ part c (512 * p + m) (e - m)
+    kept =
+        part-ext (splice c (512 * q + s) (part c (512 * p + s) (m - s))) c (512 * p + m) (e - m) (length-splice c (512 * q + s) (part c (512 * p + s) (m - s)) fits)
+        (λ i j k. splice-other c (512 * q + s) (part c (512 * p + s) (m - s)) fits i (apart i j k (ltb i (512 * q + s)) refl))
+
+-- the lesser of two numbers is above neither, and not below what is above neither
 pub lesser-is : (a b r : ℕ) → r ≡ pick (ltb a b) a b → (r ≤ a) × (r ≤ b)
 lesser-is a b r e = by (ltb a b) refl e
   where
     by : (t : Bool) → ltb a b ≡ t → r ≡ pick t a b → (r ≤ a) × (r ≤ b)
     by true q e = (omega arith, omega (arith, ltb-true a b q))
     by false q e = (omega (arith, ltb-false a b q), omega arith)
+
+pub lesser-most : (a b r n : ℕ) → r ≡ pick (ltb a b) a b → n ≤ a → n ≤ b → n ≤ r
+lesser-most a b r n e h l = by (ltb a b) e
+  where
+    by : (t : Bool) → r ≡ pick t a b → n ≤ r
+    by true e = omega arith
+    by false e = omega arith
 
 -- the pass: the first bytes of the head, then those of block p from there on, are the first k bytes of the descriptor's block
 module _ (c : List ℕ) (p q k : ℕ) (d : Descriptor) (few : k ≤ 512) (inside-p : 512 * p + 512 ≤ length c) (inside-q : 512 * q + 512 ≤ length c) (long : length (headBytes d) ≡ 40) where

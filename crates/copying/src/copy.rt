@@ -4,13 +4,14 @@ use blocks::descriptor::Descriptor;
 use blocks::numbers::Physical;
 use blocks::sizes::BLOCK_SIZE;
 use blocks::sizes::HEAD_SIZE;
+use blocks::sizes::PHI_START;
 ghost use mathlib.Core.Path.{_≡_};
 ghost use Prim.Native.Nat.{_+_, _*_, _-_, _≤_, _<_};
 ghost use lib.ListN.{length};
 ghost use lib.Dec.{ltb};
 ghost use Rattle.blocks.specs.Pick.{pick};
 ghost use Rattle.blocks.specs.Bytes.{blockSize, part, splice, blockAt, storeBlock, storeAll, storeUpto};
-ghost use Rattle.blocks.specs.Descriptor.{copying, descriptorBlock, tailAt};
+ghost use Rattle.blocks.specs.Descriptor.{phiStart, copying, descriptorBlock, tailAt};
 
 // The bytes of block `to` from `start` up to `end` are now those of block `from`.
 pub fn copy_part(card: &mut [u8], from: Physical, to: Physical, start: usize, end: usize)
@@ -59,6 +60,16 @@ fn lesser(a: usize, b: usize) -> usize
     b
 }
 
+// The bytes of block `to` from `start` up to `end`, those before Phi first: the others then start at a multiple of 64 and are copied the faster.
+fn copy_rest(card: &mut [u8], from: Physical, to: Physical, start: usize, end: usize)
+    requires { ⌜ (start ≤ end) × (start ≤ phiStart) × (end ≤ blockSize) × (blockSize * from .0 + blockSize ≤ length (now card)) × (blockSize * «to» .0 + blockSize ≤ length (now card)) ⌝ }
+    ensures { λ _. ⌜ now (card .exit) ≡ splice (now (card .entry)) (blockSize * «to» .0 + start) (part (now (card .entry)) (blockSize * from .0 + start) (end - start)) ⌝ }
+{
+    let phi = lesser(end, PHI_START);
+    copy_part(card, from, to, start, phi);
+    copy_part(card, from, to, phi, end);
+}
+
 // The pass that makes the block of a new descriptor, stopped after `k` bytes: the first `k` bytes of block `to` are now those of the descriptor's block,
 // which has bytes 40 to 511 of block `from`, and every other byte of the card is as it was.
 pub fn store_descriptor_upto(card: &mut [u8], from: Physical, to: Physical, d: Descriptor, k: usize)
@@ -74,5 +85,5 @@ pub fn store_descriptor_upto(card: &mut [u8], from: Physical, to: Physical, d: D
         card[b + i] = head[i];
         i += 1;
     }
-    copy_part(card, from, to, split, k);
+    copy_rest(card, from, to, split, k);
 }

@@ -56,8 +56,8 @@ loop-again c =
       rw (l .loop .inv .2) (copied-more _ _ _ _ (omega arith) (omega arith)),
     )
 
-copy-part-requires : tie.Need-copy-part-requires Inv-loop μ-loop
-copy-part-requires c κs = search needs
+copy-rest-requires : tie.Need-copy-rest-requires Inv-loop μ-loop
+copy-rest-requires c κs = search needs
 
 same-length : tie.Need-same-length Inv-loop μ-loop
 same-length c = search needs
@@ -83,6 +83,6 @@ store-descriptor-upto-spec =
     add-i
     loop-less
     loop-again
-    copy-part-requires
+    copy-rest-requires
     same-length
     returns)
