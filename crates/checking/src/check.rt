@@ -7,6 +7,7 @@ use blocks::sizes::MOST_BLOCKS;
 use calls::answer;
 use calls::answer::Answer;
 use entries::check::Verdict;
+use flagging::flags;
 use indexing::index;
 use judging::check as rules;
 use walking::chain;
@@ -41,11 +42,11 @@ fn check_chain(
     ensures { λ r. ⌜ record { verdict = r; flags = now (seen .exit) } ≡ takingChain (now (card .entry)) (now (starts .entry)) (costOf active) count 0 (openingsFlagged (now (seen .entry)) (now (starts .entry)) (costOf active) count) (descriptors (chainOf (now (card .entry)))) ⌝ }
 {
     let cost = descriptor::opening_cost(active.layout, active.volume) as usize;
-    rules::mark_openings(seen, starts, count, cost);
+    flags::mark_openings(seen, starts, count, cost);
     let mut turn = 0;
     let mut k = 0;
     while k < count {
-        turn = rules::next_turn(seen, starts, count, cost, turn);
+        turn = flags::next_turn(seen, starts, count, cost, turn);
         let d = index::descriptor_of(card, active, starts, count, k);
         let v = rules::check_one(card, d, seen, turn);
         if let Verdict::Fault(h) = v {

@@ -87,34 +87,30 @@ pub block-copied : (c x : List ℕ) (p q : ℕ) → x ≡ splice c (512 * q + 0)
 unfolding storeBlock blockAt
 block-copied c x p q e = e ∙ rw (add-zero (512 * q), add-zero (512 * p))
 
--- two copies, the second where the first ends, are one: what is still to be copied is as it was
+-- what stands in block p from m on is as it was when bytes s to m of block q have been put
+part-kept : (c x : List ℕ) (p q s m e : ℕ) → s + length x ≡ m → m ≤ e → e ≤ 512 → 512 * q + 512 ≤ length c → part (splice c (512 * q + s) x) (512 * p + m) (e - m) ≡ part c (512 * p + m) (e - m)
+part-kept c x p q s m e long h few inside =
+    part-ext (splice c (512 * q + s) x) c (512 * p + m) (e - m) (length-splice c (512 * q + s) x (omega arith)) (λ i j k. splice-other c (512 * q + s) x (omega arith) i (apart i j k (ltb i (512 * q + s)) refl))
+  where
+    apart : (i : ℕ) → 512 * p + m ≤ i → i < 512 * p + m + (e - m) → (t : Bool) → ltb i (512 * q + s) ≡ t → (i < 512 * q + s) ⊎ (512 * q + s + length x ≤ i)
+    apart i j k true n = inl (ltb-true i (512 * q + s) n)
+    apart i j k false n = inr (omega (arith, ltb-false i (512 * q + s) n))
+
+-- two copies, the second where the first ends, are one
 pub copies-join : (c x y : List ℕ) (p q s m e : ℕ) → s ≤ m → m ≤ e → e ≤ 512 → 512 * p + 512 ≤ length c → 512 * q + 512 ≤ length c → x ≡ splice c (512 * q + s) (part c (512 * p + s) (m - s))
     → y ≡ splice x (512 * q + m) (part x (512 * p + m) (e - m)) → y ≡ splice c (512 * q + s) (part c (512 * p + s) (e - s))
 copies-join c x y p q s m e l h few inside-p inside-q f g =
     let first : List ℕ = part c (512 * p + s) (m - s) in
+    let last : List ℕ = part c (512 * p + m) (e - m) in
+    let long = length-part c (512 * p + s) (m - s) (omega arith) in
+    let last-long = length-part c (512 * p + m) (e - m) (omega arith) in
     let at-p : 512 * p + s + (m - s) ≡ 512 * p + m = omega arith in
     let at-q : 512 * q + s + length first ≡ 512 * q + m = omega (arith, long) in
-    let last-long = length-part c (512 * p + m) (e - m) (omega arith) in
     g
-    ∙ ap (splice x (512 * q + m)) (ap (λ (z : List ℕ). part z (512 * p + m) (e - m)) f ∙ kept)
-    ∙ ap (λ (z : List ℕ). splice z (512 * q + m) (part c (512 * p + m) (e - m))) f
-    ∙ splice-join c (512 * q + s) first (512 * q + m) (part c (512 * p + m) (e - m)) at-q (omega (arith, last-long))
-    ∙ ap (splice c (512 * q + s)) (part-join c (512 * p + s) (m - s) (e - m) (e - s) first (part c (512 * p + m) (e - m)) (omega arith) refl (ap (λ (n : ℕ). part c n (e - m)) (sym at-p)))
-  where
-    long : length (part c (512 * p + s) (m - s)) ≡ m - s
-    long = length-part c (512 * p + s) (m - s) (omega arith)
-
-    apart : (i : ℕ) → 512 * p + m ≤ i → i < 512 * p + m + (e - m) → (t : Bool) → ltb i (512 * q + s) ≡ t → (i < 512 * q + s) ⊎ (512 * q + s + length (part c (512 * p + s) (m - s)) ≤ i)
-    apart i j k true n = inl (ltb-true i (512 * q + s) n)
-    apart i j k false n = inr (omega (arith, long, ltb-false i (512 * q + s) n))
-
-    fits : 512 * q + s + length (part c (512 * p + s) (m - s)) ≤ length c
-    fits = omega (arith, long)
-
-    kept : part (splice c (512 * q + s) (part c (512 * p + s) (m - s))) (512 * p + m) (e - m) ≡ part c (512 * p + m) (e - m)
-    kept =
-        part-ext (splice c (512 * q + s) (part c (512 * p + s) (m - s))) c (512 * p + m) (e - m) (length-splice c (512 * q + s) (part c (512 * p + s) (m - s)) fits)
-        (λ i j k. splice-other c (512 * q + s) (part c (512 * p + s) (m - s)) fits i (apart i j k (ltb i (512 * q + s)) refl))
+    ∙ ap (splice x (512 * q + m)) (ap (λ (z : List ℕ). part z (512 * p + m) (e - m)) f ∙ part-kept c first p q s m e (omega (arith, long)) h few inside-q)
+    ∙ ap (λ (z : List ℕ). splice z (512 * q + m) last) f
+    ∙ splice-join c (512 * q + s) first (512 * q + m) last at-q (omega (arith, last-long))
+    ∙ ap (splice c (512 * q + s)) (part-join c (512 * p + s) (m - s) (e - m) (e - s) first last (omega arith) refl (ap (λ (n : ℕ). part c n (e - m)) (sym at-p)))
 
 -- the lesser of two numbers is above neither, and not below what is above neither
 pub lesser-is : (a b r : ℕ) → r ≡ pick (ltb a b) a b → (r ≤ a) × (r ≤ b)
@@ -138,13 +134,7 @@ module _ (c : List ℕ) (p q k : ℕ) (d : Descriptor) (few : k ≤ 512) (inside
 
   -- what is still to be copied is as it was
   tail-kept : 40 ≤ k → part (splice c (512 * q) (headBytes d)) (512 * p + 40) (k - 40) ≡ part c (512 * p + 40) (k - 40)
-  tail-kept h =
-      part-ext (splice c (512 * q) (headBytes d)) c (512 * p + 40) (k - 40) (length-splice c (512 * q) (headBytes d) (omega (arith, long)))
-      (λ i l m. splice-other c (512 * q) (headBytes d) (omega (arith, long)) i (apart i l m (ltb i (512 * q)) refl))
-    where
-      apart : (i : ℕ) → 512 * p + 40 ≤ i → i < 512 * p + 40 + (k - 40) → (t : Bool) → ltb i (512 * q) ≡ t → (i < 512 * q) ⊎ (512 * q + length (headBytes d) ≤ i)
-      apart i l m true e = inl (ltb-true i (512 * q) e)
-      apart i l m false e = inr (omega (arith, long, ltb-false i (512 * q) e))
+  tail-kept h = ap (λ (at : ℕ). part (splice c at (headBytes d)) (512 * p + 40) (k - 40)) (sym (add-zero (512 * q))) ∙ part-kept c (headBytes d) p q 0 40 k (omega (arith, long)) h few inside-q
 
   tail-first : 40 ≤ k → take (k - 40) (tailAt c p) ≡ part c (512 * p + 40) (k - 40)
   tail-first h = part-part c (512 * p + 40) 472 0 (k - 40) (omega arith) (omega arith) ∙ rw (add-zero (512 * p + 40))

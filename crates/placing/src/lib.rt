@@ -1,4 +1,3 @@
 // Where the data and the tables of a write go: the code that sets entries, and writes a block through an entry that was found.
 mod set; // setting an entry
 pub mod put; // a write through an entry
-pub mod block; // whole blocks as a change leaves them

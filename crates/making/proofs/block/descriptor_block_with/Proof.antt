@@ -1,8 +1,8 @@
 -- `descriptor_block_with` meets its contract: the entry is put past the first 40 bytes.
 use Rattle.entries.proofs.SetLaws.{phi-put}
 use borrow.Author.Needs.{needs}
-use Rattle.placing.proofs.block.descriptor_block_with.Statement.{statement}
-use Rattle.placing.proofs.block.descriptor_block_with.Tie as tie
+use Rattle.making.proofs.block.descriptor_block_with.Statement.{statement}
+use Rattle.making.proofs.block.descriptor_block_with.Tie as tie
 
 descriptor-block-requires : tie.Need-descriptor-block-requires
 descriptor-block-requires c κs = search needs

@@ -2,8 +2,8 @@
 use native.Mathlib.Omega.{arith}
 use Rattle.entries.proofs.MarkLaws.{turn-more, turn-again}
 use borrow.Author.Needs.{needs}
-use Rattle.judging.proofs.check.next_turn.Statement.{statement}
-use Rattle.judging.proofs.check.next_turn.Tie as tie
+use Rattle.flagging.proofs.flags.next_turn.Statement.{statement}
+use Rattle.flagging.proofs.flags.next_turn.Tie as tie
 
 add-result : tie.Need-add-result
 add-result c = search needs

@@ -1,8 +1,8 @@
 -- `take_entry` meets its contract, by its tests.
 use Rattle.entries.proofs.MarkLaws.{take-nil, take-uncounted, take-past, take-flagged, take-set}
 use borrow.Author.Needs.{needs}
-use Rattle.judging.proofs.check.take_entry.Statement.{statement}
-use Rattle.judging.proofs.check.take_entry.Tie as tie
+use Rattle.flagging.proofs.flags.take_entry.Statement.{statement}
+use Rattle.flagging.proofs.flags.take_entry.Tie as tie
 
 returns : tie.Need-returns
 returns c = take-nil _ _ _ _ _ (c .if1 .taken)

@@ -3,8 +3,8 @@ use borrow.Author.Tests.{eq-eqb, ne-eqb}
 use borrow.Author.Needs.{needs}
 use Rattle.blocks.specs.Bytes.{blockAt}
 use Rattle.entries.specs.Entry.{tableWith}
-use Rattle.placing.proofs.block.table_block.Statement.{statement}
-use Rattle.placing.proofs.block.table_block.Tie as tie
+use Rattle.making.proofs.block.table_block.Statement.{statement}
+use Rattle.making.proofs.block.table_block.Tie as tie
 
 mul-at : tie.Need-mul-at
 mul-at c = search needs

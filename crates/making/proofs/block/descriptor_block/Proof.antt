@@ -2,8 +2,8 @@
 use Rattle.blocks.specs.Bytes.{blockAt}
 use Rattle.blocks.proofs.DescriptorLaws.{block-made}
 use borrow.Author.Needs.{needs}
-use Rattle.placing.proofs.block.descriptor_block.Statement.{statement}
-use Rattle.placing.proofs.block.descriptor_block.Tie as tie
+use Rattle.making.proofs.block.descriptor_block.Statement.{statement}
+use Rattle.making.proofs.block.descriptor_block.Tie as tie
 
 cast-get-bytes : tie.Need-cast-get-bytes
 cast-get-bytes c = search needs

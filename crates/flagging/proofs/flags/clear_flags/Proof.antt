@@ -5,8 +5,8 @@ use native.Mathlib.Omega.{arith}
 use lib.ListN.{length, length-set, replicate}
 use Rattle.blocks.proofs.ByteLaws.{copied, copied-none}
 use Rattle.entries.proofs.MarkLaws.{clear-more, clear-all}
-use Rattle.judging.proofs.check.clear_flags.Statement.{statement}
-use Rattle.judging.proofs.check.clear_flags.Tie as tie
+use Rattle.flagging.proofs.flags.clear_flags.Statement.{statement}
+use Rattle.flagging.proofs.flags.clear_flags.Tie as tie
 
 abbrev Inv-loop : tie.InvT-loop
 Inv-loop seen₀ i₀ seen i = (i ≤ length seen₀) × (length seen ≡ length seen₀) × (seen ≡ copied seen₀ 0 (replicate (length seen₀) 0) i)

@@ -5,8 +5,8 @@ use native.Mathlib.Omega.{arith}
 use lib.ListN.{length}
 use Rattle.entries.specs.Marks.{openingsFlagged}
 use Rattle.entries.proofs.MarkLaws.{openings-more, openings-all}
-use Rattle.judging.proofs.check.mark_openings.Statement.{statement}
-use Rattle.judging.proofs.check.mark_openings.Tie as tie
+use Rattle.flagging.proofs.flags.mark_openings.Statement.{statement}
+use Rattle.flagging.proofs.flags.mark_openings.Tie as tie
 
 abbrev Inv-loop : tie.InvT-loop
 Inv-loop seen₀ starts count cost k₀ seen k = (k ≤ count) × (length seen ≡ length seen₀) × (seen ≡ openingsFlagged seen₀ starts cost k)

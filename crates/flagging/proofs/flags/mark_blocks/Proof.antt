@@ -6,8 +6,8 @@ use lib.ListN.{length, length-set}
 use borrow.Author.Needs.{needs}
 use Rattle.entries.specs.Marks.{flagged}
 use Rattle.entries.proofs.MarkLaws.{flagged-more, flagged-all}
-use Rattle.judging.proofs.check.mark_blocks.Statement.{statement}
-use Rattle.judging.proofs.check.mark_blocks.Tie as tie
+use Rattle.flagging.proofs.flags.mark_blocks.Statement.{statement}
+use Rattle.flagging.proofs.flags.mark_blocks.Tie as tie
 
 abbrev Inv-loop : tie.InvT-loop
 Inv-loop seen₀ n first i₀ seen i = (i ≤ n) × (length seen ≡ length seen₀) × (seen ≡ flagged seen₀ first i)
