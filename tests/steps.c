@@ -1,7 +1,8 @@
 /* One snap, looked at after each machine instruction: the pass that makes its new descriptor, stopped anywhere (document 02, W3).
    The processor stops after each instruction (the trap flag), and a handler compares the whole card with the cards before and
    after the snap, which this program makes by itself. Linux on x86-64, as the library.
-   Before the snap every free byte is unlike the one that the snap leaves there, so that each store shows. */
+   Before the snap every byte of the blocks that it takes is unlike the one that it leaves there. A byte of the new descriptor's
+   block that has been stored is made unlike it again, so that a second store of it shows; a snap does not read that block. */
 #define _GNU_SOURCE
 #include "mantreuy.h"
 
@@ -11,12 +12,14 @@
 
 enum { BLOCK = MANTREUY_BLOCK_SIZE, BLOCKS = 400, MOST_BYTES = BLOCKS * BLOCK };
 
-static uint8_t card[MOST_BYTES], before[MOST_BYTES], after[MOST_BYTES];
+static volatile uint8_t card[MOST_BYTES];
+static uint8_t before[MOST_BYTES], after[MOST_BYTES];
 static uint8_t records[MANTREUY_MOST_RECORDS * MANTREUY_RECORD_SIZE];
 /* the bytes of the card: where the old descriptor, the new one and what follows the new region begin, and how many there are */
 static size_t old, new, end, size;
-static size_t stored, stops, instructions;
-static const char *wrong;
+/* the bytes of the new descriptor's block that are stored, the instructions that stored some, and all instructions */
+static volatile size_t stored, stops, instructions;
+static const char *volatile wrong;
 
 static uint32_t number_at(const uint8_t *bytes)
 {
@@ -31,24 +34,22 @@ static void put_number(uint8_t *bytes, uint32_t v)
 
 static int same(const uint8_t *other, size_t from, size_t to)
 {
-	return memcmp(card + from, other + from, to - from) == 0;
+	return memcmp((const uint8_t *)card + from, other + from, to - from) == 0;
 }
 
-/* After one instruction. */
+/* After one instruction: it has stored the next bytes of the block, or none. */
 static void look(int signal)
 {
-	size_t k = 0;
+	size_t k = stored;
 
 	(void)signal;
 	instructions++;
 	if (wrong)
 		return;
-	while (k < BLOCK && card[new + k] == after[new + k])
-		k++;
-	if (k < stored)
-		wrong = "a byte of the new descriptor that was in its last form is so no more";
-	else if (!same(before, new + k, new + BLOCK))
-		wrong = "a byte of the new descriptor was stored before an earlier one, or not in its last form";
+	for (; k < BLOCK && card[new + k] == after[new + k]; k++)
+		card[new + k] = before[new + k];
+	if (!same(before, new, new + BLOCK))
+		wrong = "a byte of the new descriptor was stored a second time, before an earlier one, or not in its last form";
 	else if (!same(before, 0, old) || !same(before, old + BLOCK, new) || !same(before, end, size))
 		wrong = "a byte changed that a snap does not change";
 	else if (k < BLOCK && !same(before, old, old + BLOCK))
@@ -60,24 +61,26 @@ static void look(int signal)
 }
 
 /* A card of some visits, and the card after one more, by document 01: tables copied, the new descriptor a copy with its own
-   alpha and beta, the old one with name and next. */
+   alpha and beta, the old one with name and next. With two visits the card is full then. */
 static int prepare(uint32_t layout, uint32_t volume, int visits, const uint8_t *name)
 {
+	uint8_t *const lent = (uint8_t *)card;
 	uint8_t visit[MANTREUY_NAME_SIZE] = "v-a", block[BLOCK];
 	uint32_t place, number, alpha, beta, cost = layout == 1 ? 1 + (volume + 127) / 128 : 1;
 
+	memset(lent, 0x5a, MOST_BYTES);
 	size = BLOCK * (size_t)((visits + 2) * (cost + 2) + 1);
-	if (size > sizeof card)
+	if (size > MOST_BYTES)
 		return 0;
-	number = mantreuy_ream(card, size, layout, volume, (const uint8_t *)"home-17\0\0\0\0\0\0\0\0", MANTREUY_NAME_SIZE, &place);
+	number = mantreuy_ream(lent, size, layout, volume, (const uint8_t *)"home-17\0\0\0\0\0\0\0\0", MANTREUY_NAME_SIZE, &place);
 	for (int i = 0; i <= visits; i++) {
 		memset(block, 'a' + i, sizeof block);
-		number |= mantreuy_write(card, size, (uint32_t)i % volume, block, sizeof block, &place);
+		number |= mantreuy_write(lent, size, (uint32_t)i % volume, block, sizeof block, &place);
 		visit[2] = (uint8_t)('a' + i);
 		if (i < visits)
-			number |= mantreuy_snap(card, size, visit, sizeof visit, &place);
+			number |= mantreuy_snap(lent, size, visit, sizeof visit, &place);
 	}
-	number |= mantreuy_list(card, size, records, sizeof records, &place);
+	number |= mantreuy_list(lent, size, records, sizeof records, &place);
 	if (number != MANTREUY_ACCEPTED)
 		return 0;
 	alpha = number_at(records + visits * MANTREUY_RECORD_SIZE + 16);
@@ -85,25 +88,27 @@ static int prepare(uint32_t layout, uint32_t volume, int visits, const uint8_t *
 	old = BLOCK * (size_t)alpha;
 	new = BLOCK * (size_t)beta;
 	end = new + BLOCK * (size_t)cost;
+	if (visits == 2)
+		size = end;
 
-	memcpy(after, card, size);
+	memcpy(after, lent, MOST_BYTES);
 	memcpy(after + new, after + old, end - new);
 	put_number(after + new + 12, beta);
 	put_number(after + new + 16, beta + cost);
 	put_number(after + old + 20, beta);
 	memcpy(after + old + 24, name, MANTREUY_NAME_SIZE);
-	for (size_t at = new; at < size; at++)
-		card[at] = (uint8_t)~after[at];
-	memcpy(after + end, card + end, size - end);
-	memcpy(before, card, size);
+	for (size_t at = new; at < end; at++)
+		lent[at] = (uint8_t)~after[at];
+	memcpy(before, lent, MOST_BYTES);
 	return 1;
 }
 
 static int try(uint32_t layout, uint32_t volume, int visits)
 {
-	static const uint8_t name[MANTREUY_NAME_SIZE] = "visit-0123456789";
+	uint8_t name[MANTREUY_NAME_SIZE];
 	uint32_t place = 1, number;
 
+	memcpy(name, "visit-0123456789", sizeof name);
 	stored = stops = instructions = 0;
 	wrong = NULL;
 	if (!prepare(layout, volume, visits, name)) {
@@ -111,11 +116,11 @@ static int try(uint32_t layout, uint32_t volume, int visits)
 		number = 1;
 	} else {
 		__asm__ volatile("pushfq\n\torq $0x100, (%%rsp)\n\tpopfq" ::: "cc", "memory");
-		number = mantreuy_snap(card, size, name, sizeof name, &place);
+		number = mantreuy_snap((uint8_t *)card, size, name, sizeof name, &place);
 		__asm__ volatile("pushfq\n\tandq $~0x100, (%%rsp)\n\tpopfq" ::: "cc", "memory");
-		if (!wrong && (number != MANTREUY_ACCEPTED || place != 0 || !same(after, 0, size)))
+		if (!wrong && (number != MANTREUY_ACCEPTED || place != 0 || stored != BLOCK || !same(after, 0, new) || !same(after, new + BLOCK, MOST_BYTES)))
 			wrong = "the card after the snap is another";
-		if (!wrong && stops < 16)
+		if (!wrong && stops < 4)
 			wrong = "too few stops within the pass";
 	}
 	printf("steps: layout %u, L %u, %d snapshots: %zu instructions, %zu stops within the pass%s%s\n", (unsigned)layout, (unsigned)volume,

@@ -111,7 +111,7 @@ fn one(seed: u64) -> Result<u64, String> {
     assert_eq!(store::snap(&mut after, b"next"), ACCEPTED);
     let new = region.beta as usize * BLOCK;
 
-    // The descriptor by value: of its block only bytes 0 to 39 count, and the mark is the pass's own.
+    // The descriptor by value: of its block only bytes 4 to 39 count, since the pass has the mark itself.
     let mut head = noise(&mut rng, BLOCK);
     head[4..24 + NAME_SIZE].copy_from_slice(&after[new + 4..new + 24 + NAME_SIZE]);
 

@@ -112,6 +112,7 @@ one-pass-claim c name e =
     let shown = snap-passed c name e in
     let done = accepted-card (Snap name) c e in
     record {
+      long = before-length c name shown;
       tables = tables-are c name shown;
       found = found-is c name shown;
       stopped = λ k few.

@@ -43,7 +43,8 @@ pub record StoppedAfter (c name : List ℕ) (k : ℕ) : Type 0 where
 
 -- what an accepted snap's pass comes to
 pub record OnePass (c name : List ℕ) : Type 0 where
-  -- what it finds: copies of the c - 1 table blocks after the new descriptor's block, and every other byte as at entry
+  -- what it finds: an area of the same length, copies of the c - 1 table blocks after the new descriptor's block, and every other byte as at entry
+  pub long : length (beforePass c) ≡ length c
   pub tables : (t : ℕ) → t + 1 < costOf (activeOf (descriptorsOf c)) → blockAt (beforePass c) (betaOf c + 1 + t) ≡ blockAt c (activeOf (descriptorsOf c) .alpha .0 + 1 + t)
   pub found : (j : ℕ) → (j < blockSize * (betaOf c + 1)) ⊎ (blockSize * (betaOf c + costOf (activeOf (descriptorsOf c))) ≤ j) → getD (beforePass c) j 0 ≡ getD c j 0
   -- stopped anywhere; and after its last byte, when only the old descriptor is left to be stored

@@ -60,7 +60,7 @@ fn lesser(a: usize, b: usize) -> usize
     b
 }
 
-// The bytes of block `to` from `start` up to `end`, those before Phi first: the others then start at a multiple of 64 and are copied the faster.
+// The bytes of block `to` from `start` up to `end`, those before Phi first: the others then start at a multiple of 64 and are copied faster.
 fn copy_rest(card: &mut [u8], from: Physical, to: Physical, start: usize, end: usize)
     requires { ⌜ (start ≤ end) × (start ≤ phiStart) × (end ≤ blockSize) × (blockSize * from .0 + blockSize ≤ length (now card)) × (blockSize * «to» .0 + blockSize ≤ length (now card)) ⌝ }
     ensures { λ _. ⌜ now (card .exit) ≡ splice (now (card .entry)) (blockSize * «to» .0 + start) (part (now (card .entry)) (blockSize * from .0 + start) (end - start)) ⌝ }
