@@ -75,6 +75,15 @@ part-ext x y b n e f =
     let l : i < n = omega (arith, simp length-take at h) in
     part-at x b n i l ∙ f (b + i) (omega arith) (omega arith) ∙ sym (part-at y b n i l))
 
+-- an index that is not among the n from at on is before or after them
+pub outside : (i at n : ℕ) → (at ≤ i → i < at + n → ⊥) → (i < at) ⊎ (at + n ≤ i)
+outside i at n h = by (ltb i at) refl (ltb i (at + n)) refl
+  where
+    by : (t : Bool) → ltb i at ≡ t → (u : Bool) → ltb i (at + n) ≡ u → (i < at) ⊎ (at + n ≤ i)
+    by true e u f = inl (ltb-true i at e)
+    by false e true f = absurd (h (ltb-false i at e) (ltb-true i (at + n) f))
+    by false e false f = inr (ltb-false i (at + n) f)
+
 -- what stands at each index of a splice: before, in and after what was put in
 module _ (c : List ℕ) (at : ℕ) (d : List ℕ) (fits : at + length d ≤ length c) where
   head-length : length (take at c ++ d) ≡ at + length d
@@ -291,11 +300,7 @@ module _ (c : List ℕ) (p : ℕ) (b : List ℕ) (whole : length b ≡ 512) (ins
   unfolding storeBlock blockAt
   store-other q n =
       part-ext (splice c (512 * p) b) c (512 * q) 512 (length-splice c (512 * p) b store-fits)
-      (λ i l m. splice-other c (512 * p) b store-fits i (outside i n l m (ltb i (512 * p)) refl))
-    where
-      outside : (i : ℕ) → (q ≡ p → ⊥) → 512 * q ≤ i → i < 512 * q + 512 → (t : Bool) → ltb i (512 * p) ≡ t → (i < 512 * p) ⊎ (512 * p + length b ≤ i)
-      outside i n l m true e = inl (ltb-true i (512 * p) e)
-      outside i n l m false e = inr (omega (arith, ltb-false i (512 * p) e, n))
+      (λ i l m. splice-other c (512 * p) b store-fits i (outside i (512 * p) (length b) (λ h k. n (omega arith))))
 
 -- a put inside a block is a store of that block
 pub put-block : (c : List ℕ) (p k : ℕ) (x : List ℕ) → 512 * p + 512 ≤ length c → k + length x ≤ 512 → splice c (512 * p + k) x ≡ storeBlock c p (splice (blockAt c p) k x)

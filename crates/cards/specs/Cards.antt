@@ -106,24 +106,37 @@ writes2 =
     (withPhi (descriptor 2 130 0 4 4 mon) 3 0 ++ counted 1 ++ counted 2 ++ fullTable 1 2 20 ++ fullPhi (descriptor 2 130 4 7 0 fs) 5 0 10 ++ fullTable 1 6 20 ++ counted 100)
     ∷ []
 
--- Snaps follow no entry, so tables and Phi may hold any bytes here.
+-- cards before a snap in layouts 1 and 2: the first snap, and a second one. Snaps follow no entry, so tables and Phi may hold any bytes here
+abbrev pub first1 : List ℕ
+first1 = bare (descriptor 1 130 0 5 0 fs) ++ counted 1 ++ counted 2 ++ counted 3 ++ counted 4 ++ counted 50 ++ counted 60 ++ counted 70 ++ lent
+
+abbrev pub first2 : List ℕ
+first2 = fullPhi (descriptor 2 130 0 3 0 letters16) 1 0 10 ++ table 2 0 ++ counted 2 ++ counted 50 ++ lent
+
+abbrev pub second1 : List ℕ
+second1 = bare (descriptor 1 130 0 4 4 mon) ++ counted 1 ++ counted 2 ++ counted 3 ++ bare (descriptor 1 130 4 8 0 fs) ++ counted 5 ++ counted 6 ++ counted 7 ++ counted 50 ++ counted 60 ++ counted 70 ++ lent
+
+abbrev pub second2 : List ℕ
+second2 = withPhi (descriptor 2 130 0 3 3 mon) 1 0 ++ table 2 0 ++ counted 2 ++ fullPhi (descriptor 2 130 3 6 0 fs) 4 0 10 ++ table 5 0 ++ counted 5 ++ counted 50
+
+-- The copy stands at beta, the old descriptor has the name and is linked to it.
 unfoldable pub snaps : List Change
 snaps =
     -- layout 1: descriptor and both tables are copied to beta; the old descriptor gets the name and next = beta, the copy alpha = 5 and beta = 8
-    change (bare (descriptor 1 130 0 5 0 fs) ++ counted 1 ++ counted 2 ++ counted 3 ++ counted 4 ++ counted 50 ++ counted 60 ++ counted 70 ++ lent)
+    change first1
     (Snap letters16)
     (bare (descriptor 1 130 0 5 5 letters16) ++ counted 1 ++ counted 2 ++ counted 3 ++ counted 4 ++ bare (descriptor 1 130 5 8 0 fs) ++ counted 1 ++ counted 2 ++ lent)
     -- layout 2: the descriptor is copied with its Phi, the tables are not
-    ∷ change (fullPhi (descriptor 2 130 0 3 0 letters16) 1 0 10 ++ table 2 0 ++ counted 2 ++ counted 50 ++ lent)
+    ∷ change first2
     (Snap mon)
     (fullPhi (descriptor 2 130 0 3 3 mon) 1 0 10 ++ table 2 0 ++ counted 2 ++ fullPhi (descriptor 2 130 3 4 0 letters16) 1 0 10 ++ lent)
     -- layout 1, a second snap: the first snapshot stays
     ∷ change
-    (bare (descriptor 1 130 0 4 4 mon) ++ counted 1 ++ counted 2 ++ counted 3 ++ bare (descriptor 1 130 4 8 0 fs) ++ counted 5 ++ counted 6 ++ counted 7 ++ counted 50 ++ counted 60 ++ counted 70 ++ lent)
+    second1
     (Snap tue)
     (bare (descriptor 1 130 0 4 4 mon) ++ counted 1 ++ counted 2 ++ counted 3 ++ bare (descriptor 1 130 4 8 8 tue) ++ counted 5 ++ counted 6 ++ counted 7 ++ bare (descriptor 1 130 8 11 0 fs) ++ counted 5 ++ counted 6 ++ lent)
     -- layout 2, a second snap: the first snapshot stays
-    ∷ change (withPhi (descriptor 2 130 0 3 3 mon) 1 0 ++ table 2 0 ++ counted 2 ++ fullPhi (descriptor 2 130 3 6 0 fs) 4 0 10 ++ table 5 0 ++ counted 5 ++ counted 50)
+    ∷ change second2
     (Snap tue)
     (withPhi (descriptor 2 130 0 3 3 mon) 1 0 ++ table 2 0 ++ counted 2 ++ fullPhi (descriptor 2 130 3 6 6 tue) 4 0 10 ++ table 5 0 ++ counted 5 ++ fullPhi (descriptor 2 130 6 7 0 fs) 4 0 10)
     ∷ []
@@ -160,11 +173,11 @@ pub record Stop : Type 0 where
 abbrev pub begun : ℕ → List ℕ → List ℕ
 begun k bytes = bytes ++ counting (512 - k) (50 + k)
 
--- the first two cards of snaps, and what the pass leaves of them after k bytes; in layout 1 the two table blocks are copied before
+-- what the pass leaves of these cards after k bytes; in layout 1 the two table blocks are copied before
 abbrev pub stop1 : ℕ → List ℕ → Stop
 stop1 k bytes =
     record {
-      entry = bare (descriptor 1 130 0 5 0 fs) ++ counted 1 ++ counted 2 ++ counted 3 ++ counted 4 ++ counted 50 ++ counted 60 ++ counted 70 ++ lent;
+      entry = first1;
       count = k;
       card = bare (descriptor 1 130 0 5 0 fs) ++ counted 1 ++ counted 2 ++ counted 3 ++ counted 4 ++ begun k bytes ++ counted 1 ++ counted 2 ++ lent;
     }
@@ -172,24 +185,24 @@ stop1 k bytes =
 abbrev pub stop2 : ℕ → List ℕ → Stop
 stop2 k bytes =
     record {
-      entry = fullPhi (descriptor 2 130 0 3 0 letters16) 1 0 10 ++ table 2 0 ++ counted 2 ++ counted 50 ++ lent;
+      entry = first2;
       count = k;
       card = fullPhi (descriptor 2 130 0 3 0 letters16) 1 0 10 ++ table 2 0 ++ counted 2 ++ begun k bytes ++ lent;
     }
 
--- the third and the fourth, a second snap; and a card of two blocks
-abbrev pub second1 : ℕ → List ℕ → Stop
-second1 k bytes =
+-- the same of a second snap, and of a card of two blocks
+abbrev pub later1 : ℕ → List ℕ → Stop
+later1 k bytes =
     record {
-      entry = bare (descriptor 1 130 0 4 4 mon) ++ counted 1 ++ counted 2 ++ counted 3 ++ bare (descriptor 1 130 4 8 0 fs) ++ counted 5 ++ counted 6 ++ counted 7 ++ counted 50 ++ counted 60 ++ counted 70 ++ lent;
+      entry = second1;
       count = k;
       card = bare (descriptor 1 130 0 4 4 mon) ++ counted 1 ++ counted 2 ++ counted 3 ++ bare (descriptor 1 130 4 8 0 fs) ++ counted 5 ++ counted 6 ++ counted 7 ++ begun k bytes ++ counted 5 ++ counted 6 ++ lent;
     }
 
-abbrev pub second2 : ℕ → List ℕ → Stop
-second2 k bytes =
+abbrev pub later2 : ℕ → List ℕ → Stop
+later2 k bytes =
     record {
-      entry = withPhi (descriptor 2 130 0 3 3 mon) 1 0 ++ table 2 0 ++ counted 2 ++ fullPhi (descriptor 2 130 3 6 0 fs) 4 0 10 ++ table 5 0 ++ counted 5 ++ counted 50;
+      entry = second2;
       count = k;
       card = withPhi (descriptor 2 130 0 3 3 mon) 1 0 ++ table 2 0 ++ counted 2 ++ fullPhi (descriptor 2 130 3 6 0 fs) 4 0 10 ++ table 5 0 ++ counted 5 ++ begun k bytes;
     }
@@ -220,8 +233,8 @@ stops =
     ∷ stop1 300 (firstTwenty 1 130 0 5 8 ++ replicate 4 0 ++ (102 ∷ 115 ∷ []) ++ replicate 274 0)
     ∷ stop1 512 (bare (descriptor 1 130 5 8 0 fs))
     -- the active region is not the first; L is 300
-    ∷ second1 20 (firstTwenty 1 130 0 8 11)
-    ∷ second2 20 (firstTwenty 2 130 0 6 7)
+    ∷ later1 20 (firstTwenty 1 130 0 8 11)
+    ∷ later2 20 (firstTwenty 2 130 0 6 7)
     ∷ small 20 (firstTwenty 2 44 1 1 2)
     ∷ []
 

@@ -1,6 +1,5 @@
 -- Laws of copies within a card: a part of a block byte by byte, blocks one after the other, and a descriptor's first bytes followed by a part of a block.
 use mathlib.Core.Path.{_≡_, refl, sym, ap, _∙_}
-use mathlib.Core.Logic.{_⊎_, inl, inr}
 use mathlib.Core.Bool.{Bool, true, false}
 use mathlib.Core.List.{List, [], _∷_, _++_, append-nil}
 use Prim.Native.Nat.{ℕ, zero, suc, _+_, _*_, _-_, _≤_, _<_}
@@ -15,7 +14,7 @@ use Rattle.blocks.specs.Pick.{pick}
 use Rattle.blocks.specs.Bytes.{Store, store, part, splice, blockAt, storeBlock, storeAll, storeUpto}
 use Rattle.blocks.specs.Descriptor.{headBytes, tailAt, descriptorBlock, copying}
 use Rattle.blocks.specs.declared.descriptor.Descriptor.{Descriptor}
-use Rattle.blocks.proofs.ByteLaws.{copied, copied-more, copied-all, copied-splice, copied-other, length-part, part-at, part-part, part-ext, part-join, splice-other, splice-join, splice-whole, length-splice}
+use Rattle.blocks.proofs.ByteLaws.{outside, copied, copied-more, copied-all, copied-splice, copied-other, length-part, part-at, part-part, part-ext, part-join, splice-other, splice-join, splice-whole, length-splice}
 use Rattle.blocks.proofs.StoreLists.{stored-append, stored-one, copied-out}
 
 -- bytes s to e of block p copied to block q, one by one: the byte that comes next is as it was
@@ -36,15 +35,12 @@ module _ (c : List ℕ) (p q s e : ℕ) (rise : s ≤ e) (few : e ≤ 512) (insi
       ∙ copied-more c (512 * q + s) (part c (512 * p + s) (e - s)) (i - s) (omega arith) (omega (arith, part-long))
       ∙ ap (copied c (512 * q + s) (part c (512 * p + s) (e - s))) m
     where
-      apart : (t : Bool) → ltb (512 * p + i) (512 * q + s) ≡ t → (512 * p + i < 512 * q + s) ⊎ (512 * q + s + (i - s) ≤ 512 * p + i)
-      apart true g = inl (ltb-true (512 * p + i) (512 * q + s) g)
-      apart false g = inr (omega (arith, ltb-false (512 * p + i) (512 * q + s) g))
-
       byte : getD x (512 * p + i) 0 ≡ getD (part c (512 * p + s) (e - s)) (i - s) 0
       byte =
           let n : 512 * p + s + (i - s) ≡ 512 * p + i = omega arith in
           ap (λ (y : List ℕ). getD y (512 * p + i) 0) f
-          ∙ copied-other c (512 * q + s) (part c (512 * p + s) (e - s)) (i - s) (512 * p + i) (omega (arith, part-long)) (omega arith) (apart (ltb (512 * p + i) (512 * q + s)) refl)
+          ∙ copied-other c (512 * q + s) (part c (512 * p + s) (e - s)) (i - s) (512 * p + i) (omega (arith, part-long)) (omega arith)
+          (outside (512 * p + i) (512 * q + s) (i - s) (λ j k. omega arith))
           ∙ ap (λ (j : ℕ). getD c j 0) (sym n)
           ∙ sym (part-at c (512 * p + s) (e - s) (i - s) (omega arith))
 
@@ -90,11 +86,8 @@ block-copied c x p q e = e ∙ rw (add-zero (512 * q), add-zero (512 * p))
 -- what stands in block p from m on is as it was when bytes s to m of block q have been put
 part-kept : (c x : List ℕ) (p q s m e : ℕ) → s + length x ≡ m → m ≤ e → e ≤ 512 → 512 * q + 512 ≤ length c → part (splice c (512 * q + s) x) (512 * p + m) (e - m) ≡ part c (512 * p + m) (e - m)
 part-kept c x p q s m e long h few inside =
-    part-ext (splice c (512 * q + s) x) c (512 * p + m) (e - m) (length-splice c (512 * q + s) x (omega arith)) (λ i j k. splice-other c (512 * q + s) x (omega arith) i (apart i j k (ltb i (512 * q + s)) refl))
-  where
-    apart : (i : ℕ) → 512 * p + m ≤ i → i < 512 * p + m + (e - m) → (t : Bool) → ltb i (512 * q + s) ≡ t → (i < 512 * q + s) ⊎ (512 * q + s + length x ≤ i)
-    apart i j k true n = inl (ltb-true i (512 * q + s) n)
-    apart i j k false n = inr (omega (arith, ltb-false i (512 * q + s) n))
+    part-ext (splice c (512 * q + s) x) c (512 * p + m) (e - m) (length-splice c (512 * q + s) x (omega arith))
+    (λ i j k. splice-other c (512 * q + s) x (omega arith) i (outside i (512 * q + s) (length x) (λ u v. omega arith)))
 
 -- two copies, the second where the first ends, are one
 pub copies-join : (c x y : List ℕ) (p q s m e : ℕ) → s ≤ m → m ≤ e → e ≤ 512 → 512 * p + 512 ≤ length c → 512 * q + 512 ≤ length c → x ≡ splice c (512 * q + s) (part c (512 * p + s) (m - s))

@@ -14,7 +14,7 @@ ghost use Rattle.blocks.specs.Bytes.{blockSize, part, splice, blockAt, storeBlo
 ghost use Rattle.blocks.specs.Descriptor.{phiStart, copying, descriptorBlock, tailAt};
 
 // The bytes of block `to` from `start` up to `end` are now those of block `from`.
-pub fn copy_part(card: &mut [u8], from: Physical, to: Physical, start: usize, end: usize)
+fn copy_part(card: &mut [u8], from: Physical, to: Physical, start: usize, end: usize)
     requires { ⌜ (start ≤ end) × (end ≤ blockSize) × (blockSize * from .0 + blockSize ≤ length (now card)) × (blockSize * «to» .0 + blockSize ≤ length (now card)) ⌝ }
     ensures { λ _. ⌜ now (card .exit) ≡ splice (now (card .entry)) (blockSize * «to» .0 + start) (part (now (card .entry)) (blockSize * from .0 + start) (end - start)) ⌝ }
 {
