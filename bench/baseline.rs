@@ -115,6 +115,7 @@ struct Chain {
     // the same in all descriptors
     layout: u32,
     volume: u32,
+    revision: u32,
     cost: u32,
     // of the active descriptor
     alpha: u32,
@@ -148,13 +149,21 @@ impl Names {
     }
 }
 
+// Whether bytes 40 to 63 are the revision, then zeros; all are looked at together.
+#[inline(always)]
+fn is_reserved(b: &Block, revision: u32) -> bool {
+    let words: &[[u8; 8]; 3] = b[REVISION..PHI].as_chunks().0.try_into().unwrap();
+    let [first, second, third] = words.map(u64::from_le_bytes);
+    (first ^ u64::from(revision)) | second | third == 0
+}
+
 // Whether a descriptor at block p of n is sound, as far as it does not rest on others. Within another function the
 // compiler takes the bytes of the name one by one.
 #[inline(never)]
-fn is_sound(b: &Block, layout: u32, cost: u32, p: u32, n: u32) -> bool {
+fn is_sound(b: &Block, layout: u32, revision: u32, cost: u32, p: u32, n: u32) -> bool {
     let (beta, next) = (get(b, BETA), get(b, NEXT));
     is_name(name_of(b))
-        && is_zero(&b[NAME_END..PHI])
+        && is_reserved(b, revision)
         && (layout == 2 || is_zero(&b[PHI..]))
         && get(b, ALPHA) == p
         && p + cost <= beta
@@ -171,6 +180,7 @@ impl Chain {
             },
             layout: 0,
             volume: 0,
+            revision: 0,
             cost: 0,
             alpha: 0,
             beta: 0,
@@ -183,9 +193,11 @@ impl Chain {
         let first = &blocks[0];
         self.layout = get(first, LAYOUT);
         self.volume = get(first, VOLUME);
+        self.revision = get(first, REVISION);
         if first[..LAYOUT] != MARK[..]
             || !matches!(self.layout, 1 | 2)
             || !matches!(self.volume, 1..=MOST_VOLUME)
+            || !matches!(self.revision, 0 | 1)
         {
             return refuse_at(6, 0);
         }
@@ -223,7 +235,7 @@ impl Chain {
     // Takes a descriptor in, unless it is unsound by itself; its next.
     fn pass(&mut self, blocks: &[Block], p: u32) -> Result<u32, Refusal> {
         let b = &blocks[p as usize];
-        if !is_sound(b, self.layout, self.cost, p, blocks.len() as u32) {
+        if !is_sound(b, self.layout, self.revision, self.cost, p, blocks.len() as u32) {
             return refuse_at(6, p);
         }
         self.starts.push(p);
@@ -278,13 +290,16 @@ impl Chain {
 }
 
 #[inline(never)]
-pub fn ream(card: &mut [u8], layout: u32, volume: u32, name: &[u8]) -> Answer {
+pub fn ream(card: &mut [u8], layout: u32, volume: u32, revision: u32, name: &[u8]) -> Answer {
     let blocks = check_area_mut(card)?;
     if !matches!(layout, 1 | 2) {
         return refuse(2);
     }
     if !matches!(volume, 1..=MOST_VOLUME) {
         return refuse(3);
+    }
+    if !matches!(revision, 0 | 1) {
+        return refuse(17);
     }
     let name = check_name(name)?;
     let c = cost(layout, volume);
@@ -298,6 +313,7 @@ pub fn ream(card: &mut [u8], layout: u32, volume: u32, name: &[u8]) -> Answer {
     put(b, VOLUME, volume);
     put(b, BETA, c);
     b[NAME..NAME_END].copy_from_slice(name);
+    put(b, REVISION, revision);
     Ok(())
 }
 
@@ -360,6 +376,15 @@ pub fn write(card: &mut [u8], l: u32, bytes: &[u8]) -> Answer {
     Ok(())
 }
 
+// Opens a region at block `to`: a copy of the descriptor at `from` and, in layout 1, of its tables.
+#[inline(always)]
+fn open(blocks: &mut [Block], from: u32, to: u32, c: u32) {
+    blocks.copy_within(from as usize..(from + c) as usize, to as usize);
+    let opened = &mut blocks[to as usize];
+    put(opened, ALPHA, to);
+    put(opened, BETA, to + c);
+}
+
 #[inline(never)]
 pub fn snap(card: &mut [u8], name: &[u8]) -> Answer {
     let blocks = check_area_mut(card)?;
@@ -372,15 +397,12 @@ pub fn snap(card: &mut [u8], name: &[u8]) -> Answer {
     if chain.starts.count == MOST_DESCRIPTORS {
         return refuse(13);
     }
-    let (from, to, c) = (chain.alpha as usize, chain.beta, chain.cost);
+    let (from, to, c) = (chain.alpha, chain.beta, chain.cost);
     if (to + c) as usize > blocks.len() {
         return refuse(11);
     }
-    blocks.copy_within(from..from + c as usize, to as usize);
-    let opened = &mut blocks[to as usize];
-    put(opened, ALPHA, to);
-    put(opened, BETA, to + c);
-    let closed = &mut blocks[from];
+    open(blocks, from, to, c);
+    let closed = &mut blocks[from as usize];
     put(closed, NEXT, to);
     closed[NAME..NAME_END].copy_from_slice(name);
     Ok(())
@@ -392,8 +414,15 @@ pub fn revert(card: &mut [u8], name: &[u8]) -> Answer {
     let name = check_name(name)?;
     let mut chain = Chain::new();
     chain.walk(blocks, Some(name))?;
-    let p = chain.snapshot()?;
+    let mut p = chain.snapshot()?;
     let active = *name_of(&blocks[chain.alpha as usize]);
+    let b = &blocks[p as usize];
+    if chain.revision == 1 {
+        // fits: the next region starts there and has as many blocks at least
+        let to = get(b, BETA);
+        open(blocks, p, to, chain.cost);
+        p = to;
+    }
     let b = &mut blocks[p as usize];
     put(b, NEXT, 0);
     b[NAME..NAME_END].copy_from_slice(&active);

@@ -10,6 +10,7 @@ pub enum Call {
     Ream {
         layout: u32,
         volume: u32,
+        revision: u32,
         name: Name,
     },
     Read {
@@ -77,8 +78,9 @@ macro_rules! measured {
                 Call::Ream {
                     layout,
                     volume,
+                    revision,
                     name,
-                } => $side::ream(card, *layout, *volume, name),
+                } => $side::ream(card, *layout, *volume, *revision, name),
                 Call::Read { snapshot, block } => {
                     let name = snapshot.as_ref().map(|name| name.as_slice());
                     $side::read(card, name, *block, &mut lent.out)

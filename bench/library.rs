@@ -12,10 +12,10 @@ fn answer(call: impl FnOnce(&mut u32) -> u32) -> Answer {
 
 // In each call below the pointers and lengths are those of slices that do not overlap.
 
-pub fn ream(card: &mut [u8], layout: u32, volume: u32, name: &[u8]) -> Answer {
+pub fn ream(card: &mut [u8], layout: u32, volume: u32, revision: u32, name: &[u8]) -> Answer {
     let (to, n) = (card.as_mut_ptr(), card.len());
     let (from, size) = (name.as_ptr(), name.len());
-    answer(|place| unsafe { mantreuy_ream(to, n, layout, volume, from, size, place) })
+    answer(|place| unsafe { mantreuy_ream(to, n, layout, volume, revision, from, size, place) })
 }
 
 pub fn read(card: &[u8], snapshot: Option<&[u8]>, l: u32, out: &mut [u8]) -> Answer {

@@ -152,12 +152,13 @@ fn show(nanoseconds: f64) -> String {
     }
 }
 
-// Runs `f` for each row with the row's card, as `card_of` gives it.
+// Runs `f` for each row with the row's card, as `card_of` gives it. The last card of each revision is kept.
 fn each_row(card_of: impl Fn(&Setting) -> Vec<u8>, mut f: impl FnMut(&Row, &[u8])) {
-    let mut made: Option<(Setting, Vec<u8>)> = None;
+    let mut made: [Option<(Setting, Vec<u8>)>; 2] = [None, None];
     for row in row::rows() {
+        let made = &mut made[row.setting.revision as usize];
         if made.as_ref().map(|m| m.0) != Some(row.setting) {
-            made = Some((row.setting, card_of(&row.setting)));
+            *made = Some((row.setting, card_of(&row.setting)));
         }
         f(&row, &made.as_ref().unwrap().1);
     }
@@ -166,8 +167,8 @@ fn each_row(card_of: impl Fn(&Setting) -> Vec<u8>, mut f: impl FnMut(&Row, &[u8]
 // The file of a setting's card.
 fn file(folder: &Path, s: &Setting) -> PathBuf {
     folder.join(format!(
-        "{}-{}-{}-{:?}.card",
-        s.layout, s.volume, s.snapshots, s.content
+        "{}-{}-{}-{}-{:?}.card",
+        s.layout, s.volume, s.revision, s.snapshots, s.content
     ))
 }
 
@@ -254,14 +255,15 @@ fn blocks() {
         {
             return;
         }
-        // other bytes in the free blocks, and for a format in all, so that every store shows
+        // other bytes in the free blocks, for a revert in all after the last descriptor, and for a format in all, so that
+        // every store shows
         let mut before = card.to_vec();
-        let free = if row.kind == row::Kind::Ream {
-            0
-        } else {
-            BLOCK * beta(&mut before) as usize
+        let free = match row.kind {
+            row::Kind::Ream => 0,
+            row::Kind::Revert => row::chain(card)[1] + 1,
+            _ => beta(&mut before) as usize,
         };
-        before[free..].fill(0xa5);
+        before[BLOCK * free..].fill(0xa5);
         let start = if row.kind == row::Kind::Ream {
             0
         } else {

@@ -22,6 +22,7 @@ pub enum Kind {
 pub struct Setting {
     pub layout: u32,
     pub volume: u32,
+    pub revision: u32,
     pub snapshots: usize,
     pub content: Content,
 }
@@ -55,23 +56,29 @@ const KINDS: [Kind; 10] = [
     Kind::Check,
 ];
 
-// All rows, those with the same card beside one another.
+// All rows, those with the same card beside one another; among them a revert on the same card of the other revision.
 pub fn rows() -> Vec<Row> {
     let mut rows = Vec::new();
     for layout in [1, 2] {
         for volume in [TABLE_ENTRIES, MOST_VOLUME] {
             for snapshots in [0, 1, 16, MOST_SNAPSHOTS - 1, MOST_SNAPSHOTS] {
                 for content in [Content::Usual, Content::Bare] {
-                    let setting = Setting {
+                    let setting = |revision| Setting {
                         layout,
                         volume,
+                        revision,
                         snapshots,
                         content,
                     };
                     rows.extend(
                         KINDS
                             .iter()
-                            .map(|&kind| Row { kind, setting })
+                            .flat_map(|&kind| {
+                                [0, 1].map(|revision| Row {
+                                    kind,
+                                    setting: setting(revision),
+                                })
+                            })
                             .filter(is_row),
                     );
                 }
@@ -80,6 +87,7 @@ pub fn rows() -> Vec<Row> {
         let setting = Setting {
             layout,
             volume: MOST_VOLUME,
+            revision: 0,
             snapshots: MOST_SNAPSHOTS,
             content: Content::Fullest,
         };
@@ -91,7 +99,8 @@ pub fn rows() -> Vec<Row> {
     rows
 }
 
-// One snapshot less than the most is for the snap that takes the last one; a format does not look at the card.
+// One snapshot less than the most is for the snap that takes the last one; a format does not look at the card; revision 1
+// is for the revert, which alone goes by it.
 fn is_row(row: &Row) -> bool {
     let s = row.setting;
     let fits = match row.kind {
@@ -101,7 +110,8 @@ fn is_row(row: &Row) -> bool {
         Kind::Snap => s.snapshots != MOST_SNAPSHOTS,
         _ => true,
     };
-    fits && (s.content == Content::Bare) == (row.kind == Kind::WriteTwo)
+    fits && (s.revision == 0 || row.kind == Kind::Revert)
+        && (s.content == Content::Bare) == (row.kind == Kind::WriteTwo)
         && (row.kind == Kind::Snap || s.snapshots != MOST_SNAPSHOTS - 1)
 }
 
@@ -114,6 +124,7 @@ impl Row {
             Kind::Ream => Call::Ream {
                 layout: s.layout,
                 volume: s.volume,
+                revision: s.revision,
                 name: name("fs"),
             },
             Kind::ReadActive => Call::Read {
@@ -149,6 +160,7 @@ impl Row {
             Kind::WriteOne => "write, 1 new block",
             Kind::WriteTwo => "write, 2 new blocks",
             Kind::Snap => "snap",
+            Kind::Revert if self.setting.revision == 1 => "revert, revision 1",
             Kind::Revert => "revert",
             Kind::List => "list",
             Kind::Check if self.setting.content == Content::Fullest => "check, fullest card",
@@ -220,7 +232,7 @@ pub fn prepare(s: &Setting) -> Vec<u8> {
     let bytes: Vec<u8> = (0..BLOCK).map(|i| (i * 5 + 1) as u8).collect();
     let l = s.volume;
     let c = cost(s.layout, l) as usize;
-    assert!(baseline::ream(&mut card, s.layout, l, &name("fs")).is_ok());
+    assert!(baseline::ream(&mut card, s.layout, l, s.revision, &name("fs")).is_ok());
     let empty = s.content == Content::Bare && s.snapshots == 0;
     let full = s.content == Content::Fullest;
     for block in 0..if empty { 0 } else { l - !full as u32 } {

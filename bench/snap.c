@@ -20,7 +20,7 @@ int main(int count, char **words)
 	uint32_t place, number;
 
 	memset(card, 0xa5, sizeof card);
-	number = mantreuy_ream(card, sizeof card, count > 1 ? (uint32_t)atoi(words[1]) : 2, 128, fs, sizeof fs, &place);
+	number = mantreuy_ream(card, sizeof card, count > 1 ? (uint32_t)atoi(words[1]) : 2, 128, MANTREUY_REVISION_0, fs, sizeof fs, &place);
 	memcpy(kept, card, sizeof kept);
 	clock_gettime(CLOCK_MONOTONIC, &first);
 	for (long i = 0; i < snaps; i++) {

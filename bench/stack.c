@@ -26,8 +26,8 @@ static __attribute__((noinline)) void make(void)
 	const size_t n = MANTREUY_BLOCK_SIZE * (size_t)BLOCKS;
 	top = __builtin_frame_address(0);
 	switch (which) {
-	case 0: number = mantreuy_ream(card, n, 1, MANTREUY_MOST_VOLUME, fs, sizeof fs, &place); break;
-	case 1: number = mantreuy_ream(card, n, 2, MANTREUY_MOST_VOLUME, fs, sizeof fs, &place); break;
+	case 0: number = mantreuy_ream(card, n, 1, MANTREUY_MOST_VOLUME, MANTREUY_REVISION_0, fs, sizeof fs, &place); break;
+	case 1: number = mantreuy_ream(card, n, 2, MANTREUY_MOST_VOLUME, MANTREUY_REVISION_0, fs, sizeof fs, &place); break;
 	case 2: number = mantreuy_read(card, n, 0, fs, sizeof fs, 5, block, sizeof block, &place); break;
 	case 3: number = mantreuy_read(card, n, 1, mon, sizeof mon, 5, block, sizeof block, &place); break;
 	case 4: number = mantreuy_write(card, n, 5, block, sizeof block, &place); break;
@@ -37,7 +37,7 @@ static __attribute__((noinline)) void make(void)
 	case 8: number = mantreuy_revert(card, n, mon, sizeof mon, &place); break;
 	case 9: number = mantreuy_list(card, n, records, sizeof records, &place); break;
 	case 10: number = mantreuy_check(card, n, &place); break;
-	case 11: number = mantreuy_ream(card, n, 3, MANTREUY_MOST_VOLUME, fs, sizeof fs, &place); break;
+	case 11: number = mantreuy_ream(card, n, 3, MANTREUY_MOST_VOLUME, MANTREUY_REVISION_0, fs, sizeof fs, &place); break;
 	case 12: number = mantreuy_read(card, n, 1, tue, sizeof tue, 5, block, sizeof block, &place); break;
 	case 13: number = mantreuy_read(card, n, 1, mon, sizeof mon, 5, block, sizeof block, &place); break;
 	case 14: number = mantreuy_write(card, n, MANTREUY_MOST_VOLUME, block, sizeof block, &place); break;
@@ -48,6 +48,8 @@ static __attribute__((noinline)) void make(void)
 	case 19: number = mantreuy_check(card, 2 * MANTREUY_BLOCK_SIZE, &place); break;
 	case 20: number = mantreuy_check(card, n, &place); break;
 	case 21: number = mantreuy_check(card, MANTREUY_BLOCK_SIZE * 2048, &place); break;
+	case 22: number = mantreuy_revert(card, n, mon, sizeof mon, &place); break;
+	case 23: number = mantreuy_ream(card, n, 2, MANTREUY_MOST_VOLUME, 2, fs, sizeof fs, &place); break;
 	default: break;
 	}
 }
@@ -58,7 +60,7 @@ static void *work(void *unused)
 	return unused;
 }
 
-/* Each call, and the number that it must answer. Calls 13 and 20 find a bad entry. */
+/* Each call, and the number that it must answer. Calls 13 and 20 find a bad entry, call 22 a card of revision 1. */
 static const struct {
 	const char *title;
 	uint32_t number;
@@ -68,14 +70,14 @@ static const struct {
 	{"ream, refused with 2", 2}, {"read, refused with 7", 7}, {"read, refused with 10", 10}, {"write, refused with 8", 8},
 	{"snap, refused with 12", 12}, {"revert, refused with 7", 7}, {"list, refused with 14", 14},
 	{"check, refused with 1", 1}, {"check, refused with 6", 6}, {"check, refused with 10", 10},
-	{"check, 2,048 blocks", 0},
+	{"check, 2,048 blocks", 0}, {"revert, revision 1", 0}, {"ream, refused with 17", 17},
 };
 
-static void prepare(uint32_t layout)
+static void prepare(uint32_t layout, uint32_t revision)
 {
 	uint32_t n = 0;
 	const size_t length = MANTREUY_BLOCK_SIZE * (size_t)BLOCKS;
-	n |= mantreuy_ream(card, length, layout, MANTREUY_MOST_VOLUME, fs, sizeof fs, &place);
+	n |= mantreuy_ream(card, length, layout, MANTREUY_MOST_VOLUME, revision, fs, sizeof fs, &place);
 	n |= mantreuy_write(card, length, 5, block, sizeof block, &place);
 	n |= mantreuy_snap(card, length, mon, sizeof mon, &place);
 	n |= mantreuy_write(card, length, 5, block, sizeof block, &place);
@@ -98,7 +100,7 @@ int main(void)
 				continue;
 			if (which == 6 && layout == 1)
 				continue;
-			prepare(layout);
+			prepare(layout, which == 22 ? MANTREUY_REVISION_1 : MANTREUY_REVISION_0);
 			/* the snapshot's first entry that is set: in its first table block, or in Phi */
 			if (which == 13 || which == 20)
 				memset(card + (layout == 1 ? MANTREUY_BLOCK_SIZE + 4 * 5 : 64), 0xff, 4);

@@ -18,7 +18,7 @@ int main(int count, char **words)
 	unsigned long beta;
 
 	memset(card, 0xa5, sizeof card);
-	number = mantreuy_ream(card, sizeof card, count > 1 ? (uint32_t)atoi(words[1]) : 2, 200, fs, sizeof fs, &place);
+	number = mantreuy_ream(card, sizeof card, count > 1 ? (uint32_t)atoi(words[1]) : 2, 200, MANTREUY_REVISION_0, fs, sizeof fs, &place);
 	mark = 1;
 	number |= mantreuy_snap(card, sizeof card, mon, sizeof mon, &place);
 	mark = 2;

@@ -24,18 +24,22 @@ impl Random {
     }
 }
 
-// What came of the calls: how often each answer was given.
 struct Pair {
     a: Vec<u8>,
     b: Vec<u8>,
     given: Given,
 }
 
-// By the number of the answer.
-type Given = BTreeMap<u32, u64>;
+// What came of the calls: how often each answer was given, by its number, and how many reverts were accepted, by layout
+// and revision.
+#[derive(Default)]
+struct Given {
+    answers: BTreeMap<u32, u64>,
+    reverts: BTreeMap<(u32, u32), u64>,
+}
 
 // The numbers that these calls can give.
-const NUMBERS: [u32; 15] = [0, 1, 2, 3, 4, 5, 6, 7, 8, 9, 10, 11, 12, 13, 14];
+const NUMBERS: [u32; 16] = [0, 1, 2, 3, 4, 5, 6, 7, 8, 9, 10, 11, 12, 13, 14, 17];
 
 impl Pair {
     fn new(area: Vec<u8>, given: Given) -> Pair {
@@ -53,11 +57,13 @@ impl Pair {
         assert_eq!(x, y, "answers differ: {call:?}");
         assert!(self.a == self.b, "cards differ after {call:?}");
         assert!(la == lb, "lent bytes differ after {call:?}");
-        *self
-            .given
-            .entry(x.err().map_or(0, |r| r.number))
-            .or_default() += 1;
-        x.is_ok()
+        let number = x.err().map_or(0, |r| r.number);
+        *self.given.answers.entry(number).or_default() += 1;
+        if matches!(call, Call::Revert { .. }) && number == 0 {
+            let rule = (get(&self.a, 0, LAYOUT), get(&self.a, 0, REVISION));
+            *self.given.reverts.entry(rule).or_default() += 1;
+        }
+        number == 0
     }
 }
 
@@ -71,6 +77,13 @@ fn some_name(r: &mut Random, most: usize) -> Name {
         n[NAME_SIZE - 1] = b'a' + r.below(26) as u8;
     }
     n
+}
+
+fn some_revision(r: &mut Random) -> u32 {
+    match r.one_in(40) {
+        true => NO_REVISIONS[r.below(NO_REVISIONS.len())],
+        false => r.below(2) as u32,
+    }
 }
 
 fn some_call(r: &mut Random, volume: u32, names: usize) -> Call {
@@ -158,7 +171,7 @@ fn damage(r: &mut Random, card: &mut [u8]) -> u32 {
     }
     if r.one_in(3) {
         // the descriptor
-        match r.below(9) {
+        match r.below(11) {
             0 => card[BLOCK * p + r.below(PHI)] ^= 1 << r.below(8),
             1 => card[BLOCK * p + NAME_END + r.below(BLOCK - NAME_END)] ^= 1 << r.below(8),
             2 => {
@@ -180,6 +193,12 @@ fn damage(r: &mut Random, card: &mut [u8]) -> u32 {
             ),
             6 => put(card, p, ALPHA, other as u32),
             7 => put(card, p, LAYOUT, 3 - layout),
+            8 => put(card, p, REVISION, some_revision(r)),
+            // the other rule, for the whole card
+            9 => {
+                let other = 1 - get(card, p, REVISION);
+                chain.iter().for_each(|&p| put(card, p, REVISION, other))
+            }
             _ => put(card, p, VOLUME, volume + 1),
         }
         if r.one_in(4) {
@@ -226,6 +245,7 @@ fn old_table(given: Given) -> Given {
     let ream = Call::Ream {
         layout: 2,
         volume: 200,
+        revision: 0,
         name: fs,
     };
     let write = Call::Write { block: 0 };
@@ -255,6 +275,7 @@ fn long_chain(r: &mut Random, pair: &mut Pair, blocks: usize, volume: u32) {
     let ream = Call::Ream {
         layout,
         volume,
+        revision: r.below(2) as u32,
         name: fs,
     };
     pair.make(&ream, &lent);
@@ -272,7 +293,7 @@ fn long_chain(r: &mut Random, pair: &mut Pair, blocks: usize, volume: u32) {
 // Compares the two sides on `cards` random cards; the number of calls compared.
 pub fn verify(cards: u64) -> u64 {
     let mut r = Random(0x1234_5678_9abc_def1);
-    let mut given = old_table(Given::new());
+    let mut given = old_table(Given::default());
     for i in 0..cards {
         let blocks = match i % 8 {
             0 => r.below(4),
@@ -305,6 +326,7 @@ pub fn verify(cards: u64) -> u64 {
             &Call::Ream {
                 layout,
                 volume,
+                revision: some_revision(&mut r),
                 name: some_name(&mut r, 12),
             },
             &Lent::new(),
@@ -338,6 +360,8 @@ pub fn verify(cards: u64) -> u64 {
                     pair.make(&Call::Read { snapshot, block }, &lent);
                 }
                 pair.make(&Call::Write { block }, &lent);
+                let name = name(&format!("v{}", r.below(4)));
+                pair.make(&Call::Revert { name }, &lent);
                 let call = some_call(&mut r, volume, names);
                 pair.make(&call, &lent);
                 pair.make(&Call::Check, &lent);
@@ -347,9 +371,14 @@ pub fn verify(cards: u64) -> u64 {
         }
         given = pair.given;
     }
+    let Given { answers, reverts } = given;
     assert!(
-        given.keys().eq(&NUMBERS),
-        "an answer was never given, or a strange one was: {given:?}"
+        answers.keys().eq(&NUMBERS),
+        "an answer was never given, or a strange one was: {answers:?}"
     );
-    given.values().sum()
+    assert!(
+        reverts.keys().eq(&[(1, 0), (1, 1), (2, 0), (2, 1)]),
+        "a kind of revert was never made: {reverts:?}"
+    );
+    answers.values().sum()
 }

@@ -46,7 +46,7 @@ int main(void)
 {
 	make_name("fs", volume_name);
 	make_name("mon", visit);
-	expect("ream", mantreuy_ream(card, sizeof card, 2, 200, volume_name, sizeof volume_name, &place), MANTREUY_ACCEPTED);
+	expect("ream", mantreuy_ream(card, sizeof card, 2, 200, MANTREUY_REVISION_0, volume_name, sizeof volume_name, &place), MANTREUY_ACCEPTED);
 	write_block(5, 7);
 	expect("snap", mantreuy_snap(card, sizeof card, visit, sizeof visit, &place), MANTREUY_ACCEPTED);
 	write_block(5, 9);

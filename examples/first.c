@@ -10,7 +10,7 @@ int main(void)
 
     number = mantreuy_pad_name((const uint8_t *)"fs", 2, name, sizeof name);
     if (number == MANTREUY_ACCEPTED)
-        number = mantreuy_ream(card, sizeof card, 2, 200, name, sizeof name, &place);
+        number = mantreuy_ream(card, sizeof card, 2, 200, MANTREUY_REVISION_0, name, sizeof name, &place);
     memset(block, 7, sizeof block);
     if (number == MANTREUY_ACCEPTED)
         number = mantreuy_write(card, sizeof card, 5, block, sizeof block, &place);

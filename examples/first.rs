@@ -1,4 +1,4 @@
-use mantreuy::{Card, Name, Refusal, Target, BLOCK_SIZE};
+use mantreuy::{Card, Name, Refusal, Target, BLOCK_SIZE, REVISION_0};
 
 fn main() -> Result<(), Refusal> {
     let mut area = [0; 16 * BLOCK_SIZE];
@@ -6,7 +6,7 @@ fn main() -> Result<(), Refusal> {
     let mon = Name::new("mon")?;
 
     let mut card = Card::new(&mut area);
-    card.ream(2, 200, Name::new("fs")?)?;
+    card.ream(2, 200, REVISION_0, Name::new("fs")?)?;
     card.write(5, &[7; BLOCK_SIZE])?;
     card.snap(mon)?;
     card.write(5, &[9; BLOCK_SIZE])?;

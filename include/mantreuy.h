@@ -17,9 +17,9 @@
  * Blocks of the card are numbered from 0, and so are logical blocks of the
  * volume.
  *   - A descriptor is a block that describes the active volume or a snapshot.
- *     It has the layout, L, the name, and three block numbers: alpha, its own
- *     block; beta, the first block after its region; next, the descriptor that
- *     follows, 0 in the last.
+ *     It has the layout, L, the name, the revision, and three block numbers:
+ *     alpha, its own block; beta, the first block after its region; next, the
+ *     descriptor that follows, 0 in the last.
  *   - Its region is the blocks from alpha on, up to beta and without it. The
  *     next region starts there. The blocks from beta of the active volume on are
  *     free.
@@ -32,16 +32,19 @@
  *     descriptor has 112 entries of its own, Phi, that name the table blocks.
  *   - The opening cost c is the blocks that a region starts with, and so what a
  *     format and a snapshot take: 1 + n in layout 1, 1 in layout 2.
+ *   - The revision, 0 or 1, is given with the format and is one for the whole
+ *     card. It says what a revert does with the snapshot that it goes back to: on
+ *     revision 0 the snapshot is gone afterwards, on revision 1 it stays.
  *   - The bytes of a descriptor: 0 to 3 `snap`, 4 to 7 the layout, 8 to 11 L,
- *     12 to 15 alpha, 16 to 19 beta, 20 to 23 next, 24 to 39 the name, 40 to 63
- *     zero, 64 to 511 Phi in layout 2, and zero in layout 1. Entry i of Phi
- *     stands at byte 64 + 4 * i, entry i of a table block at byte 4 * i. So the
- *     layout and L of a card stand in its block 0.
+ *     12 to 15 alpha, 16 to 19 beta, 20 to 23 next, 24 to 39 the name, 40 to 43
+ *     the revision, 44 to 63 zero, 64 to 511 Phi in layout 2, and zero in layout
+ *     1. Entry i of Phi stands at byte 64 + 4 * i, entry i of a table block at
+ *     byte 4 * i. So layout, L and revision of a card stand in its block 0.
  *   - A descriptor is sound if bytes 0 to 3 are `snap` and the zero bytes are
- *     zero; layout, L and name are ones that a format takes; its layout and L
- *     are those of block 0; alpha is its own block; alpha + c <= beta <= N; next
- *     is 0, or equals beta with beta < N; no earlier descriptor has its name;
- *     and it is among the first 256.
+ *     zero; layout, L, revision and name are ones that a format takes; its
+ *     layout, L and revision are those of block 0; alpha is its own block;
+ *     alpha + c <= beta <= N; next is 0, or equals beta with beta < N; no earlier
+ *     descriptor has its name; and it is among the first 256.
  *   - An entry is in place if it is nil, or below beta of the descriptor
  *     through which it is found and neither a descriptor of the chain nor a
  *     layout 1 table block.
@@ -109,6 +112,7 @@
  *   12  MANTREUY_NAME_IN_USE     a snapshot or the active volume has the name
  *   13  MANTREUY_TOO_MANY        there are 255 snapshots already
  *   14  MANTREUY_SHORT_LIST      the list is shorter than the chain
+ *   17  MANTREUY_BAD_REVISION    the revision is not 0 or 1
  *
  * No other number is returned.
  *
@@ -121,7 +125,8 @@
  *           descriptor and a table block. All of them are in the active region
  *           as it is after the call
  *   snap    the active descriptor, and the c blocks from its beta on
- *   revert  the descriptor of the snapshot, the active one after the call
+ *   revert  on revision 0 the descriptor of the snapshot, the active one after
+ *           the call; on revision 1 the c blocks from the snapshot's beta on
  * read, list and check alter none. What is said here holds once the call has
  * returned. Of a card whose memory is lost or copied out in the middle of a
  * call, or of a medium that has got only some of these blocks, nothing is
@@ -147,6 +152,9 @@ extern "C" {
 #define MANTREUY_MOST_SNAPSHOTS 255
 #define MANTREUY_MOST_RECORDS 256 /* the snapshots and the active volume */
 
+#define MANTREUY_REVISION_0 0 /* a snapshot that a revert goes back to is gone */
+#define MANTREUY_REVISION_1 1 /* it stays, and can be gone back to again */
+
 /* the numbers of the answers */
 enum {
 	MANTREUY_ACCEPTED = 0,
@@ -163,7 +171,8 @@ enum {
 	MANTREUY_NO_ROOM = 11,
 	MANTREUY_NAME_IN_USE = 12,
 	MANTREUY_TOO_MANY = 13,
-	MANTREUY_SHORT_LIST = 14
+	MANTREUY_SHORT_LIST = 14,
+	MANTREUY_BAD_REVISION = 17
 };
 
 /*
@@ -173,11 +182,16 @@ enum {
  * In layout 1 each snapshot has a whole table of n blocks, and a read or a write
  * follows one entry. In layout 2 a snapshot takes one block, table blocks are
  * made as writes need them, and a read or a write follows up to two entries.
+ * `revision` is MANTREUY_REVISION_0 or MANTREUY_REVISION_1; the calls on the card
+ * go by it from then on, and nothing but another format changes it.
+ * `revision` is new in this interface. A caller that was written without it gives
+ * MANTREUY_REVISION_0 there, and its cards are the same as before, byte for byte.
  *
- * Refusals, in this order: 1, 2, 3, 4, 5 (c > N).
+ * Refusals, in this order: 1, 2, 3, 17, 4, 5 (c > N).
  */
 uint32_t mantreuy_ream(uint8_t *card, size_t card_length, uint32_t layout, uint32_t volume,
-                       const uint8_t *name, size_t name_length, uint32_t *place);
+                       uint32_t revision, const uint8_t *name, size_t name_length,
+                       uint32_t *place);
 
 /*
  * Reads logical block `block` into `out`, which must be 512 bytes long: of the
@@ -218,8 +232,12 @@ uint32_t mantreuy_snap(uint8_t *card, size_t card_length,
 
 /*
  * Makes the content of the snapshot that has the name that of the active volume.
- * This snapshot and all later ones are gone, and their names may be given again.
- * The blocks that came after it are free again; their bytes are not wiped. The
+ * All later snapshots are gone, and their names may be given again. On a card of
+ * revision 0 this snapshot is gone too: its descriptor becomes the active one. On
+ * a card of revision 1 it stays, listed under its name and as it is byte for
+ * byte, and can be gone back to any number of times; the active volume goes on in
+ * a region of its own after it, of c blocks, which it always has room for.
+ * The blocks that came after are free again; their bytes are not wiped. The
  * active name stays.
  *
  * Refusals, in this order: 1; 4; 6; 7.

@@ -13,7 +13,8 @@ pub const RECORD_NEXT: usize = 24;
 #[link(name = "mantreuy", kind = "static")]
 unsafe extern "C" {
     pub fn mantreuy_ream(card: *mut u8, card_length: usize, layout: u32, volume: u32,
-                         name: *const u8, name_length: usize, place: *mut u32) -> u32;
+                         revision: u32, name: *const u8, name_length: usize,
+                         place: *mut u32) -> u32;
     pub fn mantreuy_read(card: *const u8, card_length: usize, snapshot: u32,
                          name: *const u8, name_length: usize, block: u32,
                          out: *mut u8, out_length: usize, place: *mut u32) -> u32;

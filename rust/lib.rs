@@ -19,11 +19,11 @@
 //! besides. Only [`Card::list`] allocates, for its records.
 //!
 //! ```
-//! use mantreuy::{Card, Kind, Name, Target, BLOCK_SIZE};
+//! use mantreuy::{Card, Kind, Name, Target, BLOCK_SIZE, REVISION_0};
 //!
 //! let mut card = Card::new(vec![0; 16 * BLOCK_SIZE]);
 //! let visit = Name::new("mon")?;
-//! card.ream(2, 200, Name::new("fs")?)?;
+//! card.ream(2, 200, REVISION_0, Name::new("fs")?)?;
 //! card.write(5, &[7; BLOCK_SIZE])?;
 //! card.snap(visit)?;
 //! assert_eq!(card.snap(visit).unwrap_err().kind, Kind::NameInUse);
@@ -58,6 +58,10 @@ pub const MOST_BLOCKS: usize = 65_536;
 pub const MOST_VOLUME: u32 = 14_336;
 /// The most snapshots of a card.
 pub const MOST_SNAPSHOTS: usize = 255;
+/// The revision of a card on which a snapshot that a revert goes back to is gone afterwards.
+pub const REVISION_0: u32 = 0;
+/// The revision of a card on which it stays, and can be gone back to again.
+pub const REVISION_1: u32 = 1;
 
 /// Which condition a refused call met. Its number is that of the header.
 #[derive(Clone, Copy, PartialEq, Eq, Hash, Debug)]
@@ -91,10 +95,12 @@ pub enum Kind {
     TooMany = 13,
     /// The list is shorter than the chain. [`Card::list`] lends one that is long enough, so no call gives this.
     ShortList = 14,
+    /// The revision is not 0 or 1.
+    BadRevision = 17,
 }
 
 // Each kind with its text.
-const KINDS: [(Kind, &str); 14] = [
+const KINDS: [(Kind, &str); 15] = [
     (Kind::BadArea, "not 2 to 65,536 blocks of 512 bytes"),
     (Kind::BadLayout, "the layout is not 1 or 2"),
     (Kind::BadVolume, "the volume is not 1 to 14,336 blocks"),
@@ -109,6 +115,7 @@ const KINDS: [(Kind, &str); 14] = [
     (Kind::NameInUse, "the name is in use"),
     (Kind::TooMany, "there are 255 snapshots already"),
     (Kind::ShortList, "the list is shorter than the chain"),
+    (Kind::BadRevision, "the revision is not 0 or 1"),
 ];
 
 /// Why a call was refused.
@@ -357,14 +364,19 @@ impl<A: AsRef<[u8]> + AsMut<[u8]>> Card<A> {
     /// Opening the volume, and each snapshot of it, takes one block in layout 2, and one block more for each 128
     /// logical blocks, or part of 128, in layout 1.
     ///
+    /// The revision is [`REVISION_0`] or [`REVISION_1`], and says what [`Card::revert`] does with the snapshot that it
+    /// goes back to. It is new here: a caller that was written without it gives [`REVISION_0`], and its cards are the
+    /// same as before, byte for byte.
+    ///
     /// # Errors
     ///
-    /// [`Kind::BadLayout`], [`Kind::BadVolume`], [`Kind::CardTooSmall`].
-    pub fn ream(&mut self, layout: u32, volume: u32, name: Name) -> Answer {
+    /// [`Kind::BadLayout`], [`Kind::BadVolume`], [`Kind::BadRevision`], [`Kind::CardTooSmall`].
+    pub fn ream(&mut self, layout: u32, volume: u32, revision: u32, name: Name) -> Answer {
         let (card, n) = self.lent();
+        let name = name.0.as_ptr();
         // SAFETY: two slices that do not overlap, and the place.
         answer(|place| unsafe {
-            mantreuy_ream(card, n, layout, volume, name.0.as_ptr(), NAME_SIZE, place)
+            mantreuy_ream(card, n, layout, volume, revision, name, NAME_SIZE, place)
         })
     }
 
@@ -390,8 +402,9 @@ impl<A: AsRef<[u8]> + AsMut<[u8]>> Card<A> {
         answer(|place| unsafe { mantreuy_snap(card, n, name.0.as_ptr(), NAME_SIZE, place) })
     }
 
-    /// Makes the content of the snapshot that of the active volume. The snapshot and all later ones are gone, and
-    /// the blocks that came after it are free again; their bytes are not wiped.
+    /// Makes the content of the snapshot that of the active volume. All later snapshots are gone, and the blocks that
+    /// came after are free again; their bytes are not wiped. On a card of [`REVISION_0`] the snapshot itself is gone
+    /// too; on a card of [`REVISION_1`] it stays, and can be gone back to any number of times.
     ///
     /// # Errors
     ///

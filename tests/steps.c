@@ -72,7 +72,7 @@ static int prepare(uint32_t layout, uint32_t volume, int visits, const uint8_t *
 	size = BLOCK * (size_t)((visits + 2) * (cost + 2) + 1);
 	if (size > MOST_BYTES)
 		return 0;
-	number = mantreuy_ream(lent, size, layout, volume, (const uint8_t *)"home-17\0\0\0\0\0\0\0\0", MANTREUY_NAME_SIZE, &place);
+	number = mantreuy_ream(lent, size, layout, volume, MANTREUY_REVISION_0, (const uint8_t *)"home-17\0\0\0\0\0\0\0\0", MANTREUY_NAME_SIZE, &place);
 	for (int i = 0; i <= visits; i++) {
 		memset(block, 'a' + i, sizeof block);
 		number |= mantreuy_write(lent, size, (uint32_t)i % volume, block, sizeof block, &place);

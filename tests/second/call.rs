@@ -8,6 +8,7 @@ pub enum Call {
     Ream {
         layout: u64,
         volume: u64,
+        revision: u64,
         name: Vec<u8>,
     },
     Read {
@@ -58,6 +59,15 @@ impl Call {
             Call::Check => Kind::Check,
         }
     }
+
+    /// The lent block and the lent list, empty where none is lent.
+    pub fn lent(&self) -> (Vec<u8>, Vec<Record>) {
+        match self {
+            Call::Read { lent, .. } | Call::Write { lent, .. } => (lent.clone(), Vec::new()),
+            Call::List { lent } => (Vec::new(), lent.clone()),
+            _ => (Vec::new(), Vec::new()),
+        }
+    }
 }
 
 #[derive(Clone, PartialEq, Eq, Debug)]
@@ -86,8 +96,9 @@ pub fn carry_out(card: &mut [u8], call: &Call) -> Said {
         Call::Ream {
             layout,
             volume,
+            revision,
             name,
-        } => plain(store::ream(card, *layout, *volume, name)),
+        } => plain(store::ream(card, *layout, *volume, *revision, name)),
         Call::Read {
             target,
             logical,

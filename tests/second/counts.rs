@@ -1,4 +1,4 @@
-//! Counts of answers, by the row of a table and by the answer's number.
+//! Counts of answers, by the row of a table and by the answer's number; and of accepted reverts.
 
 use std::collections::BTreeMap;
 
@@ -59,6 +59,40 @@ impl Counts {
     ) -> impl Iterator<Item = (usize, u64, u64)> + 'a {
         self.given()
             .filter(|(row, number, _)| !can_arise[*row].contains(number))
+    }
+}
+
+/// Accepted reverts, each count for revision 0 and for revision 1.
+#[derive(Default)]
+pub struct Reverts {
+    all: [u64; 2],
+    /// Those to a visit that was rolled back to before.
+    again: [u64; 2],
+    /// Those to a visit of the starting card.
+    found: [u64; 2],
+}
+
+impl Reverts {
+    pub fn add(&mut self, revision: usize, again: bool, found: bool) {
+        self.all[revision] += 1;
+        self.again[revision] += u64::from(again);
+        self.found[revision] += u64::from(found);
+    }
+
+    /// Prints the sum, with how many cards were compared, and the counts; nothing where there
+    /// was no revert.
+    pub fn print(&self, compared: u64) {
+        let sum: u64 = self.all.iter().sum();
+        if sum == 0 {
+            return;
+        }
+        println!("{sum} accepted reverts, {compared} cards compared");
+        for revision in 0..2 {
+            println!(
+                "revision {revision}: {}, to a visit once more {}, to one of the starting card {}",
+                self.all[revision], self.again[revision], self.found[revision]
+            );
+        }
     }
 }
 

@@ -1,14 +1,15 @@
 //! Cards damaged by hand: each rule for descriptors, chain and entries, with the answer and
-//! the place that document 01 gives.
+//! the place that documents 01 and 02 give.
 
 use crate::numbers::*;
 use crate::store::{self, Logical, Target, ACCEPTED};
-use crate::values::{answer, beta, list, put, read, reamed, same, write};
+use crate::values::{answer, beta, formatted, list, put, read, reamed, same, write};
 use crate::Count;
 
 /// Counts all cases.
 pub fn run(count: &mut Count) {
     descriptors(count);
+    revisions(count);
     chains(count);
     followed(count);
     checked(count);
@@ -23,8 +24,8 @@ fn passes(count: &mut Count, good: &[u8], expected: u64) {
 
 /// Every byte of a descriptor damaged, in the first and in the second one.
 fn descriptors(count: &mut Count) {
-    for layout in [1, 2] {
-        let mut good = reamed(layout, 9, 16);
+    for (layout, revision) in [(1, 0), (1, 1), (2, 0), (2, 1)] {
+        let mut good = formatted(layout, 9, revision, 16);
         store::snap(&mut good, b"mon");
         let second = beta(&reamed(layout, 9, 16));
         for (descriptor, byte) in (0..BLOCK).flat_map(|byte| [(0, byte), (second, byte)]) {
@@ -39,7 +40,8 @@ fn descriptors(count: &mut Count) {
                 (_, true) => answer(6, second),
                 _ => answer(6, descriptor),
             };
-            let name = format!("layout {layout}, byte {byte} of descriptor {descriptor}");
+            let card_of = format!("layout {layout}, revision {revision}");
+            let name = format!("{card_of}, byte {byte} of descriptor {descriptor}");
             same(count, &name, list(&card), expected);
             if phi {
                 same(count, &name, store::check(&card), answer(10, descriptor));
@@ -77,6 +79,115 @@ fn descriptors(count: &mut Count) {
         put(&mut card, 0, VOLUME, volume);
         let expected = if good { ACCEPTED } else { answer(6, 0) };
         same(count, &format!("stored L {volume}"), list(&card), expected);
+    }
+}
+
+/// Bytes 40 to 63 of three descriptors: the revision is 0 or 1 and block 0's, then come zeros.
+fn revisions(count: &mut Count) {
+    // Layout 1: descriptors 0, 2 and 4. Layout 2: 0, 1 and 2.
+    for (layout, revision, places, end) in [
+        (1, 0, [0, 2, 4], 6),
+        (1, 1, [0, 2, 4], 6),
+        (2, 0, [0, 1, 2], 3),
+        (2, 1, [0, 1, 2], 3),
+    ] {
+        let mut good = formatted(layout, 9, revision, 16);
+        store::snap(&mut good, b"mon");
+        store::snap(&mut good, b"tue");
+        passes(count, &good, end);
+        let card_of = format!("layout {layout}, revision {revision}");
+        for place in places {
+            for stored in [2, 3, 256, 257, 65_536, 1 << 24, 1 << 31, u32::MAX] {
+                let mut card = good.clone();
+                put(&mut card, place, REVISION, stored);
+                let name = format!("{card_of}, {stored} in descriptor {place}");
+                same(count, &name, list(&card), answer(6, place));
+            }
+            for byte in 44..64 {
+                let mut card = good.clone();
+                card[place as usize * BLOCK + byte] = 1;
+                let name = format!("{card_of}, byte {byte} of descriptor {place} set");
+                same(count, &name, list(&card), answer(6, place));
+            }
+        }
+        // The other revision in one, two or three descriptors: the first that differs from block 0.
+        let other = 1 - revision as u32;
+        for (changed, fault) in [
+            (&[0][..], Some(1)),
+            (&[1], Some(1)),
+            (&[2], Some(2)),
+            (&[0, 1], Some(2)),
+            (&[0, 2], Some(1)),
+            (&[1, 2], Some(1)),
+            (&[0, 1, 2], None),
+        ] {
+            let mut card = good.clone();
+            for k in changed {
+                put(&mut card, places[*k], REVISION, other);
+            }
+            let expected = fault.map_or(ACCEPTED, |k: usize| answer(6, places[k]));
+            let name = format!("{card_of}, the other in descriptors {changed:?}");
+            same(count, &name, list(&card), expected);
+            same(count, &name, store::check(&card), expected);
+        }
+    }
+    every_call(count);
+    // A ream asks nothing of the old card.
+    let mut card = formatted(2, 9, 1, 4);
+    put(&mut card, 0, REVISION, 2);
+    same(count, "2 in block 0", list(&card), answer(6, 0));
+    let again = store::ream(&mut card, 2, 9, 1, b"fs");
+    same(count, "a ream over it", again, ACCEPTED);
+    same(count, "its card", card, formatted(2, 9, 1, 4));
+    // A card of one descriptor has the rule that block 0 names.
+    for (revision, names) in [(0, vec!["fs"]), (1, vec!["mon", "fs"])] {
+        let mut card = formatted(2, 9, 1 - revision, 4);
+        put(&mut card, 0, REVISION, revision as u32);
+        store::snap(&mut card, b"mon");
+        let said = store::revert(&mut card, b"mon");
+        same(count, "revert on a changed card", said, ACCEPTED);
+        let mut records = [store::NOTHING; 4];
+        let filled = store::list(&card, &mut records).1;
+        let names: Vec<_> = names
+            .into_iter()
+            .map(|n| store::padded(n.as_bytes()))
+            .collect();
+        let listed: Vec<_> = records[..filled].iter().map(|record| record.name).collect();
+        same(count, "its visits", listed, names);
+    }
+}
+
+/// Every call but ream meets the second descriptor's revision, after 4 and 9 and before the rest.
+fn every_call(count: &mut Count) {
+    for (revision, other) in [(0, 1), (1, 0), (0, 2), (1, 256)] {
+        let mut card = formatted(2, 9, revision, 2);
+        store::snap(&mut card, b"mon");
+        put(&mut card, 1, REVISION, other);
+        let before = card.clone();
+        let mon = Target::Snapshot(b"mon".to_vec());
+        let far = Logical(9);
+        let calls = [
+            ("list", store::list(&card, &mut []).0),
+            ("check", store::check(&card)),
+            ("read", store::read(&card, &mon, far, &mut [0; BLOCK])),
+            ("write", store::write(&mut card, far, &[0; BLOCK])),
+            ("snap", store::snap(&mut card, b"mon")),
+            ("revert", store::revert(&mut card, b"mon")),
+            ("revert, no visit", store::revert(&mut card, b"tue")),
+        ];
+        for (name, said) in calls {
+            let name = format!("{name} where {other} follows {revision}");
+            same(count, &name, said, answer(6, 1));
+        }
+        same(
+            count,
+            "4 first",
+            store::revert(&mut card, b""),
+            answer(4, 0),
+        );
+        let short = store::write(&mut card, far, &[0; 511]);
+        same(count, "9 first", short, answer(9, 0));
+        same(count, "the card stays", card, before);
     }
 }
 

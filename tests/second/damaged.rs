@@ -1,9 +1,11 @@
 //! Random damage to cards in use: no call may come to grief, a refused call leaves card and
-//! lent memory, and an accepted one leaves a sound chain.
+//! lent memory, and an accepted one leaves a sound chain. Damage to bytes 40 to 63 of a
+//! descriptor alone is met by 6 with its place.
 
 use crate::call::{carry_out, Call};
 use crate::counts::Counts;
 use crate::numbers::{ANSWERS, BLOCK, MOST_DESCRIPTORS, NUMBER, TABLE_ENTRIES};
+use crate::reserved;
 use crate::rng::Rng;
 use crate::store::{self, Logical, Target, NOTHING};
 use crate::Count;
@@ -22,19 +24,53 @@ pub fn run(seed: u64, count: u64) -> Count {
     sum
 }
 
-/// A card in use with some of its numbers or bytes changed.
-fn damaged_card(rng: &mut Rng) -> Vec<u8> {
+/// A card in use, of either revision.
+fn card_in_use(rng: &mut Rng) -> Vec<u8> {
     let layout = rng.between(1, 2);
     let blocks = rng.between(4, 60);
     let volume = rng.between(1, 300);
     let mut card = vec![0; blocks as usize * BLOCK];
-    store::ream(&mut card, layout, volume, b"fs");
+    store::ream(&mut card, layout, volume, rng.below(2), b"fs");
     for k in 0..rng.below(blocks) {
         store::write(&mut card, Logical(rng.below(volume)), &[k as u8; BLOCK]);
         if rng.once_in(4) {
             store::snap(&mut card, format!("v{}", k % 8).as_bytes());
         }
     }
+    card
+}
+
+/// Damages bytes 40 to 63 of one descriptor, and has every call but ream meet it.
+fn reserved_bytes(rng: &mut Rng, good: &[u8]) -> Result<(), String> {
+    let mut card = good.to_vec();
+    let mut records = [NOTHING; MOST_DESCRIPTORS];
+    let (listed, count) = store::list(&card, &mut records);
+    if listed != store::ACCEPTED {
+        return Err(format!("a good card: {listed:?}"));
+    }
+    let expected = reserved::damage(rng, &mut card, &records[..count]);
+    let damaged = card.clone();
+    let mut met = vec![store::list(&card, &mut records).0, store::check(&card)];
+    if expected != store::ACCEPTED {
+        let first = Logical(0);
+        let mut lent = [0; BLOCK];
+        met.push(store::read(&card, &Target::Active, first, &mut lent));
+        met.push(store::write(&mut card, first, &lent));
+        met.push(store::snap(&mut card, b"new"));
+        met.push(store::revert(&mut card, b"v0"));
+    }
+    if let Some(answer) = met.into_iter().find(|answer| *answer != expected) {
+        return Err(format!("{answer:?} and not {expected:?}"));
+    }
+    match card == damaged {
+        true => Ok(()),
+        false => Err("the card has changed".to_string()),
+    }
+}
+
+/// The card with some of its numbers or bytes changed.
+fn damaged_card(rng: &mut Rng, mut card: Vec<u8>) -> Vec<u8> {
+    let blocks = (card.len() / BLOCK) as u64;
     for _ in 0..rng.between(1, 4) {
         let block = rng.below(blocks) as usize;
         let numbers = *rng.pick(&[6, 20, TABLE_ENTRIES]);
@@ -84,17 +120,15 @@ fn random_call(rng: &mut Rng) -> Call {
 /// Runs some calls on one damaged card.
 fn one(seed: u64, answers: &mut Counts) -> Result<(), String> {
     let mut rng = Rng::new(seed);
-    let mut card = damaged_card(&mut rng);
+    let good = card_in_use(&mut rng);
+    reserved_bytes(&mut rng, &good)?;
+    let mut card = damaged_card(&mut rng, good);
     for _ in 0..20 {
         let before = card.clone();
         let call = random_call(&mut rng);
         let said = carry_out(&mut card, &call);
         answers.add(0, said.answer.number, 1);
-        let (block, records) = match &call {
-            Call::Read { lent, .. } | Call::Write { lent, .. } => (lent.clone(), Vec::new()),
-            Call::List { lent } => (Vec::new(), lent.clone()),
-            _ => (Vec::new(), Vec::new()),
-        };
+        let (block, records) = call.lent();
         let refused = said.answer != store::ACCEPTED;
         if refused && (card != before || said.block != block || said.records != records) {
             return Err(format!("{:?} has changed something", said.answer));

@@ -6,6 +6,7 @@ mod boundary;
 mod call;
 #[path = "drive/calls.rs"]
 mod calls;
+mod cases;
 mod counts;
 #[path = "drive/damaged.rs"]
 mod damaged;
@@ -20,6 +21,7 @@ mod names;
 mod numbers;
 #[path = "drive/pair.rs"]
 mod pair;
+mod reserved;
 mod rng;
 #[path = "drive/rollback.rs"]
 mod rollback;
@@ -37,7 +39,7 @@ drive calls SEED COUNT       random lists of calls
 drive damaged SEED COUNT     random calls on damaged cards
 drive rollback SEED COUNT    each accepted revert beside the shorter list
 drive names SEED COUNT       lists of texts made into names
-drive values SEED COUNT      the bench value of 255 snaps and one more
+drive values SEED COUNT      the bench value of 255 snaps and one more, and revisions
 ";
 
 /// One list: it counts its answers in the table, or says what differed.

@@ -187,6 +187,14 @@ fn by_hand() -> Vec<(String, Vec<u8>, String)> {
             b"op=ream blocks=6 layout=2 volume=200 name=fs\n",
         ),
         ("ream-no-name", b"op=ream layout=2 blocks=6 volume=200\n"),
+        (
+            "ream-revision",
+            b"op=ream layout=2 blocks=6 volume=200 revision=0 name=fs\n",
+        ),
+        (
+            "ream-revision-last",
+            b"op=ream layout=2 blocks=6 volume=200 name=fs revision=1\n",
+        ),
     ];
     for (name, line) in ill {
         let mut input = REAM.as_bytes().to_vec();

@@ -11,6 +11,8 @@ pub struct Ledger {
     frozen: Vec<(Vec<u8>, Volume)>,
     name: Vec<u8>,
     active: Volume,
+    /// Whether a volume gone back to stays in the list, as on revision 1.
+    stays: bool,
 }
 
 /// What the ledger says of a call.
@@ -32,12 +34,13 @@ fn is_name(text: &[u8]) -> bool {
 
 impl Ledger {
     /// A new active volume of so many blocks of zeros.
-    pub fn new(name: &[u8], blocks: u64) -> Ledger {
+    pub fn new(name: &[u8], blocks: u64, revision: u64) -> Ledger {
         let active = vec![[0; BLOCK]; blocks as usize];
         Ledger {
             frozen: Vec::new(),
             name: name.to_vec(),
             active,
+            stays: revision == 1,
         }
     }
 
@@ -118,7 +121,7 @@ impl Ledger {
                 match self.position(name) {
                     Some(k) => {
                         self.active = self.frozen[k].1.clone();
-                        self.frozen.truncate(k);
+                        self.frozen.truncate(if self.stays { k + 1 } else { k });
                         Word::Done
                     }
                     None => Word::Refused(7),

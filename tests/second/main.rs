@@ -1,7 +1,8 @@
-//! The second program: an own store, ledger and sheet reader, written from document 01
+//! The second program: an own store, ledger and sheet reader, written from documents 01 and 02
 //! alone, and the comparisons that it is made for.
 
 mod call;
+mod cases;
 mod counts;
 mod damage;
 mod damaged;
@@ -10,6 +11,7 @@ mod ledger;
 mod make;
 mod numbers;
 mod program;
+mod reserved;
 mod rng;
 mod rollback;
 mod room;
@@ -27,7 +29,7 @@ second run < SHEET                  run a sheet on the own reader
 second make SEED                    print the sheet of a seed
 second sheets PROGRAM SEED COUNT    compare a program on random sheets
 second edges PROGRAM                compare a program on sheets at the edges
-second values                       document 01's bench values and rules on the own store
+second values                       bench values, rules and revisions on the own store
 second rollback SEED COUNT          rollback and ledger on the own store
 second damaged SEED COUNT           calls on randomly damaged cards, own store
 ";

@@ -1,4 +1,4 @@
-//! The numbers that document 01 fixes for cards and calls.
+//! The numbers that documents 01 and 02 fix for cards and calls.
 
 /// Bytes in a block.
 pub const BLOCK: usize = 512;
@@ -23,7 +23,13 @@ pub const BETA: usize = 16;
 pub const NEXT: usize = 20;
 pub const NAME: usize = 24;
 pub const NAME_END: usize = NAME + NAME_SIZE;
+pub const REVISION: usize = NAME_END;
+/// From here up to Phi all bytes are zero.
+pub const REVISION_END: usize = REVISION + NUMBER;
 pub const PHI: usize = 64;
+
+/// Some numbers that are no revision.
+pub const NO_REVISIONS: [u32; 5] = [2, 256, 65_536, 1 << 24, u32::MAX];
 
 /// The byte of a descriptor block at which entry i of Phi stands.
 pub const fn phi_byte(i: u64) -> usize {
@@ -36,4 +42,4 @@ pub const fn entry_byte(j: u64) -> usize {
 }
 
 /// The numbers of the answers to calls.
-pub const ANSWERS: [u64; 15] = [0, 1, 2, 3, 4, 5, 6, 7, 8, 9, 10, 11, 12, 13, 14];
+pub const ANSWERS: [u64; 16] = [0, 1, 2, 3, 4, 5, 6, 7, 8, 9, 10, 11, 12, 13, 14, 17];

@@ -65,7 +65,9 @@ fn card_in_use(rng: &mut Rng) -> Vec<u8> {
     let cost = store::opening_cost(layout, volume);
     let blocks = rng.between(2 * cost, 2 * cost + 12);
     let mut card = noise(rng, blocks as usize * BLOCK);
-    assert_eq!(store::ream(&mut card, layout, volume, b"fs"), ACCEPTED);
+    let revision = rng.below(2);
+    let reamed = store::ream(&mut card, layout, volume, revision, b"fs");
+    assert_eq!(reamed, ACCEPTED);
     for k in 0..rng.below(16) {
         let before = card.clone();
         if rng.once_in(4) {

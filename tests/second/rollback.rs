@@ -1,10 +1,11 @@
 //! Rollback and the forgotten calls, on the own store: for each accepted revert of a random
 //! list of calls the shorter list is run from the same start, and the two runs are compared
 //! right after it and after each later call. Beside the run stand the ledger and the count
-//! of blocks, so that agreement of two runs alone is not enough.
+//! of blocks, so that agreement of two runs alone is not enough. Cards are of both revisions,
+//! and some lists start from a card in use.
 
 use crate::call::{carry_out, Call, Said, KINDS};
-use crate::counts::Counts;
+use crate::counts::{Counts, Reverts};
 use crate::ledger::{Ledger, Word};
 use crate::numbers::*;
 use crate::rng::Rng;
@@ -19,7 +20,7 @@ const MANY_SNAPS: u64 = 4_000;
 #[derive(Default)]
 struct Summary {
     answers: Counts,
-    reverts: u64,
+    reverts: Reverts,
     compared: u64,
 }
 
@@ -32,10 +33,7 @@ pub fn run(seed: u64, count: u64) -> Count {
         sum.case(&format!("seed {this}"), Run::new(this).go(&mut summary));
     }
     summary.answers.print("call", &KINDS, &ANSWERS);
-    println!(
-        "{} accepted reverts, {} cards compared",
-        summary.reverts, summary.compared
-    );
+    summary.reverts.print(summary.compared);
     sum
 }
 
@@ -44,20 +42,27 @@ struct Run {
     rng: Rng,
     layout: u64,
     volume: u64,
+    revision: u64,
     blocks: u64,
-    /// How many calls the list has.
+    /// How many calls are made.
     length: u64,
+    /// How many of them are made before the list starts.
+    early: u64,
     snap_weight: u64,
     pool: Vec<Vec<u8>>,
     hot: Vec<u64>,
-    /// The card as the accepted ream left it.
+    /// The card that the list starts from: as the accepted ream left it, or in use.
     start: Vec<u8>,
+    /// The visits of that card.
+    found: Vec<Vec<u8>>,
     card: Vec<u8>,
     ledger: Ledger,
     room: Room,
     calls: Vec<Call>,
     /// Accepted snaps: the name and the place in the list.
     snaps: Vec<(Vec<u8>, usize)>,
+    /// Accepted reverts: the name and the place of the visit's snap, if the list has it.
+    reverts: Vec<(Vec<u8>, Option<usize>)>,
     /// The cards of the shorter lists, one for each accepted revert.
     shorter: Vec<Vec<u8>>,
     full: bool,
@@ -87,11 +92,16 @@ impl Run {
             _ => rng.between(1, 700),
         };
         let volume = volume.min(most);
+        let revision = rng.below(2);
         let length = match rng.below(4) {
             _ if many_snaps => rng.between(340, 420),
             _ if wide => rng.between(10, 40),
             0 => rng.between(5, 60),
             _ => rng.between(60, 240),
+        };
+        let early = match rng.below(4) {
+            0 => rng.below(length),
+            _ => 0,
         };
         let names = if many_snaps { 500 } else { rng.between(2, 30) };
         let pool: Vec<Vec<u8>> = (0..names).map(|k| format!("v{k}").into_bytes()).collect();
@@ -100,12 +110,14 @@ impl Run {
             let near = *rng.pick(&[8, 130, MOST_VOLUME]);
             hot.push(rng.below(volume.min(near)));
         }
-        let start = started(&mut rng, layout, volume, blocks);
+        let card = started(&mut rng, layout, volume, revision, blocks);
         Run {
             layout,
             volume,
+            revision,
             blocks,
             length,
+            early,
             snap_weight: if many_snaps {
                 MANY_SNAPS
             } else {
@@ -113,12 +125,14 @@ impl Run {
             },
             pool,
             hot,
-            card: start.clone(),
-            start,
-            ledger: Ledger::new(b"fs", volume),
-            room: Room::new(layout, volume, blocks),
+            start: card.clone(),
+            found: Vec::new(),
+            card,
+            ledger: Ledger::new(b"fs", volume, revision),
+            room: Room::new(layout, volume, revision, blocks),
             calls: Vec::new(),
             snaps: Vec::new(),
+            reverts: Vec::new(),
             shorter: Vec::new(),
             full: false,
             rng,
@@ -128,11 +142,14 @@ impl Run {
     /// Runs the whole list, or says what went wrong first.
     fn go(mut self, summary: &mut Summary) -> Result<(), String> {
         for k in 0..self.length {
+            if k == self.early {
+                self.begin();
+            }
             let call = self.next_call();
             self.one(&call, summary).map_err(|reason| {
-                let size = (self.layout, self.volume, self.blocks);
+                let size = (self.layout, self.volume, self.revision, self.blocks);
                 format!(
-                    "layout, volume, blocks {size:?}, call {k}, {}: {reason}",
+                    "layout, volume, revision, blocks {size:?}, call {k}, {}: {reason}",
                     short(&call)
                 )
             })?;
@@ -143,6 +160,17 @@ impl Run {
             return Err(format!("check at the end: {end:?}"));
         }
         Ok(())
+    }
+
+    /// Has the list start from the card as it is.
+    fn begin(&mut self) {
+        self.start = self.card.clone();
+        self.found = self.ledger.names();
+        self.found.pop();
+        self.calls.clear();
+        self.snaps.clear();
+        self.reverts.clear();
+        self.shorter.clear();
     }
 
     /// Carries out one call on all cards and compares.
@@ -175,21 +203,43 @@ impl Run {
         }
         match call {
             Call::Snap { name } if accepted => self.snaps.push((name.clone(), self.calls.len())),
-            Call::Revert { name } if accepted => {
-                let visit = self.snaps.iter().rposition(|pair| pair.0 == *name);
-                let visit = visit.ok_or("no accepted snap of that name".to_string())?;
-                let mut card = self.start.clone();
-                for earlier in &self.calls[..self.snaps[visit].1] {
-                    carry_out(&mut card, earlier);
-                }
-                same_below_beta(&self.card, &card)
-                    .map_err(|reason| format!("right after the revert: {reason}"))?;
-                self.shorter.push(card);
-                summary.reverts += 1;
-                summary.compared += 1;
-            }
+            Call::Revert { name } if accepted => self.reverted(call, name, summary)?,
             _ => {}
         }
+        Ok(())
+    }
+
+    /// Starts the shorter list of an accepted revert on a card of its own. The forgotten calls
+    /// begin with the visit's snap on revision 0 and after it on revision 1. They are all calls
+    /// before the revert, which itself stays, where the visit is one of the starting card.
+    fn reverted(&mut self, call: &Call, name: &[u8], summary: &mut Summary) -> Result<(), String> {
+        let mut card = self.start.clone();
+        let snap = self.snaps.iter().rfind(|pair| pair.0 == name);
+        let snap = snap.map(|pair| pair.1);
+        match snap {
+            Some(snap) => {
+                let end = if self.revision == 1 { snap + 1 } else { snap };
+                for earlier in &self.calls[..end] {
+                    carry_out(&mut card, earlier);
+                }
+            }
+            None if self.found.iter().any(|visit| visit == name) => {
+                let other = carry_out(&mut card, call).answer;
+                if other != store::ACCEPTED {
+                    return Err(format!("{other:?} on the starting card"));
+                }
+            }
+            None => return Err("no accepted snap of that name".to_string()),
+        }
+        same_below_beta(&self.card, &card)
+            .map_err(|reason| format!("right after the revert: {reason}"))?;
+        let visit = (name.to_vec(), snap);
+        let again = self.reverts.contains(&visit);
+        let revision = self.revision as usize;
+        summary.reverts.add(revision, again, snap.is_none());
+        summary.compared += 1;
+        self.reverts.push(visit);
+        self.shorter.push(card);
         Ok(())
     }
 
@@ -276,9 +326,11 @@ impl Run {
     /// A random call, most often one that is accepted.
     fn next_call(&mut self) -> Call {
         let snapshots = self.ledger.names().len() - 1;
-        if self.full && snapshots > 0 && self.rng.once_in(3) {
+        // On revision 1 all snapshots may stay.
+        let most = self.revision == 1 && snapshots == MOST_SNAPSHOTS;
+        if self.full && snapshots > 0 && self.rng.once_in(3) || most && self.rng.once_in(20) {
             return Call::Revert {
-                name: self.old_name(),
+                name: self.name_to_revert(),
             };
         }
         let snap = self.snap_weight;
@@ -307,10 +359,10 @@ impl Run {
             800..=839 => Call::Check,
             840..=859 => self.bad_ream(),
             860..=869 => Call::Revert {
-                name: self.old_name(),
+                name: self.name_to_revert(),
             },
             870..=899 if snap < MANY_SNAPS => Call::Revert {
-                name: self.old_name(),
+                name: self.name_to_revert(),
             },
             _ => Call::Snap {
                 name: self.fresh_name(),
@@ -374,30 +426,46 @@ impl Run {
         lent
     }
 
+    /// A ream that is refused, for one reason or for two.
     fn bad_ream(&mut self) -> Call {
-        let (layout, volume, name) = (self.layout, self.volume, b"x".to_vec());
+        let (mut layout, mut volume) = (self.layout, self.volume);
+        let mut revision = self.rng.below(2);
+        let mut name = b"x".to_vec();
         let too_wide = TABLE_ENTRIES * self.blocks;
+        match self.rng.below(5) {
+            0 => layout = *self.rng.pick(&[0, 3, 258, 1 << 32]),
+            1 => volume = *self.rng.pick(&[0, MOST_VOLUME + 1, 1 << 40]),
+            2 if too_wide <= MOST_VOLUME => (layout, volume) = (1, too_wide),
+            3 => revision = self.bad_revision(),
+            _ => name = b"X".to_vec(),
+        }
+        match self.rng.below(8) {
+            0 => volume = 0,
+            1 => revision = self.bad_revision(),
+            2 => name = b"X".to_vec(),
+            _ => {}
+        }
+        Call::Ream {
+            layout,
+            volume,
+            revision,
+            name,
+        }
+    }
+
+    fn bad_revision(&mut self) -> u64 {
         match self.rng.below(4) {
-            0 => Call::Ream {
-                layout: *self.rng.pick(&[0, 3, 258, 1 << 32]),
-                volume,
-                name,
-            },
-            1 => Call::Ream {
-                layout,
-                volume: *self.rng.pick(&[0, MOST_VOLUME + 1, 1 << 40]),
-                name,
-            },
-            2 if too_wide <= MOST_VOLUME => Call::Ream {
-                layout: 1,
-                volume: too_wide,
-                name,
-            },
-            _ => Call::Ream {
-                layout,
-                volume,
-                name: b"X".to_vec(),
-            },
+            0 => (1 << 32) + self.rng.below(2),
+            _ => u64::from(*self.rng.pick(&NO_REVISIONS)),
+        }
+    }
+
+    /// The name of a revert: mostly a snapshot's, and on revision 1 often that of the last one.
+    fn name_to_revert(&mut self) -> Vec<u8> {
+        let last = self.reverts.last().map(|visit| visit.0.clone());
+        match last {
+            Some(name) if self.revision == 1 && self.rng.once_in(3) => name,
+            _ => self.old_name(),
         }
     }
 
@@ -448,7 +516,7 @@ impl Run {
 }
 
 /// A card as an accepted ream leaves it, whatever the other blocks hold.
-fn started(rng: &mut Rng, layout: u64, volume: u64, blocks: u64) -> Vec<u8> {
+fn started(rng: &mut Rng, layout: u64, volume: u64, revision: u64, blocks: u64) -> Vec<u8> {
     let length = blocks as usize * BLOCK;
     let mut card = match rng.below(4) {
         0 => vec![0; length],
@@ -457,7 +525,7 @@ fn started(rng: &mut Rng, layout: u64, volume: u64, blocks: u64) -> Vec<u8> {
         _ => {
             // A card that was in use before.
             let mut card = vec![0; length];
-            store::ream(&mut card, 2, 300, b"old");
+            store::ream(&mut card, 2, 300, rng.below(2), b"old");
             for k in 0..blocks {
                 let logical = Logical(rng.below(300));
                 store::write(&mut card, logical, &[k as u8; BLOCK]);
@@ -468,7 +536,7 @@ fn started(rng: &mut Rng, layout: u64, volume: u64, blocks: u64) -> Vec<u8> {
             card
         }
     };
-    store::ream(&mut card, layout, volume, b"fs");
+    store::ream(&mut card, layout, volume, revision, b"fs");
     card
 }
 
@@ -477,6 +545,7 @@ fn refused_ream(call: &Call) -> u64 {
     match call {
         Call::Ream { layout, .. } if *layout == 0 || *layout > 2 => 2,
         Call::Ream { volume, .. } if *volume == 0 || *volume > MOST_VOLUME => 3,
+        Call::Ream { revision, .. } if *revision > 1 => 17,
         Call::Ream { name, .. } if name != b"x" => 4,
         _ => 5,
     }

@@ -18,6 +18,8 @@ pub struct Room {
     layout: u64,
     cost: u64,
     blocks: u64,
+    /// Whether a region gone back to stays as it is, as on revision 1.
+    stays: bool,
     regions: Vec<Region>,
 }
 
@@ -32,7 +34,7 @@ fn opened(alpha: u64, cost: u64) -> Region {
 
 impl Room {
     /// The count right after a format.
-    pub fn new(layout: u64, volume: u64, blocks: u64) -> Room {
+    pub fn new(layout: u64, volume: u64, revision: u64, blocks: u64) -> Room {
         let cost = if layout == 1 {
             1 + volume / TABLE_ENTRIES + u64::from(volume % TABLE_ENTRIES > 0)
         } else {
@@ -42,6 +44,7 @@ impl Room {
             layout,
             cost,
             blocks,
+            stays: revision == 1,
             regions: vec![opened(0, cost)],
         }
     }
@@ -82,9 +85,12 @@ impl Room {
         self.regions.push(opened(self.last().beta, self.cost));
     }
 
-    /// Makes the k-th region the last one again.
+    /// Makes the k-th region the last one again, or opens one right after it.
     pub fn go_back(&mut self, k: usize) {
         self.regions.truncate(k + 1);
+        if self.stays {
+            self.take_snap();
+        }
     }
 
     /// Alpha, beta and next of each region.

@@ -9,6 +9,8 @@ pub const MOST_LINE: usize = 127;
 pub const DESK_BLOCKS: usize = 64;
 /// The greatest number on a line, but for blocks and fill.
 const MOST_NUMBER: u64 = 65_535;
+/// The revision of all cards of the desk.
+const REVISION: u64 = 0;
 /// The answer to a line that is not of the form, and to a sheet that is too long.
 pub const ILL_FORMED: u64 = 15;
 
@@ -153,7 +155,7 @@ impl Desk {
         {
             let blocks = *blocks as usize;
             let card = &mut self.area[..blocks * BLOCK];
-            let answer = store::ream(card, *layout, *volume, name);
+            let answer = store::ream(card, *layout, *volume, REVISION, name);
             if answer == store::ACCEPTED {
                 self.blocks = blocks;
             }

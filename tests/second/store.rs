@@ -1,4 +1,5 @@
-//! The card store of document 01 on an area of bytes of any length and content.
+//! The card store of document 01, with document 02's revisions, on an area of bytes of any
+//! length and content.
 //! Each call is written as its ladder of refusals, top to bottom, and then what it does.
 //! Numbers are u64 and physical unless they are `Logical`.
 
@@ -56,6 +57,7 @@ struct Descriptor {
     beta: u64,
     next: u64,
     name: Name,
+    revision: u64,
 }
 
 fn refusal(number: u64, place: u64) -> Answer {
@@ -181,6 +183,7 @@ fn descriptor_at(card: &[u8], block: u64) -> Descriptor {
         beta: number_at(bytes, BETA),
         next: number_at(bytes, NEXT),
         name,
+        revision: number_at(bytes, REVISION),
     }
 }
 
@@ -195,10 +198,12 @@ fn is_sound(card: &[u8], blocks: u64, block: u64, earlier: &[Descriptor]) -> boo
         && (this.layout == 1 || this.layout == 2)
         && (this.volume >= 1 && this.volume <= MOST_VOLUME)
         && is_stored_name(&this.name)
-        && zero(&bytes[NAME_END..PHI])
+        && (this.revision == 0 || this.revision == 1)
+        && zero(&bytes[REVISION_END..PHI])
         && (this.layout == 2 || zero(&bytes[PHI..]))
         && this.layout == first.layout
         && this.volume == first.volume
+        && this.revision == first.revision
         && this.alpha == block
         && this.alpha + this.opening() <= this.beta
         && this.beta <= blocks
@@ -326,17 +331,26 @@ fn answered(result: Result<(), Answer>) -> Answer {
 }
 
 /// Formats the whole area.
-pub fn ream(card: &mut [u8], layout: u64, volume: u64, name: &[u8]) -> Answer {
-    answered(try_ream(card, layout, volume, name))
+pub fn ream(card: &mut [u8], layout: u64, volume: u64, revision: u64, name: &[u8]) -> Answer {
+    answered(try_ream(card, layout, volume, revision, name))
 }
 
-fn try_ream(card: &mut [u8], layout: u64, volume: u64, name: &[u8]) -> Result<(), Answer> {
+fn try_ream(
+    card: &mut [u8],
+    layout: u64,
+    volume: u64,
+    revision: u64,
+    name: &[u8],
+) -> Result<(), Answer> {
     let blocks = blocks_of(card)?;
     if layout != 1 && layout != 2 {
         return Err(refusal(2, 0));
     }
     if volume < 1 || volume > MOST_VOLUME {
         return Err(refusal(3, 0));
+    }
+    if revision != 0 && revision != 1 {
+        return Err(refusal(17, 0));
     }
     let name = name_given(name)?;
     let cost = opening_cost(layout, volume);
@@ -352,6 +366,7 @@ fn try_ream(card: &mut [u8], layout: u64, volume: u64, name: &[u8]) -> Result<()
     store_number(&mut first, BETA, cost);
     store_number(&mut first, NEXT, 0);
     first[NAME..NAME_END].copy_from_slice(&name);
+    store_number(&mut first, REVISION, revision);
     store_block(card, 0, &first);
     for table in 1..cost {
         store_block(card, table, &[0; BLOCK]);
@@ -427,6 +442,21 @@ fn try_write(card: &mut [u8], logical: Logical, lent: &[u8]) -> Result<(), Answe
     Ok(())
 }
 
+/// Opens a region at the beta of a descriptor: a copy of its block and of its layout 1 tables,
+/// with alpha, beta and next of its own, under the name.
+fn open_region(card: &mut [u8], from: &Descriptor, name: &Name) {
+    let cost = from.opening();
+    for k in 0..cost {
+        let copy = block_at(card, from.alpha + k).to_vec();
+        store_block(card, from.beta + k, &copy);
+    }
+    let new = start(from.beta);
+    store_number(card, new + ALPHA, from.beta);
+    store_number(card, new + BETA, from.beta + cost);
+    store_number(card, new + NEXT, 0);
+    card[new + NAME..new + NAME_END].copy_from_slice(name);
+}
+
 /// Freezes the active store under a name and opens a new region after it.
 pub fn snap(card: &mut [u8], name: &[u8]) -> Answer {
     answered(try_snap(card, name))
@@ -446,25 +476,19 @@ fn try_snap(card: &mut [u8], name: &[u8]) -> Result<(), Answer> {
         return Err(refusal(13, 0));
     }
     let active = opened.active();
-    let cost = active.opening();
-    if active.beta + cost > opened.blocks {
+    if active.beta + active.opening() > opened.blocks {
         return Err(refusal(11, 0));
     }
 
-    for k in 0..cost {
-        let copy = block_at(card, active.alpha + k).to_vec();
-        store_block(card, active.beta + k, &copy);
-    }
-    let new = start(active.beta);
-    store_number(card, new + ALPHA, active.beta);
-    store_number(card, new + BETA, active.beta + cost);
+    open_region(card, &active, &active.name);
     let old = start(active.alpha);
     store_number(card, old + NEXT, active.beta);
     card[old + NAME..old + NAME_END].copy_from_slice(&name);
     Ok(())
 }
 
-/// Makes a snapshot the active store again.
+/// Makes a snapshot the active store again. On revision 0 it is the active one from then on; on
+/// revision 1 it stays, and a new region is opened from it.
 pub fn revert(card: &mut [u8], name: &[u8]) -> Answer {
     answered(try_revert(card, name))
 }
@@ -472,10 +496,16 @@ pub fn revert(card: &mut [u8], name: &[u8]) -> Answer {
 fn try_revert(card: &mut [u8], name: &[u8]) -> Result<(), Answer> {
     let opened = open(card, Some(name), None)?;
     let snapshot = opened.snapshot(name)?;
+    let active = opened.active().name;
 
+    if snapshot.revision == 1 {
+        // The next descriptor is sound and stands at the snapshot's beta: there is room.
+        open_region(card, &snapshot, &active);
+        return Ok(());
+    }
     let old = start(snapshot.alpha);
     store_number(card, old + NEXT, 0);
-    card[old + NAME..old + NAME_END].copy_from_slice(&opened.active().name);
+    card[old + NAME..old + NAME_END].copy_from_slice(&active);
     Ok(())
 }
 

@@ -12,7 +12,8 @@ pub const OPS: [&str; 8] = [
 pub const OTHER: usize = 7;
 
 /// For each op the numbers that can arise on a sheet. A card made by accepted calls alone
-/// passes check, so there is no 10; 64 blocks hold no 256 descriptors, so no 13 and no 14.
+/// passes check, so there is no 10; 64 blocks hold no 256 descriptors, so no 13 and no 14; the
+/// desk's revision is 0, so no 17.
 const CAN_ARISE: [&[u64]; 8] = [
     &[0, 1, 2, 3, 4, 5, ILL_FORMED],
     &[0, 4, 6, 7, 8, ILL_FORMED],
@@ -48,7 +49,8 @@ impl Tally {
 
     /// Prints the table, then what can arise and did not.
     pub fn print(&self) {
-        let numbers = [&ANSWERS[..], &[ILL_FORMED]].concat();
+        let mut numbers = [&ANSWERS[..], &[ILL_FORMED]].concat();
+        numbers.sort();
         self.counts.print("op", &OPS, &numbers);
         print_missing(&self.counts.missing(&OPS, &CAN_ARISE));
     }

@@ -1,9 +1,10 @@
-//! Document 01's bench values, the areas that are refused and the order of refusals, each
-//! with the answer that the paper gives.
+//! Document 01's bench values, the areas that are refused, the order of refusals and document
+//! 02's revisions, each with the answer that the papers give.
 
+use crate::call::carry_out;
 use crate::numbers::{BETA, BLOCK};
 use crate::store::{self, Answer, Logical, Record, Target, ACCEPTED, NOTHING};
-use crate::{damage, Count};
+use crate::{cases, damage, Count};
 
 /// Counts a case whose two sides must be equal.
 pub fn same<T: PartialEq + std::fmt::Debug>(count: &mut Count, name: &str, got: T, expected: T) {
@@ -24,10 +25,15 @@ fn area(blocks: usize) -> Vec<u8> {
 }
 
 /// A card as a ream leaves it.
-pub fn reamed(layout: u64, volume: u64, blocks: usize) -> Vec<u8> {
+pub fn formatted(layout: u64, volume: u64, revision: u64, blocks: usize) -> Vec<u8> {
     let mut card = area(blocks);
-    store::ream(&mut card, layout, volume, b"fs");
+    store::ream(&mut card, layout, volume, revision, b"fs");
     card
+}
+
+/// Such a card of revision 0.
+pub fn reamed(layout: u64, volume: u64, blocks: usize) -> Vec<u8> {
+    formatted(layout, volume, 0, blocks)
 }
 
 /// A write of fill 1.
@@ -62,6 +68,7 @@ pub fn run() -> Count {
     bench(&mut count);
     areas(&mut count);
     ladders(&mut count);
+    revisions(&mut count);
     damage::run(&mut count);
     count
 }
@@ -72,14 +79,14 @@ fn bench(count: &mut Count) {
     same(
         count,
         "* layout 1, L 129, N 3",
-        store::ream(&mut card, 1, 129, b"fs"),
+        store::ream(&mut card, 1, 129, 0, b"fs"),
         ACCEPTED,
     );
     same(count, "* its beta", beta(&card), 3);
     same(
         count,
         "* L 129, N 2",
-        store::ream(&mut area(2), 1, 129, b"fs"),
+        store::ream(&mut area(2), 1, 129, 0, b"fs"),
         answer(5, 0),
     );
     same(count, "* write", write(&mut card, 0), answer(11, 0));
@@ -110,20 +117,20 @@ fn bench(count: &mut Count) {
     same(
         count,
         "* L 14,337",
-        store::ream(&mut area(2), 2, 14_337, b"fs"),
+        store::ream(&mut area(2), 2, 14_337, 0, b"fs"),
         answer(3, 0),
     );
     let (long, longest) = (&b"abcdefghijklmnopq"[..], &b"abcdefghijklmnop"[..]);
     same(
         count,
         "* name of 17",
-        store::ream(&mut area(2), 2, 9, long),
+        store::ream(&mut area(2), 2, 9, 0, long),
         answer(4, 0),
     );
     same(
         count,
         "* name of 16",
-        store::ream(&mut area(2), 2, 9, longest),
+        store::ream(&mut area(2), 2, 9, 0, longest),
         ACCEPTED,
     );
     let mut card = reamed(2, 9, 4);
@@ -193,7 +200,7 @@ fn areas(count: &mut Count) {
         let mut card = vec![0; length];
         let name = format!("area of {length} bytes");
         let one = answer(1, 0);
-        same(count, &name, store::ream(&mut card, 3, 0, b""), one);
+        same(count, &name, store::ream(&mut card, 3, 0, 2, b""), one);
         same(count, &name, store::snap(&mut card, b""), one);
         same(count, &name, store::revert(&mut card, b""), one);
         same(count, &name, store::write(&mut card, Logical(0), &[]), one);
@@ -211,7 +218,7 @@ fn areas(count: &mut Count) {
     same(
         count,
         "65,536 blocks",
-        store::ream(&mut card, 1, 14_336, b"fs"),
+        store::ream(&mut card, 1, 14_336, 0, b"fs"),
         ACCEPTED,
     );
     same(count, "its beta", beta(&card), 113);
@@ -234,13 +241,13 @@ fn areas(count: &mut Count) {
     same(
         count,
         "N 113",
-        store::ream(&mut area(113), 1, 14_336, b"fs"),
+        store::ream(&mut area(113), 1, 14_336, 0, b"fs"),
         ACCEPTED,
     );
     same(
         count,
         "N 112",
-        store::ream(&mut area(112), 1, 14_336, b"fs"),
+        store::ream(&mut area(112), 1, 14_336, 0, b"fs"),
         answer(5, 0),
     );
 }
@@ -251,19 +258,19 @@ fn ladders(count: &mut Count) {
     same(
         count,
         "2 before 3",
-        store::ream(&mut card, 0, 0, b""),
+        store::ream(&mut card, 0, 0, 0, b""),
         answer(2, 0),
     );
     same(
         count,
         "3 before 4",
-        store::ream(&mut card, 1, 0, b""),
+        store::ream(&mut card, 1, 0, 0, b""),
         answer(3, 0),
     );
     same(
         count,
         "4 before 5",
-        store::ream(&mut card, 1, 14_336, b""),
+        store::ream(&mut card, 1, 14_336, 0, b""),
         answer(4, 0),
     );
     same(count, "refused reams leave the card", card.clone(), area(2));
@@ -331,4 +338,20 @@ fn ladders(count: &mut Count) {
         store::list(&card, &mut []).0,
         answer(14, 0),
     );
+}
+
+/// The cases of revisions, on an area of zeros and on one of other bytes.
+fn revisions(count: &mut Count) {
+    for case in cases::all() {
+        for fill in [0, 0xff] {
+            let mut card = vec![fill; case.blocks * BLOCK];
+            for (k, step) in case.steps.iter().enumerate() {
+                let before = card.clone();
+                let said = carry_out(&mut card, &step.call);
+                let result = step.compare(said.answer, &said.block, &said.records, &before, &card);
+                let name = format!("{}, on bytes of {fill}, call {k}", case.name);
+                count.case(&name, result);
+            }
+        }
+    }
 }

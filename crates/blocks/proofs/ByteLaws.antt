@@ -5,12 +5,12 @@ use mathlib.Core.List.{List, _++_, append-assoc, append-nil, [], _∷_}
 use Prim.Native.Nat.{ℕ, _+_, _*_, _-_, _≤_, _<_, _/_, _%_, _^_, suc, zero}
 use native.Mathlib.Numerals.{add-one}
 use native.Mathlib.Omega.{arith}
-use native.Mathlib.Nat.{add-assoc, zero-add, add-zero, div-div-eq-div-mul, div-add-mod'}
+use native.Mathlib.Nat.{add-assoc, zero-add, suc-add, add-zero, div-div-eq-div-mul, div-add-mod'}
 use mathlib.Core.Bool.{Bool, true, false}
 use lib.Dec.{ltb}
 use borrow.Author.Tests.{ltb-true, ltb-false}
 use lib.ListN.{length, take, drop, getD, set, length-append, length-take, length-drop, List·getD-append, take-append-drop, replicate, length-replicate, getD-replicate}
-use lib.Seq.{take-length, drop-length, paste, paste-zero, paste-suc, take-at, getD-take, getD-drop, getD-append-add, ext-getD, drop-drop, take-append-add, drop-append-add, take-append-le, drop-append-le, length-take-le, take-add, drop-cons}
+use lib.Seq.{take-length, drop-length, paste, paste-zero, paste-suc, take-at, getD-take, getD-drop, getD-append-add, ext-getD, drop-drop, take-append-add, drop-append-add, take-append-le, drop-append-le, length-take-le, take-add, take-nil, drop-cons}
 use Rattle.blocks.specs.Bytes.{u32At, le32, splice, part, blockAt, storeBlock, storeUpto, blockCount}
 
 -- area after the first n elements of s were copied in from index at. Shut, so that `_` and `rw` find its arguments
@@ -54,6 +54,15 @@ length-part c at n h = simp (length-take, length-drop) (omega arith)
 
 pub part-at : (c : List ℕ) (b n i : ℕ) → i < n → getD (part c b n) i 0 ≡ getD c (b + i) 0
 part-at c b n i h = rw (getD-take, getD-drop)
+
+-- a part without its first elements
+drop-taken : (k n : ℕ) (l : List ℕ) → drop k (take (k + n) l) ≡ take n (drop k l)
+drop-taken zero n l = ap (λ (m : ℕ). take m l) (zero-add n)
+drop-taken (suc k) n [] = ap (drop (suc k)) (take-nil (suc k + n)) ∙ sym (take-nil n)
+drop-taken (suc k) n (x ∷ l) = ap (λ (m : ℕ). drop (suc k) (take m (x ∷ l))) (suc-add k n) ∙ drop-taken k n l
+
+pub drop-part : (c : List ℕ) (at k n : ℕ) → drop k (part c at (k + n)) ≡ part c (at + k) n
+drop-part c at k n = drop-taken k n (drop at c) ∙ ap (λ (l : List ℕ). take n l) (drop-drop k at c)
 
 -- a part of a part
 pub part-part : (c : List ℕ) (b n k m : ℕ) → k + m ≤ n → b + n ≤ length c → part (part c b n) k m ≡ part c (b + k) m

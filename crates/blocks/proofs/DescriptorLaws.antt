@@ -1,20 +1,22 @@
 -- Laws of a descriptor: its fields put one after the other are its bytes, one that was stored is the one that is read, and what a region opens with.
 use mathlib.Core.Path.{_≡_, refl, sym, ap, _∙_}
-use mathlib.Core.Bool.{Bool, true, false}
+use mathlib.Core.Bool.{Bool, true, false, _&&_, _||_}
 use mathlib.Core.List.{List, _++_}
-use Prim.Native.Nat.{ℕ, _+_, _*_, _≤_, _<_, _^_}
+use Prim.Native.Nat.{ℕ, _+_, _*_, _-_, _≤_, _<_, _^_}
 use native.Mathlib.Omega.{arith}
 use native.Mathlib.Nat.{add-zero}
-use lib.ListN.{length, drop, length-append, length-drop, getD}
+use lib.ListN.{length, drop, length-append, length-drop, getD, replicate}
 use lib.Seq.{take-all}
 use lib.Dec.{eqb}
-use borrow.Author.Tests.{eq-eqb}
-use Rattle.blocks.specs.Pick.{pick, same}
+use borrow.Author.Tests.{eq-eqb, ne-eqb, eqb-true, eqb-false}
+use Rattle.blocks.specs.Pick.{pick, same, allZero}
 use Rattle.blocks.specs.Bytes.{u32At, u64At, le32, splice, part, blockAt, storeBlock}
-use Rattle.blocks.specs.Descriptor.{mark, descriptorAt, headBytes, tailAt, descriptorBlock, physical, extendedOf, tableCount, cost, costOf}
+use Rattle.blocks.specs.Descriptor.{mark, descriptorAt, revisionAt, revisionOk, reservedOk, firstTail, headBytes, tailAt, descriptorBlock, physical, extendedOf, tableCount, cost, costOf}
 use Rattle.blocks.specs.declared.descriptor.Descriptor.{Descriptor}
-use Rattle.blocks.proofs.ListLaws.{same-equal}
-use Rattle.blocks.proofs.ByteLaws.{put-next, u32-part, u32-within, part-within, digits, splice-start, length-part, part-part, store-length, store-other, put-block, part-join, number-back}
+use Rattle.blocks.proofs.Tests.{and-left, and-right}
+use Rattle.blocks.proofs.BoolLaws.{no, and-false}
+use Rattle.blocks.proofs.ListLaws.{same-equal, zeroFrom, zero-four}
+use Rattle.blocks.proofs.ByteLaws.{put-next, u32-part, u32-within, part-within, digits, splice-start, length-part, part-part, store-length, store-other, put-block, part-join, number-back, zero-number}
 use Rattle.blocks.proofs.NameLaws.{name-size}
 use Rattle.blocks.specs.Name.{isName}
 
@@ -195,3 +197,99 @@ cost-least layout volume = cost-by (tableCount volume) (eqb layout 1)
 pub cost-one : (d : Descriptor) → d .layout ≡ 1 → costOf d ≡ 1 + tableCount (d .volume)
 unfolding cost
 cost-one d e = rw (eq-eqb (d .layout) 1 e)
+
+-- the revision: where it stands in bytes 40 to 63, and in bytes 40 to 511
+pub revision-part : (c : List ℕ) (p : ℕ) → u32At (part c (512 * p + 40) 24) 0 ≡ revisionAt c p
+unfolding revisionAt
+revision-part c p = u32-part c (512 * p + 40) 24 0 (omega arith) ∙ ap (λ (at : ℕ). u32At c at) (add-zero (512 * p + 40))
+
+pub revision-tail : (c : List ℕ) (p : ℕ) → u32At (tailAt c p) 0 ≡ revisionAt c p
+unfolding revisionAt
+revision-tail c p = u32-part c (512 * p + 40) 472 0 (omega arith) ∙ ap (λ (at : ℕ). u32At c at) (add-zero (512 * p + 40))
+
+-- 0 or 1
+pub revision-small : (r : ℕ) → revisionOk r ≡ true → r ≤ 1
+unfolding revisionOk
+revision-small r h = by (eqb r 0) (eqb r 1) refl refl h
+  where
+    by : (x y : Bool) → eqb r 0 ≡ x → eqb r 1 ≡ y → (x || y) ≡ true → r ≤ 1
+    by true y e f h = omega (arith, eqb-true r 0 e)
+    by false true e f h = omega (arith, eqb-true r 1 f)
+    by false false e f h = no h
+
+pub revision-large : (r : ℕ) → 1 < r → revisionOk r ≡ false
+unfolding revisionOk
+revision-large r h = rw (ne-eqb r 0 (omega arith), ne-eqb r 1 (omega arith))
+
+pub small-revision : (r : ℕ) → r ≤ 1 → revisionOk r ≡ true
+unfolding revisionOk
+small-revision r h = by (eqb r 0) refl
+  where
+    by : (x : Bool) → eqb r 0 ≡ x → (x || eqb r 1) ≡ true
+    by true e = refl
+    by false e = eq-eqb r 1 (omega (arith, eqb-false r 0 e))
+
+-- bytes 40 to 63 in order have a revision, the card's
+pub reserved-revision : (r : ℕ) (b : List ℕ) → reservedOk r b ≡ true → (revisionOk (u32At b 0) ≡ true) × (u32At b 0 ≡ r)
+unfolding reservedOk
+reserved-revision r b h =
+    let two = and-left (revisionOk (u32At b 0) && eqb (u32At b 0) r) (allZero (drop 4 b)) h in
+    (and-left (revisionOk (u32At b 0)) (eqb (u32At b 0) r) two, eqb-true (u32At b 0) r (and-right (revisionOk (u32At b 0)) (eqb (u32At b 0) r) two))
+
+-- bytes 40 to 63 by the tests of the code: the first eight as one number, and the rest
+module _ (r : ℕ) (b : List ℕ) where
+  pub reserved-large : 1 < r → false ≡ reservedOk r b
+  unfolding reservedOk
+  reserved-large h = by (eqb (u32At b 0) r) refl
+    where
+      by : (x : Bool) → eqb (u32At b 0) r ≡ x → false ≡ (revisionOk (u32At b 0) && x && allZero (drop 4 b))
+      by true e = rw (eqb-true (u32At b 0) r e, revision-large r h)
+      by false e = sym (ap (λ (z : Bool). z && allZero (drop 4 b)) (and-false (revisionOk (u32At b 0))))
+
+  module _ (small : r ≤ 1) (long : 8 ≤ length b) where
+    rest-is : allZero (drop 4 b) ≡ (eqb (u32At b 4) 0 && allZero (drop 8 b))
+    unfolding zeroFrom
+    rest-is = zero-four b 4 long
+
+    pub reserved-other : (u64At b 0 ≡ r → ⊥) → false ≡ reservedOk r b
+    unfolding reservedOk u64At
+    reserved-other n = by (eqb (u32At b 0) r) (eqb (u32At b 4) 0) refl refl
+      where
+        by : (x y : Bool) → eqb (u32At b 0) r ≡ x → eqb (u32At b 4) 0 ≡ y → false ≡ (revisionOk (u32At b 0) && x && allZero (drop 4 b))
+        by true true e f = absurd (n (omega (arith, eqb-true (u32At b 0) r e, eqb-true (u32At b 4) 0 f)))
+        by true false e f = rw (rest-is, f) (sym (and-false (revisionOk (u32At b 0) && true)))
+        by false y e f = sym (ap (λ (z : Bool). z && allZero (drop 4 b)) (and-false (revisionOk (u32At b 0))))
+
+    pub reserved-same : u64At b 0 ≡ r → (z : Bool) → z ≡ allZero (drop 8 b) → z ≡ reservedOk r b
+    unfolding reservedOk u64At
+    reserved-same e z zero =
+        let low : u32At b 0 ≡ r = omega (arith, e) in
+        let high : u32At b 4 ≡ 0 = omega (arith, e) in
+        zero ∙ sym (rw (low, small-revision r small, eq-eqb r r refl, rest-is, eq-eqb (u32At b 4) 0 high))
+
+-- what a format stores there
+pub first-tail-length : (r : ℕ) → length (firstTail r) ≡ 472
+unfolding firstTail le32
+first-tail-length r = refl
+
+pub first-tail-revision : (r : ℕ) → r ≤ 1 → u32At (firstTail r) 0 ≡ r
+unfolding firstTail le32 u32At
+first-tail-revision r h = digits r (omega arith)
+
+pub first-tail-number : (r k : ℕ) → 4 ≤ k → u32At (firstTail r) k ≡ 0
+unfolding firstTail le32
+first-tail-number r k h =
+    let j = k - 4 in
+    let e : k ≡ 4 + j = omega arith in
+    ap (u32At (firstTail r)) e
+    ∙ sym (u32-part (firstTail r) 4 (j + 4) j (omega arith))
+    ∙ u32-part (replicate 468 0) 0 (j + 4) j (omega arith)
+    ∙ zero-number 468 (0 + j)
+
+pub first-tail-zeros : (r : ℕ) → allZero (part (firstTail r) 24 448) ≡ true
+unfolding firstTail le32 allZero
+first-tail-zeros r = refl
+
+pub first-tail-reserved : (r : ℕ) → r ≤ 1 → reservedOk r (part (firstTail r) 0 24) ≡ true
+unfolding reservedOk firstTail le32 allZero
+first-tail-reserved r h = rw (u32-part (firstTail r) 0 24 0 (omega arith), first-tail-revision r h, small-revision r h, eq-eqb r r refl)

@@ -6,3 +6,4 @@ pub mod ListLaws
 pub mod NameLaws
 pub mod DescriptorLaws
 pub mod StoreLists
+pub mod RegionLaws

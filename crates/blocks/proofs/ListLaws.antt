@@ -123,7 +123,7 @@ module _ (a : List ℕ) where
   zero-end i h = rw (drop-of-length-le a h)
 
   -- eight elements at a time: their number is zero where all are
-  zero-four : (i : ℕ) → i + 4 ≤ length a → zeroFrom a i ≡ (eqb (u32At a i) 0 && zeroFrom a (i + 4))
+  pub zero-four : (i : ℕ) → i + 4 ≤ length a → zeroFrom a i ≡ (eqb (u32At a i) 0 && zeroFrom a (i + 4))
   unfolding u32At
   zero-four i h =
       let e : i + 1 + 1 ≡ i + 2 = omega arith in

@@ -144,7 +144,7 @@ pub one-stored : (p : ℕ) (b : List ℕ) (q : ℕ) → (p ≡ q → ⊥) → is
 unfolding isStored
 one-stored p b q h = rw (ne-eqb p q h)
 
-copies-outside : (c : List ℕ) (from p n q : ℕ) → (p ≤ q → q < p + n → ⊥) → isStored (copying c from p n) q ≡ false
+pub copies-outside : (c : List ℕ) (from p n q : ℕ) → (p ≤ q → q < p + n → ⊥) → isStored (copying c from p n) q ≡ false
 unfolding isStored copying
 copies-outside c from p zero q out = refl
 copies-outside c from p (suc n) q out = rw (ne-eqb p q (λ e. out (omega arith) (omega arith))) (copies-outside c (suc from) (suc p) n q (λ i l. out (omega arith) (omega arith)))
@@ -210,3 +210,9 @@ copies-cover c from p (suc n) q h l = by (eqb p q) refl (copies-cover c (suc fro
     by : (z : Bool) → eqb p q ≡ z → (suc p ≤ q → q < suc p + n → isStored (copying c (suc from) (suc p) n) q ≡ true) → (z || isStored (copying c (suc from) (suc p) n) q) ≡ true
     by true e f = refl
     by false e f = f (omega (arith, eqb-false p q e)) (omega arith)
+
+-- copies of blocks that two cards share
+pub copying-same : (s t : List ℕ) (b : ℕ) → ((p : ℕ) → p < b → blockAt s p ≡ blockAt t p) → (from p n : ℕ) → from + n ≤ b → copying s from p n ≡ copying t from p n
+unfolding copying
+copying-same s t b shared from p zero h = refl
+copying-same s t b shared from p (suc n) h = rw (shared from (omega arith), copying-same s t b shared (suc from) (suc p) n (omega arith))

@@ -1,8 +1,8 @@
 -- A descriptor: its bytes both ways, n and c, its changes, and the blocks that a format leaves.
-use mathlib.Core.Bool.{Bool, true}
+use mathlib.Core.Bool.{Bool, true, _&&_, _||_}
 use mathlib.Core.List.{List, [], _∷_, _++_}
 use Prim.Native.Nat.{ℕ, zero, suc, _+_, _*_, _-_, _/_}
-use lib.ListN.{replicate}
+use lib.ListN.{replicate, drop}
 use lib.Dec.{eqb}
 use Rattle.blocks.specs.Pick.{pick, allZero}
 use Rattle.blocks.specs.Bytes.{blockSize, zeroBlock, part, u32At, le32, blockAt, Store, store}
@@ -38,6 +38,13 @@ headSize = 40
 abbrev pub phiStart : ℕ
 phiStart = 64
 
+-- the first byte of the revision, and its bytes
+abbrev pub revisionStart : ℕ
+revisionStart = 40
+
+abbrev pub revisionSize : ℕ
+revisionSize = 4
+
 -- the bytes after those of the record; of these the bytes before Phi, and those of Phi
 abbrev pub tailSize : ℕ
 tailSize = 472
@@ -71,6 +78,13 @@ descriptorAt c p =
       name = part c (blockSize * p + nameStart) nameSize;
     }
 
+-- the revision of the descriptor in block p: bytes 40 to 43; that of a card is block 0's
+unfoldable pub revisionAt : List ℕ → ℕ → ℕ
+revisionAt c p = u32At c (blockSize * p + revisionStart)
+
+abbrev pub revisionOf : List ℕ → ℕ
+revisionOf c = revisionAt c 0
+
 -- bytes 0 to 39 of its block
 unfoldable pub headBytes : Descriptor → List ℕ
 headBytes d = mark ++ le32 (d .layout) ++ le32 (d .volume) ++ le32 (d .alpha .0) ++ le32 (d .beta .0) ++ le32 (d .next .0) ++ d .name
@@ -99,17 +113,24 @@ extendedOf d k = record { layout = d .layout; volume = d .volume; alpha = d .alp
 abbrev pub reopenedOf : Descriptor → Descriptor
 reopenedOf d = record { layout = d .layout; volume = d .volume; alpha = d .beta; beta = physical (d .beta .0 + costOf d); next = d .next; name = d .name }
 
--- bytes 40 to 63: zero
-unfoldable pub reservedOk : List ℕ → Bool
-reservedOk bytes = allZero bytes
+-- a revision: 0 or 1
+unfoldable pub revisionOk : ℕ → Bool
+revisionOk revision = eqb revision 0 || eqb revision 1
+
+-- bytes 40 to 63 of a descriptor of a card: a revision, which is the card's, then zeros
+unfoldable pub reservedOk : ℕ → List ℕ → Bool
+reservedOk revision bytes = revisionOk (u32At bytes 0) && eqb (u32At bytes 0) revision && allZero (drop revisionSize bytes)
 
 -- bytes 64 to 511: zero in layout 1; in layout 2 Phi, of which soundness asks nothing
 unfoldable pub phiOk : ℕ → List ℕ → Bool
 phiOk layout bytes = pick (eqb layout 1) (allZero bytes) true
 
--- layout, L and name as a format takes them
+-- layout, L, revision and name as a format takes them; and the same of revision 0
+abbrev pub formatOf : ℕ → ℕ → ℕ → List ℕ → Format
+formatOf layout volume revision name = record { layout = layout; volume = volume; revision = revision; name = name }
+
 abbrev pub asFormat : ℕ → ℕ → List ℕ → Format
-asFormat layout volume name = record { layout = layout; volume = volume; name = name }
+asFormat layout volume name = formatOf layout volume 0 name
 
 -- c of a format
 abbrev pub costIn : Format → ℕ
@@ -119,6 +140,10 @@ costIn format = cost (format .layout) (format .volume)
 abbrev pub firstOf : Format → Descriptor
 firstOf format =
     record { layout = format .layout; volume = format .volume; alpha = physical 0; beta = physical (costIn format); next = physical 0; name = format .name }
+
+-- bytes 40 to 511 of its block: the revision, then zeros
+unfoldable pub firstTail : ℕ → List ℕ
+firstTail revision = le32 revision ++ replicate (tailSize - revisionSize) 0
 
 -- what stands for a descriptor where there is none
 abbrev pub noDescriptor : Descriptor
@@ -134,6 +159,12 @@ unfoldable pub copying : List ℕ → ℕ → ℕ → ℕ → List Store
 copying c from p zero = []
 copying c from p (suc n) = store p (blockAt c from) ∷ copying c (suc from) (suc p) n
 
--- the stores of a format: the c - 1 table blocks after the descriptor, rising, then the first descriptor with a cleared Phi
+-- the stores that open a region at the beta of d, and those after them: copies of the table blocks of d, rising, then the descriptor of the region, which has
+-- bytes 40 to 511 of d's block
+abbrev pub reopening : List ℕ → Descriptor → List Store → List Store
+reopening c d rest =
+    copying c (d .alpha .0 + 1) (d .beta .0 + 1) (costOf d - 1) ++ (store (d .beta .0) (descriptorBlock (reopenedOf d) (tailAt c (d .alpha .0))) ∷ rest)
+
+-- the stores of a format: the c - 1 table blocks after the descriptor, rising, then the first descriptor with its revision and a cleared Phi
 unfoldable pub opening : Format → List Store
-opening format = clearing 1 (costIn format - 1) ++ (store 0 (descriptorBlock (firstOf format) (replicate tailSize 0)) ∷ [])
+opening format = clearing 1 (costIn format - 1) ++ (store 0 (descriptorBlock (firstOf format) (firstTail (format .revision))) ∷ [])

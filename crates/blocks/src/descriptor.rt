@@ -5,18 +5,20 @@ use crate::sizes::BLOCK_SIZE;
 use crate::sizes::HEAD_SIZE;
 use crate::sizes::NAME_SIZE;
 use crate::sizes::NAME_START;
+use crate::sizes::REVISION_START;
 use crate::sizes::TABLE_SIZE;
 ghost use mathlib.Core.Path.{_≡_};
 ghost use Prim.Native.Nat.{_+_, _*_, _≤_, _<_, _^_};
 ghost use lib.ListN.{length};
 ghost use Rattle.blocks.specs.Bytes.{blockSize, splice, storeBlock};
 ghost use Rattle.blocks.specs.Name.{nameSize};
-ghost use Rattle.blocks.specs.Descriptor.{headSize, tableCount, cost, costOf, renamedOf, linkedOf, extendedOf, reopenedOf, descriptorAt, headBytes, tailAt, descriptorBlock};
+ghost use Rattle.blocks.specs.Descriptor.{headSize, tableCount, cost, costOf, renamedOf, linkedOf, extendedOf, reopenedOf, descriptorAt, revisionAt, headBytes, tailAt, descriptorBlock};
 
 // What a format takes.
 pub struct Format {
     pub layout: u32,
     pub volume: u32,
+    pub revision: u32,
     pub name: [u8; NAME_SIZE],
 }
 
@@ -117,6 +119,14 @@ pub fn read_descriptor(card: &[u8], p: Physical) -> Descriptor
         next: Physical(bytes::get_u32(card, at + 20)),
         name,
     }
+}
+
+// The revision of the descriptor in block `p`.
+pub fn revision_at(card: &[u8], p: Physical) -> u32
+    requires { ⌜ blockSize * p .0 + blockSize ≤ length (now card) ⌝ }
+    ensures { λ r. ⌜ r ≡ revisionAt (now (card .entry)) (p .0) ⌝ }
+{
+    bytes::get_u32(card, BLOCK_SIZE * (p.0 as usize) + REVISION_START)
 }
 
 // Stores sixteen bytes at `at`.

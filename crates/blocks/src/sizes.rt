@@ -17,10 +17,12 @@ pub const MOST_VOLUME: u32 = 14336;
 // Bytes in a name.
 pub const NAME_SIZE: usize = 16;
 
-// Bytes of the record at the start of a descriptor block, the first byte of the name in it, and the first byte of Phi.
+// Bytes of the record at the start of a descriptor block, the first byte of the name in it, that of the revision after it, and the first byte of Phi.
 pub const HEAD_SIZE: usize = 40;
 
 pub const NAME_START: usize = 24;
+
+pub const REVISION_START: usize = 40;
 
 pub const PHI_START: usize = 64;
 

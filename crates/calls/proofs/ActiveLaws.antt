@@ -9,7 +9,7 @@ use lib.Seq.{length-take-le, getD-take}
 use borrow.Author.Tests.{not-false}
 use Rattle.blocks.specs.Bytes.{part, blockCount}
 use Rattle.blocks.specs.Name.{isName}
-use Rattle.blocks.specs.Descriptor.{costOf, noDescriptor, descriptorAt, tailAt, reservedOk, phiOk}
+use Rattle.blocks.specs.Descriptor.{costOf, noDescriptor, descriptorAt, revisionOf, tailAt, reservedOk, phiOk}
 use Rattle.chains.specs.Chain.{formOk, named, Sound, chain, activeOf, indexOf, chainSound, regionsOf}
 use Rattle.blocks.specs.declared.descriptor.Descriptor.{Descriptor}
 use Rattle.chains.proofs.NamedLaws.{index-below}
@@ -134,7 +134,7 @@ module _ (c : List ℕ) (ds : List Descriptor) (sound-c : chain c ≡ Sound ds) 
   pub active-name : isName (activeOf ds .name) ≡ true
   active-name = member-name c ds xs d [] sound-c active-last
 
-  pub active-reserved : reservedOk (part (tailAt c (activeOf ds .alpha .0)) 0 24) ≡ true
+  pub active-reserved : reservedOk (revisionOf c) (part (tailAt c (activeOf ds .alpha .0)) 0 24) ≡ true
   active-reserved = member-reserved c ds xs d [] sound-c active-last
 
   pub active-phi : phiOk (activeOf ds .layout) (part (tailAt c (activeOf ds .alpha .0)) 24 448) ≡ true

@@ -5,6 +5,7 @@ pub mod Passed
 pub mod StepLaws
 pub mod CardLaws
 pub mod ActiveLaws
+pub mod VisitLaws
 pub mod ReamLaws
 pub mod RevertLaws
 pub mod SnapLaws

@@ -8,7 +8,7 @@ use lib.ListN.{length}
 use borrow.Author.Tests.{eqb-true, ltb-false, leb-false, not-false}
 use Rattle.blocks.specs.Bytes.{blockSize, blockCount}
 use Rattle.blocks.specs.Name.{isName}
-use Rattle.blocks.specs.Descriptor.{costOf, costIn}
+use Rattle.blocks.specs.Descriptor.{costOf, revisionOk, costIn}
 use Rattle.chains.specs.Chain.{chain, chainSound, named, activeOf}
 use Rattle.entries.specs.Entry.{need}
 use Rattle.calls.specs.declared.answer.Target.{Target}
@@ -22,9 +22,10 @@ use Rattle.calls.specs.Step.{isAccepted}
 use Rattle.calls.proofs.RowLaws.{holdsOf, rows-passed}
 use Rattle.blocks.specs.declared.descriptor.Format.{Format}
 
--- a format: the name is one, and the first region fits the card
+-- a format: revision and name are such, and the first region fits the card
 pub record ReamPassed (c : List ℕ) (format : Format) : Type 0 where
   pub area : areaBad c ≡ false
+  pub revision : revisionOk (format .revision) ≡ true
   pub called : isName (format .name) ≡ true
   pub room : costIn format ≤ blockCount c
 
@@ -77,7 +78,7 @@ pub ream-passed : (c : List ℕ) (format : Format) → isAccepted (answerOf (Rea
 unfolding rowsOf admission reamRows holdsOf
 ream-passed c format e =
     let row = rows-passed (Ream format) c e in
-    record { area = row 1; called = not-false _ (row 4); room = ltb-false _ _ (row 5) }
+    record { area = row 1; revision = not-false _ (row 17); called = not-false _ (row 4); room = ltb-false _ _ (row 5) }
 
 pub read-passed : (c : List ℕ) (target : Target) (name : List ℕ) (l : ℕ) (block : List ℕ) → isAccepted (answerOf (Read target name l block) c) ≡ true → ReadPassed c target name l
 unfolding rowsOf admission readRows holdsOf

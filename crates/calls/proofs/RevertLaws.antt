@@ -1,25 +1,28 @@
 -- Laws of the revert, as the code asks them.
 use mathlib.Core.Path.{_≡_, sym, ap, _∙_}
 use mathlib.Core.Bool.{Bool, true, false, not}
-use mathlib.Core.List.{List}
-use Prim.Native.Nat.{ℕ, _-_, _<_}
+use mathlib.Core.List.{List, [], _∷_, _++_}
+use Prim.Native.Nat.{ℕ, _+_, _*_, _-_, _/_, _≤_, _<_}
 use native.Mathlib.Omega.{arith}
-use lib.ListN.{take, drop, getD}
-use lib.Dec.{ltb}
-use borrow.Author.Tests.{lt-ltb, le-ltb}
-use Rattle.blocks.specs.Bytes.{storeBlock, storeAll}
+use lib.ListN.{length, take, drop, getD}
+use lib.Dec.{eqb, ltb}
+use borrow.Author.Tests.{lt-ltb, le-ltb, eq-eqb, ne-eqb}
+use Rattle.blocks.specs.Pick.{pick}
+use Rattle.blocks.specs.Bytes.{blockCount, store, storeBlock, storeAll}
 use Rattle.blocks.specs.Name.{isName}
-use Rattle.blocks.specs.Descriptor.{physical, descriptorAt, tailAt, descriptorBlock, renamedOf, linkedOf}
-use Rattle.chains.specs.Chain.{chain, descriptors, indexOf, named, descriptorsAt, regionsOf, activeOf}
+use Rattle.blocks.specs.Descriptor.{costOf, descriptorAt, revisionOf, tailAt, descriptorBlock, reopening}
+use Rattle.chains.specs.Chain.{Sound, chain, descriptors, indexOf, named, descriptorsAt, regionsOf, activeOf}
 use Rattle.blocks.specs.declared.descriptor.Descriptor.{Descriptor}
 use Rattle.chains.specs.declared.chain.Regions.{Regions}
 use Rattle.calls.specs.Call.{Revert, answer, accepted}
 use Rattle.calls.specs.Parts.{areaBad, snapshotsOf, withName}
 use Rattle.calls.specs.Ladder.{admission, firstRow, revertRows}
-use Rattle.calls.specs.Effect.{reverting, revertStores}
+use Rattle.calls.specs.Effect.{activatedOf, reverting, revertStores}
 use Rattle.calls.specs.Meaning.{rowsOf, answerOf, storesOf}
 use Rattle.blocks.proofs.StoreLists.{stored-one}
-use Rattle.calls.proofs.CardLaws.{card-snapshots, card-snapshot-count, card-snapshot, card-alpha, card-at, card-found}
+use Rattle.calls.proofs.CardLaws.{chain-is, card-sound, card-most, card-snapshots, card-snapshot-count, card-snapshot, card-alpha, card-at, card-found}
+use Rattle.links.proofs.MemberLaws.{member-long}
+use Rattle.calls.proofs.VisitLaws.{before, behind, visit-split, visit-end}
 use Rattle.calls.proofs.RowLaws.{row-given, last-passed, Reached, reached, admitted, name-passed}
 use Rattle.calls.specs.declared.answer.Answer.{Answer}
 
@@ -66,11 +69,45 @@ module _ (c : List ℕ) (name : List ℕ) (r : Regions) (h : Reached (Revert nam
     active-is : activeOf (descriptors (chain c)) ≡ r .active
     active-is = sym (card-found c r walked good ok)
 
-    pub reverted : (d : Descriptor) → d ≡ descriptorAt c (getD (r .starts) k 0) → (c′ : List ℕ)
-        → c′ ≡ storeBlock c (getD (r .starts) k 0) (descriptorBlock (linkedOf (renamedOf d (r .active .name)) (physical 0)) (tailAt c (getD (r .starts) k 0)))
-        → c′ ≡ storeAll c (storesOf (Revert name) c)
+    -- what a region that opens at its beta asks: it has room there
+    sound-c : chain c ≡ Sound (descriptors (chain c))
+    sound-c = chain-is (chain c) (card-sound c r walked ok)
+
+    there : named (snapshotsOf (descriptors (chain c))) name ≡ true
+    there = found-is ∙ lt-ltb k (r .count - 1) inside
+
+    pub revert-room : (d : Descriptor) → d ≡ descriptorAt c (getD (r .starts) k 0) → (d .alpha .0 + costOf d ≤ d .beta .0) × (512 * (d .beta .0 + costOf d) ≤ length c) × (d .beta .0 + costOf d < 4294967296)
+    unfolding blockCount
+    revert-room d d-is =
+        let ds = descriptors (chain c) in
+        let v : Descriptor = withName (snapshotsOf ds) name in
+        let is : d ≡ v = d-is ∙ sym snapshot-is in
+        let long : v .alpha .0 + costOf v ≤ v .beta .0 = member-long c ds (before (snapshotsOf ds) name) v (behind (snapshotsOf ds) name ++ (activeOf ds ∷ [])) sound-c (visit-split c ds sound-c name there) in
+        let end : v .beta .0 + costOf v ≤ length c / 512 = visit-end c ds sound-c name there in
+        let most : length c / 512 ≤ 65536 = card-most c good in
+        rw is (long, omega (arith, end), omega (arith, end, most))
+
+    -- on revision 0 and on revision 1
+    abbrev w : Descriptor
+    w = activatedOf (descriptorAt c (getD (r .starts) k 0)) (r .active .name)
+
+    stores-are : storesOf (Revert name) c ≡ pick (eqb (revisionOf c) 1) (reopening c w []) (store (getD (r .starts) k 0) (descriptorBlock w (tailAt c (getD (r .starts) k 0))) ∷ [])
     unfolding storesOf revertStores reverting
-    reverted d d-is c′ e =
-        e
-        ∙ rw d-is
-        (sym (rw (snapshot-is, active-is, alpha-is) (stored-one c (getD (r .starts) k 0) (descriptorBlock (linkedOf (renamedOf (descriptorAt c (getD (r .starts) k 0)) (r .active .name)) (physical 0)) (tailAt c (getD (r .starts) k 0))))))
+    stores-are =
+        rw (snapshot-is, active-is)
+        (ap (λ (p : ℕ). pick (eqb (revisionOf c) 1) (reopening c w []) (store p (descriptorBlock w (tailAt c p)) ∷ [])) alpha-is)
+
+    pub reverted : (d : Descriptor) → d ≡ descriptorAt c (getD (r .starts) k 0) → (n : ℕ) → n ≡ revisionOf c → (n ≡ 1 → ⊥) → (c′ : List ℕ)
+        → c′ ≡ storeBlock c (getD (r .starts) k 0) (descriptorBlock (activatedOf d (r .active .name)) (tailAt c (getD (r .starts) k 0)))
+        → c′ ≡ storeAll c (storesOf (Revert name) c)
+    reverted d d-is n n-is other c′ e =
+        let p = getD (r .starts) k 0 in
+        let is : storesOf (Revert name) c ≡ store p (descriptorBlock w (tailAt c p)) ∷ [] = stores-are ∙ rw (ne-eqb (revisionOf c) 1 (λ f. other (n-is ∙ f))) in
+        e ∙ rw d-is (sym (stored-one c p (descriptorBlock w (tailAt c p)))) ∙ sym (ap (storeAll c) is)
+
+    pub reopened : (d : Descriptor) → d ≡ descriptorAt c (getD (r .starts) k 0) → (n : ℕ) → n ≡ revisionOf c → n ≡ 1 → (c′ : List ℕ)
+        → c′ ≡ storeAll c (reopening c (activatedOf d (r .active .name)) [])
+        → c′ ≡ storeAll c (storesOf (Revert name) c)
+    reopened d d-is n n-is one c′ e =
+        let is : storesOf (Revert name) c ≡ reopening c w [] = stores-are ∙ rw (eq-eqb (revisionOf c) 1 (sym n-is ∙ one)) in
+        e ∙ ap (λ (x : Descriptor). storeAll c (reopening c (activatedOf x (r .active .name)) [])) d-is ∙ sym (ap (storeAll c) is)

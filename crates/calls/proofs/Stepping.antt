@@ -3,7 +3,7 @@ use Prim.Native.Nat.{ℕ}
 use Rattle.blocks.specs.Pick.{same, allZero}
 use Rattle.blocks.specs.Bytes.{splice, u32At, le32, blockCount, blockAt, storeBlock, storeAll}
 use Rattle.blocks.specs.Name.{nameByte, nameLength, isName, isText, padded}
-use Rattle.blocks.specs.Descriptor.{tableCount, cost, descriptorAt, headBytes, descriptorBlock, reservedOk, phiOk, clearing, copying, opening}
+use Rattle.blocks.specs.Descriptor.{tableCount, cost, descriptorAt, revisionAt, headBytes, descriptorBlock, revisionOk, reservedOk, firstTail, phiOk, clearing, copying, opening}
 use Rattle.chains.specs.Chain.{formOk, regionOk, indexOf, named, sound, chainFrom, chain, chainSound, descriptors, chainPlace, activeOf}
 use Rattle.entries.specs.InPlace.{isDescriptor, isTable, inPlace}
 use Rattle.entries.specs.Entry.{entryAt, phiAt, tableOf, entryFound, find, tableIsNew, need, tableWith, tailWith, setInTable, setInNewTable, writing}
@@ -19,7 +19,7 @@ unfoldable pub stepping : ℕ
 unfolding step after outcomes answerOf rowsOf admission firstRow reamRows readRows writeRows snapRows revertRows listRows checkRows
     storesOf writeStores snapStores revertStores snapping reverting listed lentOf filledOf givenOf areaBad activeOf snapshotsOf targetOf isMisplaced holderOf blockFound
     entryAt phiAt tableOf entryFound find tableIsNew need tableWith tailWith setInTable setInNewTable writing isDescriptor isTable inPlace
-    formOk regionOk indexOf named sound chainFrom chain chainSound descriptors chainPlace tableCount cost descriptorAt headBytes descriptorBlock reservedOk phiOk
+    formOk regionOk indexOf named sound chainFrom chain chainSound descriptors chainPlace tableCount cost descriptorAt headBytes descriptorBlock revisionAt revisionOk reservedOk firstTail phiOk
     clearing copying opening nameByte nameLength isName isText padded splice u32At le32 blockCount blockAt storeBlock storeAll same allZero
     tableNamings tablesNamings phiNamings namings among atFault firstFault checkOne orElse checkAll checkCard isFault faultHolder
 stepping = 0

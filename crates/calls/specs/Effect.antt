@@ -1,11 +1,11 @@
 -- The stores of a write, a snap and a revert, in order and computed from the card at entry; the records of a listing; what a read and a write do once the entry is found.
-use mathlib.Core.List.{List, [], _∷_, _++_}
-use Prim.Native.Nat.{ℕ, _+_, _-_}
+use mathlib.Core.List.{List, [], _∷_}
+use Prim.Native.Nat.{ℕ, suc, _+_}
 use Rattle.blocks.specs.Pick.{pick}
-use lib.Dec.{ltb}
+use lib.Dec.{eqb, ltb}
 use Rattle.blocks.specs.Bytes.{Store, store, blockCount, storeAll}
 use Rattle.blocks.specs.Name.{noName}
-use Rattle.blocks.specs.Descriptor.{physical, costOf, tailAt, descriptorBlock, renamedOf, linkedOf, reopenedOf, copying}
+use Rattle.blocks.specs.Descriptor.{physical, revisionOf, tailAt, descriptorBlock, renamedOf, linkedOf, reopenedOf, reopening}
 use Rattle.blocks.specs.declared.descriptor.Descriptor.{Descriptor}
 use Rattle.chains.specs.Chain.{activeOf}
 use Rattle.entries.specs.Entry.{need, writing}
@@ -17,15 +17,26 @@ use Rattle.calls.specs.Parts.{descriptorsOf, snapshotsOf, withName, foun
 
 -- a snapshot of the active descriptor d: the copy at beta, tables first and rising, then the old descriptor under the visit's name, linked to the copy
 unfoldable pub snapping : List ℕ → Descriptor → List ℕ → List Store
-snapping c d name =
-    copying c (d .alpha .0 + 1) (d .beta .0 + 1) (costOf d - 1)
-    ++ (store (d .beta .0) (descriptorBlock (reopenedOf d) (tailAt c (d .alpha .0)))
-    ∷ store (d .alpha .0) (descriptorBlock (linkedOf (renamedOf d name) (d .beta)) (tailAt c (d .alpha .0)))
-    ∷ [])
+snapping c d name = reopening c d (store (d .alpha .0) (descriptorBlock (linkedOf (renamedOf d name) (d .beta)) (tailAt c (d .alpha .0))) ∷ [])
 
--- a revert to the snapshot v: its descriptor with the active name and a nil next
+-- the snapshot v with the active name and a nil next
+abbrev pub activatedOf : Descriptor → List ℕ → Descriptor
+activatedOf v activeName = linkedOf (renamedOf v activeName) (physical 0)
+
+-- a revert to the snapshot v: on revision 0 its descriptor gets the active name and a nil next; on revision 1 it stays as it is, and a region opens at its
+-- beta, as a snap opens one, under the active name
 unfoldable pub reverting : List ℕ → Descriptor → List ℕ → List Store
-reverting c v activeName = store (v .alpha .0) (descriptorBlock (linkedOf (renamedOf v activeName) (physical 0)) (tailAt c (v .alpha .0))) ∷ []
+reverting c v activeName =
+    let w = activatedOf v activeName in
+    pick (eqb (revisionOf c) 1) (reopening c w []) (store (w .alpha .0) (descriptorBlock w (tailAt c (w .alpha .0))) ∷ [])
+
+-- the active descriptor after it
+unfoldable pub returnedOf : ℕ → Descriptor → List ℕ → Descriptor
+returnedOf revision v activeName = let w = activatedOf v activeName in pick (eqb revision 1) (reopenedOf w) w
+
+-- how many of a list a rollback to its item i leaves: those before it, and on revision 1 the item too
+unfoldable pub staying : ℕ → ℕ → ℕ
+staying revision i = pick (eqb revision 1) (suc i) i
 
 -- the stores of a write, of a snap and of a revert on a card: through the active descriptor, and to the snapshot of the name
 unfoldable pub writeStores : List ℕ → ℕ → List ℕ → List Store

@@ -7,7 +7,7 @@ use lib.Dec.{eqb, ltb, leb}
 use Rattle.blocks.specs.Pick.{pick}
 use Rattle.blocks.specs.Bytes.{blockSize, blockCount}
 use Rattle.blocks.specs.Name.{isName}
-use Rattle.blocks.specs.Descriptor.{costOf, mostVolume, costIn}
+use Rattle.blocks.specs.Descriptor.{costOf, mostVolume, revisionOk, costIn}
 use Rattle.chains.specs.Chain.{chain, chainSound, chainPlace, named, activeOf}
 use Rattle.entries.specs.Entry.{need}
 use Rattle.calls.specs.declared.answer.Answer.{Answer}
@@ -58,6 +58,7 @@ unfoldable pub reamRows : List ℕ → Format → List Row
 reamRows c format =
     row (not (eqb (format .layout) 1 || eqb (format .layout) 2)) 2 0
     ∷ row (eqb (format .volume) 0 || ltb mostVolume (format .volume)) 3 0
+    ∷ row (not (revisionOk (format .revision))) 17 0
     ∷ nameRow (format .name)
     ∷ row (ltb (blockCount c) (costIn format)) 5 0
     ∷ []

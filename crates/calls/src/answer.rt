@@ -69,6 +69,11 @@ pub const TOO_MANY_SNAPSHOTS: Answer = Answer {
     place: 0,
 };
 
+pub const BAD_REVISION: Answer = Answer {
+    number: 17,
+    place: 0,
+};
+
 // What a read reads: the active store, or the snapshot whose name stands beside.
 pub enum Target {
     Active,

@@ -5,7 +5,7 @@ use Prim.Native.Nat.{ℕ}
 use native.Mathlib.Omega.{arith}
 use lib.ListN.{getD}
 use Rattle.calls.specs.Step.{Done}
-use Rattle.cards.specs.Cards.{NumberBytes, DescriptorBytes, counting, said, left, writes1, writes2, snaps, reverts, stops, during, stopped, WrongCards}
+use Rattle.cards.specs.Cards.{NumberBytes, DescriptorBytes, counting, said, left, writes1, writes2, snaps, reverts, reams, reverts1, stops, during, stopped, WrongCards}
 use Rattle.blocks.specs.Bytes.{storeUpto}
 use Rattle.claims.specs.Claims.{lentAtEntry}
 use Rattle.claims.specs.OnePass.{beforePass, duringPass}
@@ -35,6 +35,14 @@ snaps-leave = refl
 pub reverts-leave : map left reverts ≡ map said reverts
 unfolding running reverts counting said left lentAtEntry
 reverts-leave = refl
+
+pub reams-leave : map left reams ≡ map said reams
+unfolding running reams counting said left lentAtEntry
+reams-leave = refl
+
+pub reverts-1-leave : map left reverts1 ≡ map said reverts1
+unfolding running reverts1 counting said left lentAtEntry
+reverts-1-leave = refl
 
 pub stops-leave : map during stops ≡ map stopped stops
 unfolding running stops counting during stopped duringPass beforePass storeUpto

@@ -1,18 +1,19 @@
--- Whole cards after a write, a snap and a revert, in both layouts, block by block as 01 says, and in a snap's pass as 02 says (W3); a stored number and a descriptor's block, byte by byte.
+-- Whole cards after a write, a snap and a revert, in both layouts, block by block as 01 says; after a format and a revert on revision 1 (02, W5), and in a snap's
+-- pass (02, W3); a stored number and a descriptor's block, byte by byte.
 -- The bytes of the data blocks count up, so that none is like its neighbours.
 use mathlib.Core.Path.{_≡_}
 use mathlib.Core.List.{List, [], _∷_, _++_}
 use Prim.Native.Nat.{ℕ, zero, suc, _+_, _-_, _%_}
 use lib.ListN.{replicate, take}
 use Rattle.blocks.specs.Bytes.{u32At, le32}
-use Rattle.blocks.specs.Descriptor.{descriptorBlock}
+use Rattle.blocks.specs.Descriptor.{descriptorBlock, formatOf}
 use Rattle.blocks.specs.declared.descriptor.Descriptor.{Descriptor}
-use Rattle.calls.specs.Call.{Call, Write, Snap, Revert, accepted}
+use Rattle.calls.specs.Call.{Call, Ream, Write, Snap, Revert, accepted}
 use Rattle.calls.specs.Step.{Done, step, done}
 use Rattle.claims.specs.Claims.{lentAtEntry}
 use Rattle.claims.specs.OnePass.{duringPass}
 use Rattle.claims.specs.Bench.{fs, mon, tue, lent}
-use Rattle.samples.specs.Samples.{descriptor, bare, withPhi, table}
+use Rattle.samples.specs.Samples.{descriptor, bare, ofRevision, withPhi, table}
 
 -- A stored number has its lowest byte first.
 unfoldable pub NumberBytes : Type 0
@@ -34,12 +35,15 @@ counting (suc n) v = v % 251 ∷ counting n (suc v)
 abbrev pub counted : ℕ → List ℕ
 counted v = counting 512 v
 
--- a table block with its first two entries, and counting bytes after them; a layout 2 descriptor's block with the same of Phi
+-- a table block with its first two entries, and counting bytes after them; a layout 2 descriptor's block with the same of Phi, of a revision and of revision 0
 abbrev pub fullTable : ℕ → ℕ → ℕ → List ℕ
 fullTable a b v = le32 a ++ le32 b ++ counting 504 v
 
+abbrev pub fullPhiOf : ℕ → Descriptor → ℕ → ℕ → ℕ → List ℕ
+fullPhiOf revision d a b v = descriptorBlock d (le32 revision ++ replicate 20 0 ++ le32 a ++ le32 b ++ counting 440 v)
+
 abbrev pub fullPhi : Descriptor → ℕ → ℕ → ℕ → List ℕ
-fullPhi d a b v = descriptorBlock d (replicate 24 0 ++ le32 a ++ le32 b ++ counting 440 v)
+fullPhi d a b v = fullPhiOf 0 d a b v
 
 -- a name of sixteen letters, each another one
 abbrev pub letters16 : List ℕ
@@ -163,6 +167,51 @@ reverts =
     (fullPhi (descriptor 2 130 0 3 3 mon) 1 0 10 ++ table 2 0 ++ counted 2 ++ fullPhi (descriptor 2 130 3 5 0 fs) 1 0 20 ++ counted 4 ++ fullPhi (descriptor 2 130 5 6 0 fs) 1 0 30 ++ lent)
     ∷ []
 
+-- bytes 0 to 19 of a descriptor's block: the mark, layout, L, whose two lower bytes are given, alpha and beta
+abbrev pub firstTwenty : ℕ → ℕ → ℕ → ℕ → ℕ → List ℕ
+firstTwenty layout low high alpha beta = 115 ∷ 110 ∷ 97 ∷ 112 ∷ layout ∷ 0 ∷ 0 ∷ 0 ∷ low ∷ high ∷ 0 ∷ 0 ∷ alpha ∷ 0 ∷ 0 ∷ 0 ∷ beta ∷ 0 ∷ 0 ∷ 0 ∷ []
+
+-- A format stores the revision in bytes 40 to 43, lowest byte first: layout 2 and layout 1, of revision 1 and of revision 0. L is 300 and 1.
+unfoldable pub reams : List Change
+reams =
+    change (counted 5 ++ counted 6)
+    (Ream (formatOf 2 300 1 fs))
+    (firstTwenty 2 44 1 0 1 ++ replicate 4 0 ++ (102 ∷ 115 ∷ []) ++ replicate 14 0 ++ (1 ∷ replicate 471 0) ++ counted 6)
+    ∷ change (counted 5 ++ counted 6)
+    (Ream (formatOf 2 300 0 fs))
+    (firstTwenty 2 44 1 0 1 ++ replicate 4 0 ++ (102 ∷ 115 ∷ []) ++ replicate 486 0 ++ counted 6)
+    ∷ change (counted 5 ++ counted 6 ++ counted 7)
+    (Ream (formatOf 1 1 1 fs))
+    (firstTwenty 1 1 0 0 2 ++ replicate 4 0 ++ (102 ∷ 115 ∷ []) ++ replicate 14 0 ++ (1 ∷ replicate 471 0) ++ replicate 512 0 ++ counted 7)
+    ∷ []
+
+-- A revert on revision 1 leaves the snapshot's descriptor as it is; at its beta stands a copy of it, in layout 1 with its tables, under the active name, with alpha,
+-- beta and a nil next of its own. The blocks after these stay.
+unfoldable pub reverts1 : List Change
+reverts1 =
+    -- layout 1: the active descriptor stands at the snapshot's beta
+    change
+    (ofRevision 1 (descriptor 1 130 0 5 5 mon) ++ counted 1 ++ counted 2 ++ counted 3 ++ counted 4 ++ ofRevision 1 (descriptor 1 130 5 9 0 letters16) ++ counted 6 ++ counted 7 ++ counted 8)
+    (Revert mon)
+    (ofRevision 1 (descriptor 1 130 0 5 5 mon) ++ counted 1 ++ counted 2 ++ counted 3 ++ counted 4 ++ ofRevision 1 (descriptor 1 130 5 8 0 letters16) ++ counted 1 ++ counted 2 ++ counted 8)
+    -- layout 1, to the first snapshot of two, and to the second
+    ∷ change
+    (ofRevision 1 (descriptor 1 130 0 4 4 mon) ++ counted 1 ++ counted 2 ++ counted 3 ++ ofRevision 1 (descriptor 1 130 4 8 8 tue) ++ counted 5 ++ counted 6 ++ counted 7 ++ ofRevision 1 (descriptor 1 130 8 12 0 fs) ++ counted 9 ++ counted 10 ++ lent)
+    (Revert mon)
+    (ofRevision 1 (descriptor 1 130 0 4 4 mon) ++ counted 1 ++ counted 2 ++ counted 3 ++ ofRevision 1 (descriptor 1 130 4 7 0 fs) ++ counted 1 ++ counted 2 ++ counted 7 ++ ofRevision 1 (descriptor 1 130 8 12 0 fs) ++ counted 9 ++ counted 10 ++ lent)
+    ∷ change
+    (ofRevision 1 (descriptor 1 130 0 4 4 mon) ++ counted 1 ++ counted 2 ++ counted 3 ++ ofRevision 1 (descriptor 1 130 4 8 8 tue) ++ counted 5 ++ counted 6 ++ counted 7 ++ ofRevision 1 (descriptor 1 130 8 12 0 fs) ++ counted 9 ++ counted 10 ++ lent)
+    (Revert tue)
+    (ofRevision 1 (descriptor 1 130 0 4 4 mon) ++ counted 1 ++ counted 2 ++ counted 3 ++ ofRevision 1 (descriptor 1 130 4 8 8 tue) ++ counted 5 ++ counted 6 ++ counted 7 ++ ofRevision 1 (descriptor 1 130 8 11 0 fs) ++ counted 5 ++ counted 6 ++ lent)
+    -- layout 2, to the first snapshot and to the second: Phi is the snapshot's
+    ∷ change (fullPhiOf 1 (descriptor 2 130 0 3 3 mon) 1 0 10 ++ table 2 0 ++ counted 2 ++ fullPhiOf 1 (descriptor 2 130 3 5 5 tue) 1 0 20 ++ counted 4 ++ fullPhiOf 1 (descriptor 2 130 5 7 0 fs) 1 0 30 ++ lent)
+    (Revert mon)
+    (fullPhiOf 1 (descriptor 2 130 0 3 3 mon) 1 0 10 ++ table 2 0 ++ counted 2 ++ fullPhiOf 1 (descriptor 2 130 3 4 0 fs) 1 0 10 ++ counted 4 ++ fullPhiOf 1 (descriptor 2 130 5 7 0 fs) 1 0 30 ++ lent)
+    ∷ change (fullPhiOf 1 (descriptor 2 130 0 3 3 mon) 1 0 10 ++ table 2 0 ++ counted 2 ++ fullPhiOf 1 (descriptor 2 130 3 5 5 tue) 1 0 20 ++ counted 4 ++ fullPhiOf 1 (descriptor 2 130 5 7 0 fs) 1 0 30 ++ lent)
+    (Revert tue)
+    (fullPhiOf 1 (descriptor 2 130 0 3 3 mon) 1 0 10 ++ table 2 0 ++ counted 2 ++ fullPhiOf 1 (descriptor 2 130 3 5 5 tue) 1 0 20 ++ counted 4 ++ fullPhiOf 1 (descriptor 2 130 5 6 0 fs) 1 0 20 ++ lent)
+    ∷ []
+
 -- a snap's pass that is stopped: the card at the snap's entry, how many bytes are stored, and the card then
 pub record Stop : Type 0 where
   pub entry : List ℕ
@@ -209,10 +258,6 @@ later2 k bytes =
 
 abbrev pub small : ℕ → List ℕ → Stop
 small k bytes = record { entry = bare (descriptor 2 300 0 1 0 fs) ++ counted 50; count = k; card = bare (descriptor 2 300 0 1 0 fs) ++ begun k bytes }
-
--- bytes 0 to 19 of a descriptor's block: the mark, layout, L, whose two lower bytes are given, alpha and beta
-abbrev pub firstTwenty : ℕ → ℕ → ℕ → ℕ → ℕ → List ℕ
-firstTwenty layout low high alpha beta = 115 ∷ 110 ∷ 97 ∷ 112 ∷ layout ∷ 0 ∷ 0 ∷ 0 ∷ low ∷ high ∷ 0 ∷ 0 ∷ alpha ∷ 0 ∷ 0 ∷ 0 ∷ beta ∷ 0 ∷ 0 ∷ 0 ∷ []
 
 -- The pass stores the bytes of the new descriptor's block rising, each in its last form; the old descriptor keeps its bytes.
 unfoldable pub stops : List Stop

@@ -12,12 +12,13 @@ use borrow.Author.Tests.{eq-eqb, ne-eqb, lt-ltb, le-leb, eqb-true, ltb-true, leb
 use Rattle.blocks.specs.Pick.{pick, same, allZero}
 use Rattle.blocks.specs.Bytes.{part, u32At, blockCount}
 use Rattle.blocks.specs.Name.{nameByte, nameLength, isName}
-use Rattle.blocks.specs.Descriptor.{mark, descriptorAt, noDescriptor, tableCount, cost, costOf, reservedOk, phiOk}
+use Rattle.blocks.specs.Descriptor.{mark, descriptorAt, noDescriptor, tableCount, cost, costOf, revisionAt, revisionOf, revisionOk, reservedOk, phiOk}
 use Rattle.blocks.specs.declared.descriptor.Descriptor.{Descriptor}
 use Rattle.blocks.proofs.Tests.{and-left, and-right}
 use Rattle.blocks.proofs.BoolLaws.{no, true-or, or-false-both}
 use Rattle.blocks.proofs.ListLaws.{same-equal, same-self}
-use Rattle.blocks.proofs.ByteLaws.{part-at}
+use Rattle.blocks.proofs.ByteLaws.{part-at, drop-part}
+use Rattle.blocks.proofs.DescriptorLaws.{revision-part}
 use Rattle.chains.specs.Chain.{formOk, regionOk, named, sound}
 use Rattle.chains.specs.Soundness.{numberAt, NameByte, NameRules, SoundRules, NameRulesClaim, SoundRulesClaim}
 use Rattle.chains.proofs.NamedLaws.{named-none, named-cons}
@@ -211,6 +212,14 @@ module _ (c : List ℕ) (earlier : List Descriptor) (p : ℕ) where
   unfolding descriptorAt
   next-is = number-is p 20
 
+  revision-is : (q : ℕ) → revisionAt c q ≡ numberAt c q 40
+  unfolding revisionAt
+  revision-is q = number-is q 40
+
+  reserved-is : reservedOk (revisionOf c) (part c (512 * p + 40) 24) ≡ ((revisionOk (revisionAt c p) && eqb (revisionAt c p) (revisionOf c)) && allZero (part c (512 * p + 44) 20))
+  unfolding reservedOk
+  reserved-is = let e : 512 * p + 40 + 4 ≡ 512 * p + 44 = omega arith in rw (revision-part c p, drop-part c (512 * p + 40) 4 20, e)
+
   name-is : d .name ≡ take 16 (drop (512 * p + 24) c)
   unfolding descriptorAt
   name-is = refl
@@ -222,7 +231,7 @@ module _ (c : List ℕ) (earlier : List Descriptor) (p : ℕ) where
     least-test : ltb 0 (d .volume) ≡ true
     most-test : leb (d .volume) 14336 ≡ true
     name-test : isName (d .name) ≡ true
-    reserved-test : reservedOk (part c (512 * p + 40) 24) ≡ true
+    reserved-test : reservedOk (revisionOf c) (part c (512 * p + 40) 24) ≡ true
     phi-test : phiOk (d .layout) (part c (512 * p + 64) 448) ≡ true
     same-layout-test : eqb (d .layout) (descriptorAt c 0 .layout) ≡ true
     same-volume-test : eqb (d .volume) (descriptorAt c 0 .volume) ≡ true
@@ -274,7 +283,7 @@ module _ (c : List ℕ) (earlier : List Descriptor) (p : ℕ) where
       }
 
   rules : Tests → length earlier < 256 → SoundRules c earlier p
-  unfolding reservedOk phiOk blockCount
+  unfolding revisionOk phiOk blockCount
   rules t few =
       let layout-eq : d .layout ≡ numberAt c p 4 = layout-is p in
       let volume-eq : d .volume ≡ numberAt c p 8 = volume-is p in
@@ -285,7 +294,9 @@ module _ (c : List ℕ) (earlier : List Descriptor) (p : ℕ) where
         volume-least = omega (arith, volume-eq, ltb-true 0 (d .volume) (t .least-test));
         volume-most = omega (arith, volume-eq, leb-true (d .volume) 14336 (t .most-test));
         name = subst NameRules name-is (name-rules (d .name) (t .name-test));
-        zeros = λ i low high. zero-from 40 24 (t .reserved-test) i low (omega arith);
+        revision = revision-by (either (eqb (revisionAt c p) 0) (eqb (revisionAt c p) 1) (kept .0 .0));
+        same-revision = sym (revision-is p) ∙ eqb-true _ _ (kept .0 .1) ∙ revision-is 0;
+        zeros = λ i low high. zero-from 44 20 (kept .1) i low (omega arith);
         zeros-layout-1 = λ e i low high. zero-from 64 448 (rw (eq-eqb (d .layout) 1 (layout-eq ∙ e)) at (t .phi-test)) i low (omega arith);
         same-layout = sym layout-eq ∙ eqb-true _ _ (t .same-layout-test) ∙ layout-is 0;
         same-volume = sym volume-eq ∙ eqb-true _ _ (t .same-volume-test) ∙ volume-is 0;
@@ -298,6 +309,13 @@ module _ (c : List ℕ) (earlier : List Descriptor) (p : ℕ) where
         among = few;
       }
     where
+      kept : ((revisionOk (revisionAt c p) ≡ true) × (eqb (revisionAt c p) (revisionOf c) ≡ true)) × (allZero (part c (512 * p + 44) 20) ≡ true)
+      kept = let h = halves (sym reserved-is ∙ t .reserved-test) in (halves (h .0), h .1)
+
+      revision-by : (eqb (revisionAt c p) 0 ≡ true) ⊎ (eqb (revisionAt c p) 1 ≡ true) → (numberAt c p 40 ≡ 0) ⊎ (numberAt c p 40 ≡ 1)
+      revision-by (inl e) = inl (sym (revision-is p) ∙ eqb-true (revisionAt c p) 0 e)
+      revision-by (inr e) = inr (sym (revision-is p) ∙ eqb-true (revisionAt c p) 1 e)
+
       layout-by : (eqb (d .layout) 1 ≡ true) ⊎ (eqb (d .layout) 2 ≡ true) → (numberAt c p 4 ≡ 1) ⊎ (numberAt c p 4 ≡ 2)
       layout-by (inl e) = inl (sym (layout-is p) ∙ eqb-true (d .layout) 1 e)
       layout-by (inr e) = inr (sym (layout-is p) ∙ eqb-true (d .layout) 2 e)
@@ -316,7 +334,7 @@ module _ (c : List ℕ) (earlier : List Descriptor) (p : ℕ) where
           inr (sym next-is ∙ eqb-true (d .next .0) (d .beta .0) f ∙ beta-is, omega (arith, beta-is, ltb-true (d .beta .0) (length c / 512) g))
 
   ruled : SoundRules c earlier p → Tests
-  unfolding reservedOk phiOk blockCount
+  unfolding revisionOk phiOk blockCount
   ruled r =
       let layout-eq : d .layout ≡ numberAt c p 4 = layout-is p in
       let volume-eq : d .volume ≡ numberAt c p 8 = volume-is p in
@@ -326,7 +344,8 @@ module _ (c : List ℕ) (earlier : List Descriptor) (p : ℕ) where
         least-test = lt-ltb 0 (d .volume) (omega (arith, volume-eq, r .volume-least));
         most-test = le-leb (d .volume) 14336 (omega (arith, volume-eq, r .volume-most));
         name-test = rules-name (d .name) (subst NameRules (sym name-is) (r .name));
-        reserved-test = zero-part c (512 * p + 40) 24 (λ i k. let e : 512 * p + 40 + i ≡ 512 * p + (40 + i) = omega arith in rw e (r .zeros (40 + i) (omega arith) (omega arith)));
+        reserved-test = reserved-is ∙ both (both (revision-by (r .revision)) (eq-eqb _ _ (revision-is p ∙ r .same-revision ∙ sym (revision-is 0))))
+            (zero-part c (512 * p + 44) 20 (λ i k. let e : 512 * p + 44 + i ≡ 512 * p + (44 + i) = omega arith in rw e (r .zeros (44 + i) (omega arith) (omega arith))));
         phi-test = phi-by (eqb (d .layout) 1) refl;
         same-layout-test = eq-eqb _ _ (layout-eq ∙ r .same-layout ∙ sym (layout-is 0));
         same-volume-test = eq-eqb _ _ (volume-eq ∙ r .same-volume ∙ sym (volume-is 0));
@@ -337,6 +356,10 @@ module _ (c : List ℕ) (earlier : List Descriptor) (p : ℕ) where
         own-name-test = rw (at-unnamed earlier (d .name) (λ k m e. r .own-name k m (e ∙ name-is)));
       }
     where
+      revision-by : (numberAt c p 40 ≡ 0) ⊎ (numberAt c p 40 ≡ 1) → (eqb (revisionAt c p) 0 || eqb (revisionAt c p) 1) ≡ true
+      revision-by (inl e) = left-or (eqb (revisionAt c p) 0) (eqb (revisionAt c p) 1) (eq-eqb (revisionAt c p) 0 (revision-is p ∙ e))
+      revision-by (inr e) = true-or (eqb (revisionAt c p) 0) (eqb (revisionAt c p) 1) (eq-eqb (revisionAt c p) 1 (revision-is p ∙ e))
+
       layout-by : (numberAt c p 4 ≡ 1) ⊎ (numberAt c p 4 ≡ 2) → (eqb (d .layout) 1 || eqb (d .layout) 2) ≡ true
       layout-by (inl e) = left-or (eqb (d .layout) 1) (eqb (d .layout) 2) (eq-eqb (d .layout) 1 (layout-is p ∙ e))
       layout-by (inr e) = true-or (eqb (d .layout) 1) (eqb (d .layout) 2) (eq-eqb (d .layout) 2 (layout-is p ∙ e))

@@ -7,7 +7,7 @@ use lib.Dec.{eqb, ltb, leb}
 use Rattle.blocks.specs.Pick.{pick, same}
 use Rattle.blocks.specs.Bytes.{blockSize, part, blockCount}
 use Rattle.blocks.specs.Name.{isName}
-use Rattle.blocks.specs.Descriptor.{physical, mark, mostVolume, phiStart, headSize, reservedSize, phiBytes, costOf, descriptorAt, reservedOk, phiOk, noDescriptor}
+use Rattle.blocks.specs.Descriptor.{physical, mark, mostVolume, phiStart, headSize, reservedSize, phiBytes, costOf, descriptorAt, revisionOf, reservedOk, phiOk, noDescriptor}
 use Rattle.blocks.specs.declared.descriptor.Descriptor.{Descriptor}
 use Rattle.chains.specs.declared.chain.Regions.{Regions}
 
@@ -19,7 +19,7 @@ mostDescriptors = 256
 abbrev pub startsSize : ℕ
 startsSize = mostDescriptors + 1
 
--- mark, layout, L, name and zero bytes are those of a descriptor
+-- mark, layout, L, name, revision and zero bytes are those of a descriptor of this card
 unfoldable pub formOk : List ℕ → ℕ → Descriptor → Bool
 formOk c p d =
     same (part c (blockSize * p) 4) mark
@@ -27,7 +27,7 @@ formOk c p d =
     && ltb 0 (d .volume)
     && leb (d .volume) mostVolume
     && isName (d .name)
-    && reservedOk (part c (blockSize * p + headSize) reservedSize)
+    && reservedOk (revisionOf c) (part c (blockSize * p + headSize) reservedSize)
     && phiOk (d .layout) (part c (blockSize * p + phiStart) phiBytes)
 
 -- layout and L equal those of block 0; alpha is its own block p; alpha + c ≤ beta ≤ N; next is 0, or equals beta with beta < N

@@ -40,8 +40,11 @@ pub record SoundRules (c : List ℕ) (earlier : List Descriptor) (p : ℕ) : Typ
   pub volume-most : numberAt c p 8 ≤ 14336
   -- "24-39: a name"
   pub name : NameRules (take 16 (drop (512 * p + 24) c))
-  -- "40-63: zero. 64-511: in layout 2 the 112 entries of Phi; in layout 1 zero"
-  pub zeros : (i : ℕ) → 40 ≤ i → i < 64 → getD c (512 * p + i) 0 ≡ 0
+  -- 02, W5: "revision 1 in bytes 40-43 of each descriptor; cards with 0 there keep the old rule", and not "with another than block 0's"
+  pub revision : (numberAt c p 40 ≡ 0) ⊎ (numberAt c p 40 ≡ 1)
+  pub same-revision : numberAt c p 40 ≡ numberAt c 0 40
+  -- "40-63: zero", of which W5 takes 40 to 43. "64-511: in layout 2 the 112 entries of Phi; in layout 1 zero"
+  pub zeros : (i : ℕ) → 44 ≤ i → i < 64 → getD c (512 * p + i) 0 ≡ 0
   pub zeros-layout-1 : numberAt c p 4 ≡ 1 → (i : ℕ) → 64 ≤ i → i < 512 → getD c (512 * p + i) 0 ≡ 0
   -- "layout and L equal those of block 0"
   pub same-layout : numberAt c p 4 ≡ numberAt c 0 4

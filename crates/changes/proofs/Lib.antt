@@ -4,6 +4,7 @@ pub mod RevertedChain
 pub mod SnappedChain
 pub mod WrittenChain
 pub mod RevertedRules
+pub mod ReopenedRules
 pub mod SnappedRules
 pub mod WrittenRules
 pub mod WriteFacts

@@ -1,4 +1,4 @@
--- What an accepted revert leaves of the entries of the descriptors that stay, on a card that passes; and that the card still passes.
+-- What an accepted revert on revision 0 leaves of the entries of the descriptors that stay, on a card that passes; and that the card still passes.
 use mathlib.Core.Path.{_≡_, refl, sym, ap, _∙_, subst}
 use mathlib.Core.Bool.{Bool, true, false}
 use mathlib.Core.List.{List, [], _∷_, _++_}
@@ -6,10 +6,10 @@ use Prim.Native.Nat.{ℕ, suc, _+_, _*_, _≤_, _<_}
 use native.Mathlib.Omega.{arith}
 use lib.ListN.{length, getD, length-append, List·getD-append}
 use lib.Seq.{getD-append-seam}
-use lib.Dec.{ltb}
+use lib.Dec.{eqb, ltb}
 use borrow.Author.Tests.{ltb-true, ltb-false}
 use Rattle.blocks.specs.Bytes.{blockAt, storeAll}
-use Rattle.blocks.specs.Descriptor.{physical, tableCount, noDescriptor, tailAt, descriptorBlock, renamedOf, linkedOf}
+use Rattle.blocks.specs.Descriptor.{physical, tableCount, noDescriptor, revisionOf, tailAt, descriptorBlock, renamedOf, linkedOf}
 use Rattle.chains.specs.Chain.{activeOf, chain, Sound}
 use Rattle.blocks.specs.declared.descriptor.Descriptor.{Descriptor}
 use Rattle.links.proofs.SoundLaws.{form-most, form-layout}
@@ -30,10 +30,11 @@ use Rattle.calls.proofs.CardLaws.{chain-is, area-kept}
 use Rattle.calls.proofs.ActiveLaws.{chain-starts, region-at}
 use Rattle.entries.proofs.RulesLaws.{rules-renamed, rules-moved, entry-renamed, moved-entry}
 use Rattle.entries.proofs.LocalLaws.{phi-shared}
-use Rattle.changes.proofs.RevertedChain.{before, behind, revert-split, stores-are, whole, fits, block, same-long, reverted-chain}
+use Rattle.calls.proofs.VisitLaws.{before, behind}
+use Rattle.changes.proofs.RevertedChain.{revert-split, stores-are, whole, fits, block, same-long, reverted-0}
 
 -- a revert
-module _ (c name : List ℕ) (pass : Passes c) (e : RevertPassed c name) where
+module _ (c name : List ℕ) (pass : Passes c) (e : RevertPassed c name) (zero : eqb (revisionOf c) 1 ≡ false) where
   abbrev ds : List Descriptor
   ds = descriptorsOf c
 
@@ -68,7 +69,7 @@ module _ (c name : List ℕ) (pass : Passes c) (e : RevertPassed c name) where
   long = same-long c name e
 
   kept : (q : ℕ) → (a ≡ q → ⊥) → blockAt t q ≡ blockAt c q
-  kept q h = stored-other (length c) c refl (whole c name e) q (rw (stores-are c name e) (one-stored a (descriptorBlock made (tailAt c a)) q h))
+  kept q h = stored-other (length c) c refl (whole c name e) q (rw (stores-are c name e zero) (one-stored a (descriptorBlock made (tailAt c a)) q h))
 
   -- blocks in place are no descriptors
   pub blocks-kept : (d : Descriptor) (q : ℕ) → inPlace ds d q ≡ true → (q ≡ 0 → ⊥) → blockAt t q ≡ blockAt c q
@@ -79,7 +80,7 @@ module _ (c name : List ℕ) (pass : Passes c) (e : RevertPassed c name) where
 
   old-phi : (i : ℕ) → i < 112 → phiAt t old i ≡ phiAt c old i
   unfolding phiAt
-  old-phi = phi-stored c t made old inside (omega (arith, long, inside)) (block c name e) (fits c name e)
+  old-phi = phi-stored c t made old inside (omega (arith, long, inside)) (block c name e zero) (fits c name e zero)
 
   -- a descriptor whose own blocks stay: its rules and its entries
   moved : (d : Descriptor) (p end : ℕ) → RegionAt c p end d → Rules c ds d → ((i : ℕ) → i < 112 → phiAt t d i ≡ phiAt c d i)
@@ -141,8 +142,8 @@ module _ (c name : List ℕ) (pass : Passes c) (e : RevertPassed c name) where
 
   reverted-rules : (k : ℕ) → k < length (descriptorsOf t) → Rules t (descriptorsOf t) (getD (descriptorsOf t) k noDescriptor)
   reverted-rules =
-      subst (λ (zs : List Descriptor). (k : ℕ) → k < length zs → Rules t zs (getD zs k noDescriptor)) (sym (descriptors-are t es (reverted-chain c name e)))
+      subst (λ (zs : List Descriptor). (k : ℕ) → k < length zs → Rules t zs (getD zs k noDescriptor)) (sym (descriptors-are t es (reverted-0 c name e zero)))
       (λ k h. rules-by k h (ltb k (length xs)) refl)
 
-  pub passes-revert : Passes t
-  passes-revert = record { area = sym (area-kept c t long) ∙ pass .area; sound = is-sound t es (reverted-chain c name e); rules = reverted-rules }
+  pub passes-revert-0 : Passes t
+  passes-revert-0 = record { area = sym (area-kept c t long) ∙ pass .area; sound = is-sound t es (reverted-0 c name e zero); rules = reverted-rules }

@@ -10,7 +10,7 @@ use lib.Seq.{append-snoc}
 use Rattle.blocks.specs.Pick.{same}
 use Rattle.blocks.specs.Bytes.{blockCount, blockAt, Store, store, storeAll}
 use Rattle.blocks.specs.Name.{isName}
-use Rattle.blocks.specs.Descriptor.{costOf, descriptorAt, tailAt, descriptorBlock, renamedOf, linkedOf, reopenedOf, copying}
+use Rattle.blocks.specs.Descriptor.{costOf, descriptorAt, revisionOf, tailAt, descriptorBlock, renamedOf, linkedOf, reopenedOf, copying, reopening}
 use Rattle.chains.specs.Chain.{named, sound, Sound, chain, activeOf}
 use Rattle.blocks.specs.declared.descriptor.Descriptor.{Descriptor}
 use Rattle.blocks.proofs.BoolLaws.{no, or-false-right, or-true}
@@ -23,10 +23,10 @@ use Rattle.calls.specs.Effect.{snapping, snapStores}
 use Rattle.calls.proofs.Passed.{SnapPassed}
 use Rattle.links.proofs.SharedLaws.{linked-chain}
 use Rattle.links.proofs.RelinkedLaws.{relinked}
-use Rattle.links.proofs.StoredLaws.{block-long, stored-descriptor, stored-form, region-ok}
-use Rattle.links.proofs.ChangedLaws.{changed-first, changed-ok}
-use Rattle.blocks.proofs.StoreLists.{Whole, none, also, whole-append, isStored, stored-join, stored-length, stored-other, stored-last, inside-copying, count-kept, none-stored, one-stored, copies-stored, pair-stored, copies-cover}
-use Rattle.calls.proofs.ActiveLaws.{active-last, active-name, active-fresh, active-next, active-form, active-long, active-rise, active-inside, active-layout, active-volume, active-reserved, active-phi}
+use Rattle.links.proofs.StoredLaws.{block-long, stored-descriptor}
+use Rattle.links.proofs.ChangedLaws.{changed-first, changed-revision, changed-ok, opened-is, opened-ok}
+use Rattle.blocks.proofs.StoreLists.{Whole, none, also, whole-append, isStored, stored-join, stored-length, stored-other, stored-append, stored-last, inside-copying, count-kept, none-stored, one-stored, copies-stored, pair-stored, copies-cover}
+use Rattle.calls.proofs.ActiveLaws.{active-last, active-name, active-fresh, active-next, active-long, active-rise, active-inside, active-layout, active-volume, active-phi}
 use Rattle.calls.proofs.CardLaws.{chain-is, card-most}
 use Rattle.changes.proofs.WholeLaws.{snap-whole}
 use lib.Dec.{eqb, ltb}
@@ -161,6 +161,15 @@ module _ (c name : List ℕ) (e : SnapPassed c name) where
       by true q = inl (ltb-true p (d .beta .0) q)
       by false q = inr (covered-by p (eqb (d .beta .0) p) refl (ltb-false p (d .beta .0) q) l)
 
+  -- but for the old descriptor's block, the card is as when the region was opened
+  pub snap-opened : (q : ℕ) → (d .alpha .0 ≡ q → ⊥) → blockAt t q ≡ blockAt (storeAll c (reopening c d [])) q
+  snap-opened q n =
+      let last : List Store = store (d .alpha .0) (descriptorBlock old tail) ∷ [] in
+      let opened = stored-length (length c) c refl (whole-append copies-whole (also (d .beta .0) (descriptorBlock new tail) new-long new-inside none)) in
+      ap (λ (x : List ℕ). blockAt x q)
+      (ap (storeAll c) (stores-are ∙ sym (append-snoc copies (store (d .beta .0) (descriptorBlock new tail)) last)) ∙ stored-append c (reopening c d []) last)
+      ∙ stored-other (length c) (storeAll c (reopening c d [])) opened (also (d .alpha .0) (descriptorBlock old tail) old-long d-inside none) q (one-stored (d .alpha .0) (descriptorBlock old tail) q n)
+
   kept : (q : ℕ) → q < d .alpha .0 → blockAt c q ≡ blockAt t q
   kept q h = sym (stored-other (length c) c refl whole q (snap-above q h))
 
@@ -189,29 +198,27 @@ module _ (c name : List ℕ) (e : SnapPassed c name) where
   old-ok : sound t xs (d .alpha .0) ≡ true
   old-ok =
       changed-ok c ds xs d [] sound-c split t same-long kept old tail old-block old-fits tail-whole refl refl refl called
-      (active-reserved c ds sound-c) (active-phi c ds sound-c) (active-long c ds sound-c) (omega (arith, room, same-count)) (inr (refl, omega (arith, room, same-count, d-least))) name-new
+      refl (active-phi c ds sound-c) (active-long c ds sound-c) (omega (arith, room, same-count)) (inr (refl, omega (arith, room, same-count, d-least))) name-new
 
   first-is : (old .layout ≡ descriptorAt t 0 .layout) × (old .volume ≡ descriptorAt t 0 .volume)
   first-is =
       changed-first c ds xs d [] sound-c split t same-long kept old tail old-block old-fits tail-whole refl refl refl called
-      (active-reserved c ds sound-c) (active-phi c ds sound-c) (active-long c ds sound-c) (omega (arith, room, same-count)) (inr (refl, omega (arith, room, same-count, d-least))) name-new
+      refl (active-phi c ds sound-c) (active-long c ds sound-c) (omega (arith, room, same-count)) (inr (refl, omega (arith, room, same-count, d-least))) name-new
 
   -- and the region after it
-  in-t : 512 * d .beta .0 + 512 ≤ length t
-  in-t = omega (arith, same-long, new-inside)
+  pub snapped-revision : revisionOf (storeAll c (snapStores c name)) ≡ revisionOf c
+  snapped-revision =
+      changed-revision c ds xs d [] sound-c split t same-long kept old tail old-block old-fits tail-whole refl refl refl called
+      refl (active-phi c ds sound-c) (active-long c ds sound-c) (omega (arith, room, same-count)) (inr (refl, omega (arith, room, same-count, d-least))) name-new
+
+  room-after : d .beta .0 + costOf d ≤ blockCount t
+  room-after = omega (arith, room, same-count)
 
   new-is : descriptorAt t (d .beta .0) ≡ new
-  new-is = stored-descriptor t (d .beta .0) in-t new tail new-block new-fits tail-whole
+  new-is = opened-is c ds xs d [] sound-c split t same-long snapped-revision first-is d refl refl refl (active-name c ds sound-c) next-nil room-after new-block new-fits
 
   new-ok : sound t (xs ++ (old ∷ [])) (d .beta .0) ≡ true
-  unfolding sound
-  new-ok =
-      rw (
-        new-is,
-        stored-form t (d .beta .0) in-t new tail new-block new-fits tail-whole d refl refl (active-name c ds sound-c) c (d .alpha .0) (active-form c ds sound-c) (active-reserved c ds sound-c) (active-phi c ds sound-c),
-        region-ok (descriptorAt t 0) (blockCount t) (d .beta .0) new (first-is .0) (first-is .1) refl (omega arith) (omega (arith, room, same-count)) (inl next-nil),
-        new-fresh,
-      )
+  new-ok = opened-ok c ds xs d [] sound-c split t same-long snapped-revision first-is d refl refl refl (active-name c ds sound-c) next-nil room-after new-block new-fits (xs ++ (old ∷ [])) new-fresh
 
   snapped-by : length xs < 255 → chain t ≡ Sound (xs ++ (old ∷ new ∷ []))
   snapped-by few =

@@ -1,28 +1,30 @@
 -- What a format, a write, a snap and a revert store: whole blocks of the card, given what their tests have shown.
 use mathlib.Core.Path.{_≡_, refl}
-use mathlib.Core.Bool.{true, false}
-use mathlib.Core.List.{List}
+use mathlib.Core.Bool.{Bool, true, false}
+use mathlib.Core.List.{List, [], _∷_, _++_}
 use Prim.Native.Nat.{ℕ, _+_, _*_, _-_, _≤_, _<_}
 use native.Mathlib.Omega.{arith}
-use lib.ListN.{length, getD, replicate, length-replicate}
-use Rattle.blocks.specs.Bytes.{blockCount}
+use lib.ListN.{length}
+use lib.Dec.{eqb}
+use Rattle.blocks.specs.Pick.{pick}
+use Rattle.blocks.specs.Bytes.{blockCount, store}
 use Rattle.blocks.specs.Name.{isName}
-use Rattle.blocks.specs.Descriptor.{physical, costOf, descriptorAt, firstOf, tailAt, descriptorBlock, renamedOf, linkedOf, reopenedOf, opening, costIn}
-use Rattle.chains.specs.Chain.{chain, chainSound, indexOf, named, regionsOf, activeOf}
+use Rattle.blocks.specs.Descriptor.{costOf, revisionOf, firstOf, firstTail, tailAt, descriptorBlock, renamedOf, linkedOf, reopenedOf, reopening, opening, costIn}
+use Rattle.chains.specs.Chain.{Sound, chain, chainSound, named, regionsOf, activeOf}
 use Rattle.blocks.specs.declared.descriptor.Descriptor.{Descriptor}
 use Rattle.chains.specs.declared.chain.Regions.{Regions}
-use Rattle.chains.proofs.NamedLaws.{index-below}
-use Rattle.links.proofs.ChainLaws.{regions-ok}
-use Rattle.blocks.proofs.DescriptorLaws.{tail-length, block-whole, cost-least}
+use Rattle.links.proofs.MemberLaws.{member-rise}
+use Rattle.blocks.proofs.DescriptorLaws.{tail-length, block-whole, cost-least, first-tail-length}
+use Rattle.blocks.proofs.RegionLaws.{reopening-whole}
 use Rattle.blocks.proofs.NameLaws.{name-size}
 use Rattle.entries.specs.Entry.{find, need, writing}
 use Rattle.entries.specs.declared.find.Found.{Found}
 use Rattle.entries.specs.declared.find.Found.the-variants.{Misplaced, Entry}
-use Rattle.entries.proofs.EntryLaws.{through-alpha}
 use Rattle.entries.proofs.PutLaws.{write-ready, entry-inside}
 use Rattle.calls.specs.Parts.{areaBad, descriptorsOf, snapshotsOf, withName, foundThrough}
-use Rattle.calls.specs.Effect.{snapping, reverting, writeStores, snapStores, revertStores}
-use Rattle.calls.proofs.CardLaws.{card-through, card-snapshot, card-snapshot-count, chain-is}
+use Rattle.calls.specs.Effect.{activatedOf, snapping, reverting, writeStores, snapStores, revertStores}
+use Rattle.calls.proofs.CardLaws.{chain-is}
+use Rattle.calls.proofs.VisitLaws.{before, behind, visit-split, visit-end}
 use Rattle.calls.proofs.Passed.{ReamPassed, WritePassed, SnapPassed, RevertPassed}
 use Rattle.blocks.proofs.StoreLists.{Whole, none, also, whole-append, inside-clearing, inside-copying}
 use Rattle.blocks.specs.declared.descriptor.Format.{Format}
@@ -35,7 +37,7 @@ module _ (c : List ℕ) (format : Format) where
   ream-inside called room =
       let least = cost-least (format .layout) (format .volume) in
       whole-append (inside-clearing (length c) 1 (costIn format - 1) (omega arith))
-      (also 0 (descriptorBlock (firstOf format) (replicate 472 0)) (block-whole (firstOf format) (replicate 472 0) (name-size (format .name) called) (length-replicate {A = ℕ} 472 0)) (omega arith) none)
+      (also 0 (descriptorBlock (firstOf format) (firstTail (format .revision))) (block-whole (firstOf format) (firstTail (format .revision)) (name-size (format .name) called) (first-tail-length (format .revision))) (omega arith) none)
 
 module _ (c : List ℕ) (area : areaBad c ≡ false) (sound : chainSound (chain c) ≡ true) where
   abbrev r : Regions
@@ -43,9 +45,6 @@ module _ (c : List ℕ) (area : areaBad c ≡ false) (sound : chainSound (chain 
 
   abbrev active : Descriptor
   active = activeOf (descriptorsOf c)
-
-  ok : r .sound ≡ true
-  ok = regions-ok (chain c) sound
 
   called-by : length (active .name) ≡ 16
   called-by = name-size (active .name) (active-name c (descriptorsOf c) (chain-is (chain c) sound))
@@ -62,15 +61,33 @@ module _ (c : List ℕ) (area : areaBad c ≡ false) (sound : chainSound (chain 
       (also (active .beta .0) _ (block-whole (reopenedOf active) (tailAt c (active .alpha .0)) called-by tail) (omega arith)
       (also (active .alpha .0) _ (block-whole (linkedOf (renamedOf active name) (active .beta)) (tailAt c (active .alpha .0)) (name-size name called) tail) active-alpha none))
 
-  revert-inside : (name : List ℕ) → named (snapshotsOf (descriptorsOf c)) name ≡ true → Whole (length c) (reverting c (withName (snapshotsOf (descriptorsOf c)) name) (active .name))
-  unfolding reverting
-  revert-inside name called =
-      let ss : List Descriptor = snapshotsOf (descriptorsOf c) in
-      let v : Descriptor = withName ss name in
-      let h : indexOf ss name < r .count - 1 = omega (arith, index-below ss name called, card-snapshot-count c r refl area ok) in
-      let is : v ≡ descriptorAt c (getD (r .starts) (indexOf ss name) 0) = card-snapshot c r refl area ok (indexOf ss name) h in
-      let inside = through-alpha c (r .starts) (r .count) v (card-through c r refl area ok (indexOf ss name) (omega arith) v is) in
-      also (v .alpha .0) _ (block-whole (linkedOf (renamedOf v (active .name)) (physical 0)) (tailAt c (v .alpha .0)) called-by (tail-length c (v .alpha .0) inside)) inside none
+  -- a revert: on either revision, its stores stand where the snapshot and the one after it do
+  module _ (name : List ℕ) (there : named (snapshotsOf (descriptorsOf c)) name ≡ true) where
+    abbrev ds : List Descriptor
+    ds = descriptorsOf c
+
+    abbrev v : Descriptor
+    v = withName (snapshotsOf ds) name
+
+    sound-c : chain c ≡ Sound ds
+    sound-c = chain-is (chain c) sound
+
+    visit-rise : v .alpha .0 < v .beta .0
+    visit-rise = member-rise c ds (before (snapshotsOf ds) name) v (behind (snapshotsOf ds) name ++ (activeOf ds ∷ [])) sound-c (visit-split c ds sound-c name there)
+
+    visit-bytes : 512 * (v .beta .0 + costOf v) ≤ length c
+    unfolding blockCount
+    visit-bytes = omega (arith, visit-end c ds sound-c name there)
+
+    inside-by : (z : Bool) → Whole (length c) (pick z (reopening c (activatedOf v (active .name)) []) (store (v .alpha .0) (descriptorBlock (activatedOf v (active .name)) (tailAt c (v .alpha .0))) ∷ []))
+    inside-by true = reopening-whole c (activatedOf v (active .name)) visit-rise visit-bytes called-by
+    inside-by false =
+        let inside : 512 * v .alpha .0 + 512 ≤ length c = omega (arith, visit-rise, visit-bytes) in
+        also (v .alpha .0) _ (block-whole (activatedOf v (active .name)) (tailAt c (v .alpha .0)) called-by (tail-length c (v .alpha .0) inside)) inside none
+
+    revert-inside : Whole (length c) (reverting c v (active .name))
+    unfolding reverting
+    revert-inside = inside-by (eqb (revisionOf c) 1)
 
   module _ (l : ℕ) (block : List ℕ) (long : length block ≡ 512) (below : l < active .volume) where
     write-by : (f : Found) → f ≡ find c (descriptorsOf c) active l → active .beta .0 + need (active .alpha .0) f ≤ blockCount c → Whole (length c) (writing c active f l block)

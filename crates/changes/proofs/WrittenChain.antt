@@ -10,7 +10,7 @@ use lib.Dec.{eqb}
 use borrow.Author.Tests.{eqb-true, eqb-false}
 use Rattle.blocks.specs.Pick.{pick}
 use Rattle.blocks.specs.Bytes.{part, blockCount, blockAt, zeroBlock, Store, store, storeAll}
-use Rattle.blocks.specs.Descriptor.{descriptorAt, tailAt, descriptorBlock, extendedOf, reservedOk, phiOk}
+use Rattle.blocks.specs.Descriptor.{descriptorAt, tailAt, descriptorBlock, extendedOf, revisionOf, phiOk}
 use Rattle.chains.specs.Chain.{sound, Sound, chain, activeOf}
 use Rattle.blocks.specs.declared.numbers.Physical.{Physical}
 use Rattle.blocks.specs.declared.descriptor.Descriptor.{Descriptor}
@@ -26,13 +26,13 @@ use Rattle.entries.proofs.SetLaws.{tail-with-length, put-reserved}
 use Rattle.calls.specs.Parts.{descriptorsOf, snapshotsOf, foundThrough, isMisplaced}
 use Rattle.calls.specs.Effect.{writeStores}
 use Rattle.calls.proofs.CardLaws.{card-most, chain-is}
-use Rattle.links.proofs.SharedLaws.{linked-chain, shared-descriptor, shared-sound}
+use Rattle.links.proofs.SharedLaws.{linked-chain, shared-descriptor, shared-revision, shared-sound}
 use Rattle.links.proofs.RelinkedLaws.{linked-head, relinked}
-use Rattle.links.proofs.ChangedLaws.{changed-last}
+use Rattle.links.proofs.ChangedLaws.{changed-last, changed-revision}
 use Rattle.blocks.proofs.StoreLists.{Whole, isStored, stored-length, stored-other, none-stored, not-stored, stored-among}
 use Rattle.entries.proofs.FoundLaws.{found-own, found-placed}
 use Rattle.calls.proofs.Passed.{WritePassed}
-use Rattle.calls.proofs.ActiveLaws.{chain-some, active-last, snapshots-few, active-layout, active-fresh, active-linked, active-next, active-inside, active-long, active-rise, active-volume, active-name, active-reserved, active-phi}
+use Rattle.calls.proofs.ActiveLaws.{chain-some, active-last, snapshots-few, active-layout, active-fresh, active-linked, active-next, active-inside, active-long, active-rise, active-volume, active-name, active-phi}
 use Rattle.changes.proofs.WholeLaws.{write-whole}
 use Rattle.links.proofs.SoundLaws.{phi-any}
 use Rattle.entries.proofs.PutLaws.{writing-above, writing-covers}
@@ -67,23 +67,29 @@ module _ (c : List ℕ) (ds : List Descriptor) (sound-c : chain c ≡ Sound ds) 
       same-at : (q : ℕ) → q ≤ d .alpha .0 → descriptorAt c q ≡ descriptorAt t q
       same-at q h = shared-descriptor c t q (omega (arith, (active-inside c ds sound-c))) (omega (arith, (active-inside c ds sound-c), long)) (upto-by q h (eqb q (d .alpha .0)) refl)
 
+      same-revision : revisionOf c ≡ revisionOf t
+      same-revision =
+          shared-revision c t 0 (omega (arith, (active-inside c ds sound-c))) (omega (arith, (active-inside c ds sound-c), long)) (upto-by 0 (omega arith) (eqb 0 (d .alpha .0)) refl)
+
       same-sound : sound c xs (d .alpha .0) ≡ sound t xs (d .alpha .0)
       same-sound =
           let first = same-at 0 (omega arith) in
-          shared-sound c t (d .alpha .0) (active-inside c ds sound-c) (omega (arith, (active-inside c ds sound-c), long)) kept-here long
+          shared-sound c t (d .alpha .0) (active-inside c ds sound-c) (omega (arith, (active-inside c ds sound-c), long)) kept-here long same-revision
           (ap (λ (x : Descriptor). x .layout) first) (ap (λ (x : Descriptor). x .volume) first) xs
 
-      pub kept-chain : chain t ≡ Sound (xs ++ (d ∷ []))
+      pub kept-chain : (chain t ≡ Sound (xs ++ (d ∷ []))) × (revisionOf t ≡ revisionOf c)
       kept-chain =
-          let head = linked-head c (active-linked c ds sound-c) d [] refl in
-          linked-chain t (xs ++ (d ∷ []))
-          (relinked c t long d [] (d ∷ []) (omega (arith, (active-inside c ds sound-c))) kept (chain-linked c ds sound-c) xs (active-last c ds sound-c)
-          (last (head .0 ∙ same-at (d .alpha .0) (omega arith)) (sym same-sound ∙ head .1) (active-next c ds sound-c)))
-          (omega (arith, length-append xs (d ∷ []), (snapshots-few c ds sound-c)))
+          let head = linked-head c (active-linked c ds sound-c) d [] refl in (
+            linked-chain t (xs ++ (d ∷ []))
+                (relinked c t long d [] (d ∷ []) (omega (arith, (active-inside c ds sound-c))) kept (chain-linked c ds sound-c) xs (active-last c ds sound-c)
+                (last (head .0 ∙ same-at (d .alpha .0) (omega arith)) (sym same-sound ∙ head .1) (active-next c ds sound-c)))
+                (omega (arith, length-append xs (d ∷ []), (snapshots-few c ds sound-c))),
+            sym same-revision,
+          )
 
     -- where its block holds it with k more blocks in its region
     module _ (k : ℕ) (room : d .beta .0 + k ≤ blockCount c) (small : blockCount c ≤ 65536) (tail : List ℕ) (is : blockAt t (d .alpha .0) ≡ descriptorBlock (extendedOf d k) tail)
-        (tail-whole : length tail ≡ 472) (reserved : reservedOk (part tail 0 24) ≡ true) (phi : phiOk (d .layout) (part tail 24 448) ≡ true) where
+        (tail-whole : length tail ≡ 472) (reserved : part tail 0 24 ≡ part (tailAt c (d .alpha .0)) 0 24) (phi : phiOk (d .layout) (part tail 24 448) ≡ true) where
       extended-fits : Fits (extendedOf d k)
       extended-fits =
           record {
@@ -99,10 +105,13 @@ module _ (c : List ℕ) (ds : List Descriptor) (sound-c : chain c ≡ Sound ds) 
       unfolding blockCount
       end = subst (λ (n : ℕ). d .beta .0 + k ≤ n / 512) long room
 
-      extended-chain : chain t ≡ Sound (xs ++ (extendedOf d k ∷ []))
-      extended-chain =
-          changed-last c ds xs d [] sound-c (active-last c ds sound-c) t long kept (extendedOf d k) tail is extended-fits tail-whole refl refl refl (active-name c ds sound-c) reserved phi
-          (omega (arith, (active-long c ds sound-c))) end (inl (active-next c ds sound-c)) (active-fresh c ds sound-c) (active-next c ds sound-c) (snapshots-few c ds sound-c)
+      extended-chain : (chain t ≡ Sound (xs ++ (extendedOf d k ∷ []))) × (revisionOf t ≡ revisionOf c)
+      extended-chain = (
+        changed-last c ds xs d [] sound-c (active-last c ds sound-c) t long kept (extendedOf d k) tail is extended-fits tail-whole refl refl refl (active-name c ds sound-c) reserved phi
+            (omega (arith, (active-long c ds sound-c))) end (inl (active-next c ds sound-c)) (active-fresh c ds sound-c) (active-next c ds sound-c) (snapshots-few c ds sound-c),
+        changed-revision c ds xs d [] sound-c (active-last c ds sound-c) t long kept (extendedOf d k) tail is extended-fits tail-whole refl refl refl (active-name c ds sound-c) reserved phi
+            (omega (arith, (active-long c ds sound-c))) end (inl (active-next c ds sound-c)) (active-fresh c ds sound-c),
+      )
 
 -- a write through an entry that was found
 module _ (c : List ℕ) (ds : List Descriptor) (sound-c : chain c ≡ Sound ds) (small : blockCount c ≤ 65536) (l : ℕ) (block : List ℕ) (m p : Physical)
@@ -122,7 +131,7 @@ module _ (c : List ℕ) (ds : List Descriptor) (sound-c : chain c ≡ Sound ds) 
       (pick n (store (active .beta .0 + 1) block ∷ setInNewTable c active (m .0) l) (store (active .beta .0) block ∷ setInTable c active (m .0) l))
 
   abbrev After : List Store → ℕ → Type 0
-  After ss k = chain (storeAll c ss) ≡ Sound (snapshotsOf ds ++ (extendedOf active k ∷ []))
+  After ss k = (chain (storeAll c ss) ≡ Sound (snapshotsOf ds ++ (extendedOf active k ∷ []))) × (revisionOf (storeAll c ss) ≡ revisionOf c)
 
   -- over a block of its own
   entry-above : taken ≡ 0 → active .alpha .0 < p .0
@@ -135,8 +144,8 @@ module _ (c : List ℕ) (ds : List Descriptor) (sound-c : chain c ≡ Sound ds) 
   over e w =
       let a = entry-above e in
       let h : (q : ℕ) → q ≤ active .alpha .0 → isStored (store (p .0) block ∷ []) q ≡ false = λ q u. not-stored (p .0) block [] q (λ v. omega (arith, a, v)) (none-stored q) in
-      kept-chain c ds sound-c (store (p .0) block ∷ []) w (λ q u. h q (omega arith)) (h (active .alpha .0) (omega arith))
-      ∙ ap (λ (x : Descriptor). Sound (snapshotsOf ds ++ (x ∷ []))) (sym (extended-none active))
+      let k = kept-chain c ds sound-c (store (p .0) block ∷ []) w (λ q u. h q (omega arith)) (h (active .alpha .0) (omega arith)) in
+      (k .0 ∙ ap (λ (x : Descriptor). Sound (snapshotsOf ds ++ (x ∷ []))) (sym (extended-none active)), k .1)
 
   -- through a table block of the active region
   table-above-by : tableIsNew (active .alpha .0) (m .0) ≡ false → (b : Bool) → eqb (active .layout) 1 ≡ b → active .alpha .0 < m .0
@@ -160,7 +169,7 @@ module _ (c : List ℕ) (ds : List Descriptor) (sound-c : chain c ≡ Sound ds) 
       (λ q u. not-stored (active .beta .0) block (store a head ∷ store (m .0) table ∷ []) q (λ v. omega (arith, rise, v)) (not-stored a head (store (m .0) table ∷ []) q (λ v. omega (arith, v)) (rest q (omega arith))))
       1 fits small tail
       (stored-among (length c) a head (store (m .0) table ∷ []) (rest a (omega arith)) c refl (store (active .beta .0) block ∷ []) w)
-      (tail-length c a (active-inside c ds sound-c)) (active-reserved c ds sound-c) (active-phi c ds sound-c)
+      (tail-length c a (active-inside c ds sound-c)) refl (active-phi c ds sound-c)
 
   -- through a new table block, which arises only in layout 2
   layout-by : tableIsNew (active .alpha .0) (m .0) ≡ true → (b : Bool) → eqb (active .layout) 1 ≡ b → b ≡ false
@@ -185,7 +194,7 @@ module _ (c : List ℕ) (ds : List Descriptor) (sound-c : chain c ≡ Sound ds) 
       2 fits small tail
       (stored-among (length c) a head [] (none-stored a) c refl (store (b + 1) block ∷ store b table ∷ []) w)
       (tail-with-length old (l / 128) b old-long number)
-      (subst (λ (x : List ℕ). reservedOk x ≡ true) (sym (put-reserved old (l / 128) b number old-long)) (active-reserved c ds sound-c))
+      (put-reserved old (l / 128) b number old-long)
       (phi-any (active .layout) (part tail 24 448) (layout-by e (eqb (active .layout) 1) refl))
 
   entry-by : (z : Bool) → eqb taken 0 ≡ z → (n : Bool) → tableIsNew (active .alpha .0) (m .0) ≡ n → (z ≡ false → taken ≡ pick n 2 1) → Whole (length c) (storesBy z n) → After (storesBy z n) taken
@@ -205,20 +214,28 @@ module _ (c : List ℕ) (ds : List Descriptor) (sound-c : chain c ≡ Sound ds) 
 -- a write through what was found
 found-chain : (c : List ℕ) (ds : List Descriptor) → chain c ≡ Sound ds → blockCount c ≤ 65536 → (l : ℕ) (block : List ℕ) (f : Found) → find c ds (activeOf ds) l ≡ f → isMisplaced f ≡ false
     → l < activeOf ds .volume → activeOf ds .beta .0 + need (activeOf ds .alpha .0) f ≤ blockCount c → Whole (length c) (writing c (activeOf ds) f l block)
-    → chain (storeAll c (writing c (activeOf ds) f l block)) ≡ Sound (snapshotsOf ds ++ (extendedOf (activeOf ds) (need (activeOf ds .alpha .0) f) ∷ []))
+    → (chain (storeAll c (writing c (activeOf ds) f l block)) ≡ Sound (snapshotsOf ds ++ (extendedOf (activeOf ds) (need (activeOf ds .alpha .0) f) ∷ []))) × (revisionOf (storeAll c (writing c (activeOf ds) f l block)) ≡ revisionOf c)
 unfolding isMisplaced
 found-chain c ds sound-c small l block (Misplaced h) is g below room w = no (sym g)
 found-chain c ds sound-c small l block (Entry m p) is g below room w = entry-chain c ds sound-c small l block m p is below room w
 
--- the chain after an accepted write
-pub written-chain : (c : List ℕ) (l : ℕ) (block : List ℕ) → WritePassed c l block
+-- the chain and the revision after an accepted write
+written : (c : List ℕ) (l : ℕ) (block : List ℕ) → WritePassed c l block
     → let d = activeOf (descriptorsOf c) in
-    chain (storeAll c (writeStores c l block)) ≡ Sound (snapshotsOf (descriptorsOf c) ++ (extendedOf d (need (d .alpha .0) (foundThrough c d l)) ∷ []))
+    (chain (storeAll c (writeStores c l block)) ≡ Sound (snapshotsOf (descriptorsOf c) ++ (extendedOf d (need (d .alpha .0) (foundThrough c d l)) ∷ []))) × (revisionOf (storeAll c (writeStores c l block)) ≡ revisionOf c)
 unfolding writeStores
-written-chain c l block e =
+written c l block e =
     let ds : List Descriptor = descriptorsOf c in
     found-chain c ds (chain-is (chain c) (e .sound)) (card-most c (e .area)) l block (foundThrough c (activeOf ds) l) refl
     (e .in-place) (e .below) (e .room) (write-whole c l block e)
+
+pub written-chain : (c : List ℕ) (l : ℕ) (block : List ℕ) → WritePassed c l block
+    → let d = activeOf (descriptorsOf c) in
+    chain (storeAll c (writeStores c l block)) ≡ Sound (snapshotsOf (descriptorsOf c) ++ (extendedOf d (need (d .alpha .0) (foundThrough c d l)) ∷ []))
+written-chain c l block e = written c l block e .0
+
+pub written-revision : (c : List ℕ) (l : ℕ) (block : List ℕ) → WritePassed c l block → revisionOf (storeAll c (writeStores c l block)) ≡ revisionOf c
+written-revision c l block e = written c l block e .1
 
 -- a write stores no block below the active alpha, and every block that it takes
 pub write-above : (c : List ℕ) (l : ℕ) (block : List ℕ) → WritePassed c l block → (p : ℕ) → p < activeOf (descriptorsOf c) .alpha .0 → isStored (writeStores c l block) p ≡ false

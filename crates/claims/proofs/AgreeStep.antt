@@ -5,10 +5,10 @@ use mathlib.Core.Bool.{Bool, true, false}
 use mathlib.Core.List.{List, [], _∷_, _++_}
 use Prim.Native.Nat.{ℕ, _<_}
 use native.Mathlib.Omega.{arith}
-use lib.ListN.{length}
+use lib.ListN.{length, take}
 use Rattle.blocks.specs.Bytes.{blockAt, Store, storeAll}
-use Rattle.blocks.specs.Descriptor.{physical, renamedOf, linkedOf, extendedOf, reopenedOf}
-use Rattle.chains.specs.Chain.{Chain, Sound, chain, chainSound, descriptors, activeOf}
+use Rattle.blocks.specs.Descriptor.{revisionOf, renamedOf, linkedOf, extendedOf, reopenedOf}
+use Rattle.chains.specs.Chain.{Chain, Sound, chain, chainSound, descriptors, indexOf, activeOf}
 use Rattle.blocks.specs.declared.descriptor.Descriptor.{Descriptor}
 use Rattle.blocks.proofs.BoolLaws.{no}
 use Rattle.links.proofs.ChainLaws.{active-snoc}
@@ -16,7 +16,7 @@ use Rattle.entries.specs.Entry.{find, need}
 use Rattle.calls.specs.Call.{Call}
 use Rattle.calls.specs.Parts.{descriptorsOf, snapshotsOf, withName}
 use Rattle.calls.specs.Meaning.{answerOf}
-use Rattle.calls.specs.Effect.{writeStores, snapStores, revertStores}
+use Rattle.calls.specs.Effect.{writeStores, snapStores, revertStores, returnedOf, staying}
 use Rattle.calls.specs.Step.{step, isAccepted}
 use Rattle.claims.specs.History.{betaOf, Agree, isFormat, formats}
 use Rattle.claims.proofs.Agreement.{agree-below, agree-chain}
@@ -30,7 +30,8 @@ use Rattle.claims.proofs.Steps.{step-cases}
 use Rattle.claims.proofs.Owed.{owed}
 use Rattle.links.proofs.LinkedLaws.{active-append}
 use Rattle.changes.proofs.WholeLaws.{write-whole, snap-whole, revert-whole}
-use Rattle.changes.proofs.RevertedChain.{before, reverted-chain, reverted-below}
+use Rattle.links.proofs.SharedLaws.{below-revision}
+use Rattle.changes.proofs.RevertedChain.{reverted-chain, returned}
 use Rattle.changes.proofs.SnappedChain.{snapped-chain, snap-covered}
 use Rattle.changes.proofs.WrittenChain.{written-chain, write-covered}
 
@@ -86,11 +87,15 @@ module _ (s t : List ℕ) (agree : Agree s t) where
   after-revert : (name : List ℕ) → RevertPassed s name → RevertPassed t name → Agree (storeAll s (revertStores s name)) (storeAll t (revertStores t name))
   after-revert name e e′ =
       let ss = snapshotsOf ds in
-      let w = linkedOf (renamedOf (withName ss name) (d .name)) (physical 0) in
-      both (revertStores s name) (revertStores t name) (before ss name ++ (w ∷ [])) (revert-whole s name e) (same-revert s t agree name e) (reverted-chain s name e)
-      (subst (λ (x : Chain). let xs = descriptors x in chain (storeAll t (revertStores t name)) ≡ Sound (before (snapshotsOf xs) name ++ (linkedOf (renamedOf (withName (snapshotsOf xs) name) (activeOf xs .name)) (physical 0) ∷ [])))
-      (sym (agree-chain s t agree)) (reverted-chain t name e′))
-      (λ p h. inl (omega (arith, reverted-below s name e .1, ap (λ (x : Descriptor). x .beta .0) (active-snoc (before ss name) w))))
+      let r = revisionOf s in
+      let xs = take (staying r (indexOf ss name)) ss in
+      let w = returnedOf r (withName ss name) (d .name) in
+      both (revertStores s name) (revertStores t name) (xs ++ (w ∷ [])) (revert-whole s name e) (same-revert s t agree name e) (reverted-chain s name e)
+      (subst (λ (n : ℕ). chain (storeAll t (revertStores t name)) ≡ Sound (take (staying n (indexOf ss name)) ss ++ (returnedOf n (withName ss name) (d .name) ∷ []))) (sym (below-revision s t (betaOf s) (agree-below s t agree)))
+      (subst (λ (x : Chain). let ys = descriptors x in
+      chain (storeAll t (revertStores t name)) ≡ Sound (take (staying (revisionOf t) (indexOf (snapshotsOf ys) name)) (snapshotsOf ys) ++ (returnedOf (revisionOf t) (withName (snapshotsOf ys) name) (activeOf ys .name) ∷ [])))
+      (sym (agree-chain s t agree)) (reverted-chain t name e′)))
+      (λ p h. inl (omega (arith, returned s name e .5, ap (λ (x : Descriptor). x .beta .0) (active-snoc xs w))))
 
   after-snap : (name : List ℕ) → SnapPassed s name → SnapPassed t name → Agree (storeAll s (snapStores s name)) (storeAll t (snapStores t name))
   after-snap name e e′ =

@@ -1,10 +1,10 @@
 -- Two cards that agree, that is with equal bytes below one beta, have one chain, and the rows of every call and what it fills are the same on both.
-use mathlib.Core.Path.{_≡_, refl, sym, ap, _∙_}
+use mathlib.Core.Path.{_≡_, refl, sym, ap, _∙_, subst}
 use mathlib.Core.Bool.{true, false, not, _&&_}
 use mathlib.Core.List.{List, [], _∷_}
 use Prim.Native.Nat.{ℕ, suc, _+_, _*_, _≤_, _<_}
 use native.Mathlib.Omega.{arith}
-use lib.ListN.{length, getD}
+use lib.ListN.{length, take, getD}
 use lib.Dec.{ltb}
 use borrow.Author.Tests.{leb-false}
 use Rattle.blocks.specs.Bytes.{part, blockAt, blockCount}
@@ -69,6 +69,11 @@ module _ (s t : List ℕ) (whole : chainSound (chain s) ≡ true) (long : length
         beta = ap (λ (x : Chain). activeOf (descriptors x) .beta .0) chain-same;
         below = blocks-taken s t (betaOf s) same;
       }
+
+-- both ways
+pub agree-back : (s t : List ℕ) → Agree s t → Agree t s
+agree-back s t h =
+    record { long = sym (h .long); sound = h .sound′; sound′ = h .sound; beta = sym (h .beta); below = subst (λ (b : ℕ). take (512 * b) t ≡ take (512 * b) s) (h .beta) (sym (h .below)) }
 
 module _ (s t : List ℕ) (agree : Agree s t) where
   abbrev ds : List Descriptor

@@ -32,16 +32,15 @@ use Rattle.entries.proofs.RegionLaws.{through-region, through-count, through-me
 use Rattle.entries.proofs.EntryLaws.{through-alpha, through-beta, through-end, through-volume, found-table, found-entry, placed-other}
 use Rattle.entries.proofs.SetLaws.{table-length, tail-with-length}
 use Rattle.calls.specs.declared.answer.Target.{Target}
-use Rattle.calls.specs.Call.{Call, Read, Write, Snap, Revert, Block}
+use Rattle.calls.specs.Call.{Call, Read, Write, Snap, Block}
 use Rattle.calls.specs.Parts.{areaBad, descriptorsOf, snapshotsOf, withName, targetOf, foundThrough, isMisplaced, blockFound}
-use Rattle.calls.specs.Effect.{snapping, reverting, writeStores, snapStores, revertStores}
+use Rattle.calls.specs.Effect.{snapping, writeStores, snapStores}
 use Rattle.calls.specs.Meaning.{answerOf, storesOf, filledOf}
 use Rattle.claims.specs.Algorithms.{Sigma, put, putNumber, copyRange, closeRegion, openRegion, algorithm1, algorithm2, algorithm3, algorithm4, algorithm5, algorithm6}
 use Rattle.calls.specs.Step.{step, isAccepted}
 use Rattle.claims.specs.History.{AreBytes}
-use Rattle.claims.specs.Claims.{AlgorithmClaim}
 use Rattle.calls.proofs.CardLaws.{card-through, card-snapshot, card-snapshot-count, chain-is}
-use Rattle.calls.proofs.Passed.{read-passed, write-passed, snap-passed, revert-passed}
+use Rattle.calls.proofs.Passed.{read-passed, write-passed, snap-passed}
 use Rattle.calls.proofs.StepLaws.{accepted-card}
 use Rattle.links.proofs.StoredLaws.{form-name}
 use Rattle.blocks.proofs.StoreLists.{stored-append, copied-in, copied-out, stored-length, inside-copying}
@@ -106,7 +105,7 @@ region-block c bytes p end d r inside =
     subst (λ (n : ℕ). blockAt c n ≡ descriptorBlock d (tailAt c n)) (sym a)
     (sym (block-back c p bytes h (form-mark c p d (r .form))) ∙ ap (λ (x : Descriptor). descriptorBlock x (tailAt c p)) (sym (r .is)))
 
-through-block : (c : List ℕ) → AreBytes c → (starts : List ℕ) (count : ℕ) (d : Descriptor) → Through c starts count d → blockAt c (d .alpha .0) ≡ descriptorBlock d (tailAt c (d .alpha .0))
+pub through-block : (c : List ℕ) → AreBytes c → (starts : List ℕ) (count : ℕ) (d : Descriptor) → Through c starts count d → blockAt c (d .alpha .0) ≡ descriptorBlock d (tailAt c (d .alpha .0))
 through-block c bytes starts count d t = region-block c bytes _ _ d (through-region c starts count d t) (through-alpha c starts count d t)
 
 -- numbers and a name put into a descriptor's block
@@ -130,16 +129,16 @@ module _ (d : Descriptor) (tail : List ℕ) where
   put-name e n f = rw f (ap (λ (x : List ℕ). headBytes (renamedOf d n) ++ x) (drop-at (d .name) tail 16 e))
 
 -- the block of a descriptor that is closed, and the other blocks
-close-by : (s : Sigma) (a b : ℕ) (name : List ℕ) (p : ℕ) (z : Bool) → eqb p a ≡ z → closeRegion s a b name p ≡ pick z (splice (splice (s a) 24 name) 20 (le32 b)) (s p)
+pub close-by : (s : Sigma) (a b : ℕ) (name : List ℕ) (p : ℕ) (z : Bool) → eqb p a ≡ z → closeRegion s a b name p ≡ pick z (splice (splice (s a) 24 name) 20 (le32 b)) (s p)
 close-by s a b name p true e = rw (e, eq-eqb a a refl)
 close-by s a b name p false e = rw e
 
-closed-block : (b : List ℕ) (d : Descriptor) (tail : List ℕ) → b ≡ descriptorBlock d tail → length (d .name) ≡ 16 → (name : List ℕ) → length name ≡ 16 → (n : ℕ)
+pub closed-block : (b : List ℕ) (d : Descriptor) (tail : List ℕ) → b ≡ descriptorBlock d tail → length (d .name) ≡ 16 → (name : List ℕ) → length name ≡ 16 → (n : ℕ)
     → splice (splice b 24 name) 20 (le32 n) ≡ descriptorBlock (linkedOf (renamedOf d name) (physical n)) tail
 closed-block b d tail is e name f n = rw (is, put-name d tail e name f) (put-link (renamedOf d name) tail n)
 
 -- one store
-store-by : (c : List ℕ) (a : ℕ) (b : List ℕ) → length b ≡ 512 → 512 * a + 512 ≤ length c → (p : ℕ) (z : Bool) → eqb p a ≡ z → blockAt (storeBlock c a b) p ≡ pick z b (blockAt c p)
+pub store-by : (c : List ℕ) (a : ℕ) (b : List ℕ) → length b ≡ 512 → 512 * a + 512 ≤ length c → (p : ℕ) (z : Bool) → eqb p a ≡ z → blockAt (storeBlock c a b) p ≡ pick z b (blockAt c p)
 store-by c a b w h p true e = rw (eqb-true p a e) (store-same c a b w h)
 store-by c a b w h p false e = store-other c a b w h p (eqb-false p a e)
 
@@ -148,54 +147,28 @@ module _ (c : List ℕ) (area : areaBad c ≡ false) (sound : chainSound (chain 
   abbrev r : Regions
   r = regionsOf (chain c)
 
-  snapshot-through : (name : List ℕ) → named (snapshotsOf (descriptorsOf c)) name ≡ true → Through c (r .starts) (r .count) (withName (snapshotsOf (descriptorsOf c)) name)
+  pub snapshot-through : (name : List ℕ) → named (snapshotsOf (descriptorsOf c)) name ≡ true → Through c (r .starts) (r .count) (withName (snapshotsOf (descriptorsOf c)) name)
   snapshot-through name called =
       let ss : List Descriptor = snapshotsOf (descriptorsOf c) in
       let ok = regions-ok (chain c) sound in
       let h : indexOf ss name < r .count - 1 = omega (arith, index-below ss name called, card-snapshot-count c r refl area ok) in
       card-through c r refl area ok (indexOf ss name) (omega arith) (withName ss name) (card-snapshot c r refl area ok (indexOf ss name) h)
 
-through-name : (c starts : List ℕ) (count : ℕ) (d : Descriptor) → Through c starts count d → length (d .name) ≡ 16
+pub through-name : (c starts : List ℕ) (count : ℕ) (d : Descriptor) → Through c starts count d → length (d .name) ≡ 16
 through-name c starts count d t = name-size (d .name) (form-name c _ d (through-region c starts count d t .form))
 
-reverted : (c : List ℕ) (v : Descriptor) (name : List ℕ) → blockAt c (v .alpha .0) ≡ descriptorBlock v (tailAt c (v .alpha .0)) → 512 * v .alpha .0 + 512 ≤ length c → length (v .name) ≡ 16 → length name ≡ 16
-    → (p : ℕ) → blockAt (storeAll c (reverting c v name)) p ≡ closeRegion (blockAt c) (v .alpha .0) 0 name p
-unfolding storeAll reverting
-reverted c v name is h e f p =
-    let b : List ℕ = descriptorBlock (linkedOf (renamedOf v name) (physical 0)) (tailAt c (v .alpha .0)) in
-    store-by c (v .alpha .0) b (block-whole (linkedOf (renamedOf v name) (physical 0)) (tailAt c (v .alpha .0)) f (tail-length c (v .alpha .0) h)) h p (eqb p (v .alpha .0)) refl
-    ∙ ap (λ (x : List ℕ). pick (eqb p (v .alpha .0)) x (blockAt c p)) (sym (closed-block (blockAt c (v .alpha .0)) v (tailAt c (v .alpha .0)) is e name f 0))
-    ∙ sym (close-by (blockAt c) (v .alpha .0) 0 name p (eqb p (v .alpha .0)) refl)
-
--- an accepted revert closes the snapshot's region with the active name and a nil next
-pub algorithm-revert : (c : List ℕ) → AreBytes c → (name : List ℕ) → isAccepted (answerOf (Revert name) c) ≡ true → (p : ℕ) → p < blockCount c
-    → let v = withName (snapshotsOf (descriptorsOf c)) name in
-    blockAt (step (Revert name) c .card) p ≡ closeRegion (blockAt c) (v .alpha .0) 0 (activeOf (descriptorsOf c) .name) p
-unfolding storesOf revertStores
-algorithm-revert c bytes name e p h =
-    let shown = revert-passed c name e in
-    let area = shown .area in
-    let sound = shown .sound in
-    let called = shown .there in
-    let v : Descriptor = withName (snapshotsOf (descriptorsOf c)) name in
-    let starts : List ℕ = regionsOf (chain c) .starts in
-    let count : ℕ = regionsOf (chain c) .count in
-    let t = snapshot-through c area sound name called in
-    ap (λ (x : List ℕ). blockAt x p) (accepted-card (Revert name) c e)
-    ∙ reverted c v (activeOf (descriptorsOf c) .name) (through-block c bytes starts count v t) (through-alpha c starts count v t) (through-name c starts count v t) (name-size (activeOf (descriptorsOf c) .name) (active-name c (descriptorsOf c) (chain-is (chain c) sound))) p
-
 -- the range that the algorithm copies
-range-by : (s : Sigma) (a b n p : ℕ) (x y : Bool) → leb b p ≡ x → ltb p (b + n) ≡ y → (out : List ℕ) → (b ≤ p → p < b + n → out ≡ s (a + (p - b))) → ((b ≤ p → p < b + n → ⊥) → out ≡ s p) → out ≡ copyRange s a b n p
+pub range-by : (s : Sigma) (a b n p : ℕ) (x y : Bool) → leb b p ≡ x → ltb p (b + n) ≡ y → (out : List ℕ) → (b ≤ p → p < b + n → out ≡ s (a + (p - b))) → ((b ≤ p → p < b + n → ⊥) → out ≡ s p) → out ≡ copyRange s a b n p
 range-by s a b n p true true e f out i o = rw (e, f) (i (leb-true b p e) (ltb-true p (b + n) f))
 range-by s a b n p true false e f out i o = let h = ltb-false p (b + n) f in rw (e, f) (o (λ u v. absurd (omega arith)))
 range-by s a b n p false y e f out i o = let h = leb-false b p e in rw e (o (λ u v. absurd (omega arith)))
 
 -- the block of a region that is opened, and the other blocks
-open-by : (s : Sigma) (b k p : ℕ) (z : Bool) → eqb p b ≡ z → openRegion s b k p ≡ pick z (splice (splice (s b) 12 (le32 b)) 16 (le32 (b + k))) (s p)
+pub open-by : (s : Sigma) (b k p : ℕ) (z : Bool) → eqb p b ≡ z → openRegion s b k p ≡ pick z (splice (splice (s b) 12 (le32 b)) 16 (le32 (b + k))) (s p)
 open-by s b k p true e = rw (e, eq-eqb b b refl)
 open-by s b k p false e = rw e
 
-opened-block : (b : List ℕ) (d : Descriptor) (tail : List ℕ) → b ≡ descriptorBlock d tail → (k : ℕ) → costOf d ≡ k
+pub opened-block : (b : List ℕ) (d : Descriptor) (tail : List ℕ) → b ≡ descriptorBlock d tail → (k : ℕ) → costOf d ≡ k
     → splice (splice b 12 (le32 (d .beta .0))) 16 (le32 (d .beta .0 + k)) ≡ descriptorBlock (reopenedOf d) tail
 opened-block b d tail is k e =
     rw (is, ← e, put-alpha d tail (d .beta .0))
@@ -662,14 +635,3 @@ algorithm-write c bytes l block e p h =
     let room : d .beta .0 + need (d .alpha .0) (foundThrough c d l) ≤ length c / 512 = shown .room in
     ap (λ (x : List ℕ). blockAt x p) (accepted-card (Write l block) c e)
     ∙ write-by c bytes (regionsOf (chain c) .starts) (regionsOf (chain c) .count) d (active-through c area sound) l block whole below (shown .in-place) room p (eqb (d .layout) 1) refl
-
--- accepted calls are the paper's algorithms
-pub algorithm-claim : AlgorithmClaim
-unfolding AlgorithmClaim
-algorithm-claim c bytes =
-    record {
-      read = algorithm-read c bytes;
-      write = algorithm-write c bytes;
-      snap = algorithm-snap c bytes;
-      revert = algorithm-revert c bytes;
-    }

@@ -10,7 +10,7 @@ use borrow.Author.Tests.{eqb-true, leb-true}
 use Rattle.blocks.specs.Pick.{pick, allZero}
 use Rattle.blocks.specs.Bytes.{part, splice, le32, blockAt, blockCount, zeroBlock, Store, store, storeBlock, storeAll}
 use Rattle.blocks.specs.Name.{nameByte, nameLength, isName}
-use Rattle.blocks.specs.Descriptor.{physical, tableSize, mark, costOf, headBytes, tailAt, descriptorBlock, renamedOf, linkedOf, extendedOf, reopenedOf, firstOf, clearing, copying, opening, costIn}
+use Rattle.blocks.specs.Descriptor.{physical, tableSize, mark, costOf, headBytes, tailAt, descriptorBlock, renamedOf, linkedOf, extendedOf, reopenedOf, firstOf, clearing, copying, opening, costIn, revisionOf, revisionOk, firstTail, reopening}
 use Rattle.chains.specs.Chain.{chain, chainSound, activeOf}
 use Rattle.blocks.specs.declared.descriptor.Descriptor.{Descriptor}
 use Rattle.blocks.proofs.Tests.{and-left, and-right}
@@ -20,7 +20,7 @@ use Rattle.entries.specs.declared.find.Found.{Found}
 use Rattle.entries.specs.declared.find.Found.the-variants.{Misplaced, Entry}
 use Rattle.calls.specs.Call.{Call}
 use Rattle.calls.specs.Parts.{areaBad, descriptorsOf, snapshotsOf, withName, foundThrough}
-use Rattle.calls.specs.Effect.{snapping, reverting, writeStores, snapStores, revertStores}
+use Rattle.calls.specs.Effect.{activatedOf, snapping, reverting, writeStores, snapStores, revertStores}
 use Rattle.calls.specs.Step.{step, after}
 use Rattle.claims.specs.History.{formats, isFormat, AreBytes, bytesOf, writtenBy, Standing, none, more, formattable, formatted}
 use Rattle.claims.proofs.Runs.{standing-length, step-length}
@@ -174,11 +174,15 @@ unfolding copying
 stores-copying c h from p zero = nothing
 stores-copying c h from p (suc n) = also p (blockAt c from) (bytes-block c from h) (stores-copying c h (suc from) (suc p) n)
 
+bytes-first : (r : ℕ) → AreBytes (firstTail r)
+unfolding firstTail
+bytes-first r = bytes-append (le32 r) (replicate 468 0) (bytes-le32 r) (bytes-zeros 468)
+
 stores-opening : (format : Format) → AreBytes (format .name) → ByteStores (opening format)
 unfolding opening
 stores-opening format h =
     stores-append (stores-clearing 1 (costIn format - 1))
-    (also 0 (descriptorBlock (firstOf format) (replicate 472 0)) (bytes-descriptor (firstOf format) (replicate 472 0) h (bytes-zeros 472)) nothing)
+    (also 0 (descriptorBlock (firstOf format) (firstTail (format .revision))) (bytes-descriptor (firstOf format) (firstTail (format .revision)) h (bytes-first (format .revision))) nothing)
 
 -- the stores of a call, on a card of bytes
 module _ (c : List ℕ) (card : AreBytes c) where
@@ -193,8 +197,12 @@ module _ (c : List ℕ) (card : AreBytes c) where
   stores-reverting : (v : Descriptor) (name : List ℕ) → AreBytes name → ByteStores (reverting c v name)
   unfolding reverting
   stores-reverting v name h =
-      also (v .alpha .0) (descriptorBlock (linkedOf (renamedOf v name) (physical 0)) (tailAt c (v .alpha .0)))
-      (bytes-descriptor (linkedOf (renamedOf v name) (physical 0)) (tailAt c (v .alpha .0)) h (bytes-tail c (v .alpha .0) card)) nothing
+      let w = activatedOf v name in
+      let tail = tailAt c (v .alpha .0) in
+      let bytes = bytes-tail c (v .alpha .0) card in
+      stores-pick (eqb (revisionOf c) 1) (reopening c w []) (store (v .alpha .0) (descriptorBlock w tail) ∷ [])
+      (stores-append (stores-copying c card (v .alpha .0 + 1) (v .beta .0 + 1) (costOf v - 1)) (also (v .beta .0) (descriptorBlock (reopenedOf w) tail) (bytes-descriptor (reopenedOf w) tail h bytes) nothing))
+      (also (v .alpha .0) (descriptorBlock w tail) (bytes-descriptor w tail h bytes) nothing)
 
   stores-table : (d : Descriptor) (m l : ℕ) → AreBytes (d .name) → ByteStores (setInTable c d m l)
   unfolding setInTable
@@ -263,7 +271,7 @@ bytes-run (k ∷ ks) c h (more f w r) = bytes-run ks (step k c .card) (bytes-ste
 format-name : (area : List ℕ) (format : Format) → formattable area format ≡ true → isName (format .name) ≡ true
 unfolding formattable
 format-name area format h =
-    let before = not (areaBad area) && (eqb (format .layout) 1 || eqb (format .layout) 2) && ltb 0 (format .volume) && leb (format .volume) 14336 in
+    let before = not (areaBad area) && (eqb (format .layout) 1 || eqb (format .layout) 2) && ltb 0 (format .volume) && leb (format .volume) 14336 && revisionOk (format .revision) in
     and-right before (isName (format .name)) (and-left (before && isName (format .name)) (leb (costIn format) (blockCount area)) h)
 
 pub bytes-format : (area : List ℕ) (format : Format) → AreBytes area → formattable area format ≡ true → AreBytes (formatted area format)

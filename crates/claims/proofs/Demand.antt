@@ -1,5 +1,5 @@
 -- The rollback claim from any card with a sound chain, and demand 3 from all N blocks as an accepted ream left them.
-use mathlib.Core.Path.{_≡_, refl, sym, ap, _∙_}
+use mathlib.Core.Path.{_≡_, refl, sym, ap, _∙_, subst}
 use mathlib.Core.Bool.{true, false}
 use mathlib.Core.List.{List}
 use Prim.Native.Nat.{ℕ, suc, _<_}
@@ -14,7 +14,8 @@ use Rattle.claims.specs.History.{AreBytes, Standing, Position, Nowhere, 
 use Rattle.claims.specs.Claims.{Matched, LastSnap, Forgets, RevertedAt, RollbackClaim, SnapshotClaim, Demand3}
 use Rattle.claims.proofs.Runs.{standing-take}
 use Rattle.claims.proofs.Latest.{latest-nowhere, latest-at}
-use Rattle.claims.proofs.Format.{formatted-passes, formatted-descriptors}
+use Rattle.claims.proofs.Format.{formatted-passes, formatted-descriptors, formatted-revision}
+use Rattle.calls.specs.Effect.{staying}
 use Rattle.claims.proofs.CardBytes.{bytes-run, bytes-format}
 use Rattle.claims.proofs.Rollback.{s-named, s-accepted, forgets-start, earlier, forgets-snap}
 use Rattle.blocks.specs.declared.descriptor.Format.{Format}
@@ -53,15 +54,16 @@ module _ (area : List ℕ) (format : Format) (can : formattable area format ≡ 
   found : (i : ℕ) × (i < k) × (latestSnap v card (take k ks) ≡ At i) × LastSnap v card (take k ks) i
   found = snap-by (latestSnap v card (take k ks)) refl
 
-  whole : AreBytes area → (i : ℕ) × (i < k) × (latestSnap v card (take k ks) ≡ At i) × LastSnap v card (take k ks) i × Matched card ks (suc k) (without ks i k) i
+  whole : AreBytes area → (i : ℕ) × (i < k) × (latestSnap v card (take k ks) ≡ At i) × LastSnap v card (take k ks) i × (let stay = staying (format .revision) i in Matched card ks (suc k) (without ks stay k) stay)
   whole bytes =
       let f = found in (
         f .0,
         f .1,
         f .2,
         f .3,
-        forgets-snap card ks card-sound standing k v reverted (f .0) (f .3)
-            (bytes-run (take (f .0) ks) card (bytes-format area format bytes can) (standing-take card ks (f .0) standing)),
+        subst (λ (r : ℕ). Matched card ks (suc k) (without ks (staying r (f .0)) k) (staying r (f .0))) (formatted-revision area format can)
+            (forgets-snap card ks card-sound standing k v reverted (f .0) (f .3)
+            (bytes-run (take (f .0) ks) card (bytes-format area format bytes can) (standing-take card ks (f .0) standing))),
       )
 
 pub snapshot-claim : SnapshotClaim

@@ -13,14 +13,14 @@ use borrow.Author.Tests.{ne-eqb, lt-ltb, le-leb, eqb-true, eqb-false, leb-true, 
 use Rattle.blocks.specs.Pick.{pick, allZero}
 use Rattle.blocks.specs.Bytes.{part, u32At, splice, store, blockCount, blockAt, zeroBlock, storeBlock, storeAll}
 use Rattle.blocks.specs.Name.{isName}
-use Rattle.blocks.specs.Descriptor.{mark, tableCount, cost, firstOf, noDescriptor, descriptorAt, descriptorBlock, reservedOk, phiOk, clearing, opening, costIn}
+use Rattle.blocks.specs.Descriptor.{mark, tableCount, cost, firstOf, firstTail, noDescriptor, descriptorAt, revisionOf, descriptorBlock, revisionOk, phiOk, clearing, opening, costIn}
 use Rattle.chains.specs.Chain.{formOk, sound, Sound, chain, chainSound, descriptors, activeOf}
 use Rattle.blocks.specs.declared.descriptor.Descriptor.{Descriptor}
 use Rattle.blocks.proofs.Tests.{and-left, and-right}
 use Rattle.blocks.proofs.ByteLaws.{length-splice, splice-after, store-length, store-same, store-other, u32-part, zero-number}
 use Rattle.blocks.proofs.ListLaws.{same-self}
 use Rattle.blocks.proofs.NameLaws.{drop-replicate, name-size}
-use Rattle.blocks.proofs.DescriptorLaws.{Fits, block-whole, cost-least}
+use Rattle.blocks.proofs.DescriptorLaws.{Fits, block-whole, cost-least, revision-small, first-tail-length, first-tail-revision, first-tail-number, first-tail-zeros, first-tail-reserved}
 use Rattle.chains.proofs.NamedLaws.{named-none}
 use Rattle.links.proofs.LinkedLaws.{last}
 use Rattle.entries.specs.InPlace.{inPlace}
@@ -33,7 +33,7 @@ use Rattle.claims.specs.Ledger.{cellsFrom, volumeOf, volumesOf, ledgerOf
 use Rattle.claims.specs.Claims.{FormatClaim}
 use Rattle.calls.proofs.CardLaws.{card-most}
 use Rattle.links.proofs.SharedLaws.{linked-chain}
-use Rattle.links.proofs.StoredLaws.{block-tail, stored-descriptor, stored-bytes, stored-mark, region-ok}
+use Rattle.links.proofs.StoredLaws.{block-tail, stored-descriptor, stored-revision, stored-bytes, stored-mark, region-ok}
 use Rattle.blocks.proofs.StoreLists.{isStored, stored-length, stored-other, stored-append, stored-one, inside-clearing}
 use Rattle.blocks.specs.declared.descriptor.Format.{Format}
 use Rattle.links.proofs.MemberLaws.{layout-small}
@@ -124,8 +124,11 @@ module _ (area : List ℕ) (format : Format) (ok : formattable area format ≡ t
   abbrev to-most : Bool
   to-most = to-layout && ltb 0 (format .volume) && leb (format .volume) 14336
 
+  abbrev to-revision : Bool
+  to-revision = to-most && revisionOk (format .revision)
+
   abbrev to-name : Bool
-  to-name = to-most && isName (format .name)
+  to-name = to-revision && isName (format .name)
 
   name-ok : to-name ≡ true
   unfolding formattable
@@ -136,7 +139,13 @@ module _ (area : List ℕ) (format : Format) (ok : formattable area format ≡ t
   format-room = leb-true _ _ (and-right to-name (leb (costIn format) (blockCount area)) ok)
 
   format-name : isName (format .name) ≡ true
-  format-name = and-right to-most (isName (format .name)) name-ok
+  format-name = and-right to-revision (isName (format .name)) name-ok
+
+  revision-ok : to-revision ≡ true
+  revision-ok = and-left to-revision (isName (format .name)) name-ok
+
+  format-revision : format .revision ≤ 1
+  format-revision = revision-small (format .revision) (and-right to-most (revisionOk (format .revision)) revision-ok)
 
   room-bytes : 512 * costIn format ≤ length area
   unfolding blockCount
@@ -145,14 +154,17 @@ module _ (area : List ℕ) (format : Format) (ok : formattable area format ≡ t
   abbrev first : Descriptor
   first = firstOf format
 
+  abbrev tail : List ℕ
+  tail = firstTail (format .revision)
+
   abbrev firstBytes : List ℕ
-  firstBytes = descriptorBlock first (replicate 472 0)
+  firstBytes = descriptorBlock first tail
 
   abbrev cleared : List ℕ
   cleared = storeAll area (clearing 1 (costIn format - 1))
 
   first-long : length firstBytes ≡ 512
-  first-long = block-whole first (replicate 472 0) (name-size (format .name) format-name) (length-replicate {A = ℕ} 472 0)
+  first-long = block-whole first tail (name-size (format .name) format-name) (first-tail-length (format .revision))
 
   cleared-room : 512 * (1 + (costIn format - 1)) ≤ length area
   cleared-room = omega (arith, room-bytes, cost-least (format .layout) (format .volume))
@@ -189,12 +201,12 @@ module _ (area : List ℕ) (format : Format) (ok : formattable area format ≡ t
       ∙ cleared-block area 1 (costIn format - 1) p (omega arith) (omega arith) cleared-room
 
   -- block 0 is the first descriptor's
-  pub formatted-first : blockAt (formatted area format) 0 ≡ descriptorBlock (firstOf format) (replicate 472 0)
+  pub formatted-first : blockAt (formatted area format) 0 ≡ descriptorBlock (firstOf format) (firstTail (format .revision))
   formatted-first = ap (λ (c : List ℕ). blockAt c 0) stored-last ∙ store-same cleared 0 firstBytes first-long first-inside
 
   -- the first descriptor's fields
   most-ok : to-most ≡ true
-  most-ok = and-left to-most (isName (format .name)) name-ok
+  most-ok = and-left to-most (revisionOk (format .revision)) revision-ok
 
   format-most : (format .volume) ≤ 14336
   format-most = leb-true _ _ (and-right (to-layout && ltb 0 (format .volume)) (leb (format .volume) 14336) most-ok)
@@ -225,33 +237,37 @@ module _ (area : List ℕ) (format : Format) (ok : formattable area format ≡ t
   formatted-inside : 512 * 0 + 512 ≤ length card
   formatted-inside = omega (arith, formatted-length, room-bytes, cost-least (format .layout) (format .volume))
 
-  tail-whole : length {A = ℕ} (replicate 472 0) ≡ 472
-  tail-whole = length-replicate {A = ℕ} 472 0
+  tail-whole : length tail ≡ 472
+  tail-whole = first-tail-length (format .revision)
 
   formatted-descriptor : descriptorAt card 0 ≡ first
-  formatted-descriptor = stored-descriptor card 0 formatted-inside first (replicate 472 0) formatted-first first-fits tail-whole
+  formatted-descriptor = stored-descriptor card 0 formatted-inside first tail formatted-first first-fits tail-whole
 
   -- bytes 40 to 511 of block 0
-  formatted-tail : (k n : ℕ) → k + n ≤ 472 → part card (512 * 0 + (40 + k)) n ≡ part (replicate 472 0) k n
+  formatted-tail : (k n : ℕ) → k + n ≤ 472 → part card (512 * 0 + (40 + k)) n ≡ part tail k n
   formatted-tail k n h =
-      stored-bytes card 0 formatted-inside first (replicate 472 0) formatted-first first-fits tail-whole (40 + k) n (omega arith)
-      ∙ block-tail first (replicate 472 0) first-fits tail-whole k n
+      stored-bytes card 0 formatted-inside first tail formatted-first first-fits tail-whole (40 + k) n (omega arith)
+      ∙ block-tail first tail first-fits tail-whole k n
+
+  pub formatted-revision : revisionOf (formatted area format) ≡ format .revision
+  formatted-revision = stored-revision card 0 formatted-inside first tail formatted-first first-fits tail-whole ∙ first-tail-revision (format .revision) format-revision
 
   formatted-form : formOk card 0 first ≡ true
-  unfolding formOk reservedOk
+  unfolding formOk
   formatted-form =
       rw (
-        stored-mark card 0 formatted-inside first (replicate 472 0) formatted-first first-fits tail-whole,
+        stored-mark card 0 formatted-inside first tail formatted-first first-fits tail-whole,
         same-self mark,
         format-layout,
         lt-ltb 0 (format .volume) format-least,
         le-leb (format .volume) 14336 format-most,
         format-name,
+        formatted-revision,
         formatted-tail 0 24 (omega arith),
-        zero-part 472 0 24,
+        first-tail-reserved (format .revision) format-revision,
         formatted-tail 24 448 (omega arith),
       )
-      (phi-clear (format .layout) (part (replicate 472 0) 24 448) (zero-part 472 24 448))
+      (phi-clear (format .layout) (part tail 24 448) (first-tail-zeros (format .revision)))
 
   formatted-count : blockCount card ≡ blockCount area
   unfolding blockCount
@@ -284,8 +300,8 @@ module _ (area : List ℕ) (format : Format) (ok : formattable area format ≡ t
       ap (u32At card) e
       ∙ sym (u32-part card (512 * 0 + (40 + (24 + 4 * i))) 4 0 (omega arith))
       ∙ ap (λ (b : List ℕ). u32At b 0) (formatted-tail (24 + 4 * i) 4 (omega arith))
-      ∙ u32-part (replicate 472 0) (24 + 4 * i) 4 0 (omega arith)
-      ∙ zero-number 472 (24 + 4 * i + 0)
+      ∙ u32-part tail (24 + 4 * i) 4 0 (omega arith)
+      ∙ first-tail-number (format .revision) (24 + 4 * i + 0) (omega arith)
 
   entry-zero : (m j : ℕ) → 0 < m → m < costIn format → j < 128 → entryAt card m j ≡ 0
   unfolding entryAt blockAt
@@ -377,18 +393,19 @@ module _ (area : List ℕ) (format : Format) (ok : formattable area format ≡ t
       (ap (λ (cs : List (List ℕ)). zeroBlock ∷ cs) (cells-zero n (suc l) (omega arith)))
 
   -- the ledger: no snapshots and a volume of zeros
-  pub formatted-ledger : ledgerOf (formatted area format) ≡ record { snapshots = []; active = record { name = (format .name); cells = replicate (format .volume) zeroBlock } }
+  pub formatted-ledger : ledgerOf (formatted area format) ≡ record { revision = format .revision; snapshots = []; active = record { name = (format .name); cells = replicate (format .volume) zeroBlock } }
   unfolding ledgerOf volumesOf volumeOf snapshotsOf activeOf
-  formatted-ledger = rw (formatted-descriptors, cells-zero (format .volume) 0 (omega arith))
+  formatted-ledger = rw (formatted-revision, formatted-descriptors, cells-zero (format .volume) 0 (omega arith))
 
 -- the claim, whole
 pub format-claim : FormatClaim
-unfolding FormatClaim
+unfolding FormatClaim firstTail
 format-claim area format ok = (
   formatted-passes area format ok,
   formatted-ledger area format ok,
   formatted-descriptors area format ok,
   formatted-first area format ok,
+  formatted-revision area format ok,
   formatted-zero area format ok,
   formatted-rest area format ok,
 )

@@ -1,17 +1,18 @@
--- A snapshot stays as it is under every call but a format and a revert to it or to an earlier one: its descriptor, those before it and all blocks
--- below its beta; and so does the active name.
+-- A snapshot stays as it is under every call but a format and a revert to an earlier one, or on revision 0 to itself: its descriptor, those before it and all
+-- blocks below its beta; and so does the active name.
 use mathlib.Core.Path.{_≡_, refl, sym, ap, _∙_}
 use mathlib.Core.Logic.{_⊎_, inl, inr}
 use mathlib.Core.Bool.{Bool, true, false}
 use mathlib.Core.List.{List, [], _∷_, _++_, append-assoc}
 use Prim.Native.Nat.{ℕ, suc, _+_, _-_, _≤_, _<_}
 use native.Mathlib.Omega.{arith}
-use lib.ListN.{length, take, drop, length-append, take-append-drop}
-use lib.Seq.{take-append-le, take-append-add, append-snoc}
-use lib.Dec.{leb}
-use borrow.Author.Tests.{leb-true, leb-false}
+use lib.ListN.{length, take, drop, getD, length-append, take-append-drop}
+use lib.Seq.{take-append-le, take-append-add, append-snoc, getD-append-seam}
+use lib.Dec.{eqb, leb}
+use borrow.Author.Tests.{eqb-true, eqb-false, leb-true, leb-false}
+use Rattle.blocks.specs.Pick.{pick}
 use Rattle.blocks.specs.Bytes.{blockAt, storeAll, Store}
-use Rattle.blocks.specs.Descriptor.{physical, renamedOf, linkedOf, extendedOf, reopenedOf}
+use Rattle.blocks.specs.Descriptor.{noDescriptor, revisionOf, renamedOf, linkedOf, extendedOf, reopenedOf}
 use Rattle.chains.specs.Chain.{Sound, chain, indexOf, named, activeOf}
 use Rattle.blocks.specs.declared.descriptor.Descriptor.{Descriptor}
 use Rattle.blocks.proofs.BoolLaws.{no}
@@ -19,11 +20,11 @@ use Rattle.links.proofs.ChainLaws.{active-snoc, descriptors-are}
 use Rattle.entries.specs.Entry.{need}
 use Rattle.calls.specs.Call.{Call}
 use Rattle.calls.specs.Parts.{descriptorsOf, snapshotsOf, withName, foundThrough}
-use Rattle.calls.specs.Effect.{reverting, writeStores, snapStores, revertStores}
+use Rattle.calls.specs.Effect.{writeStores, snapStores, revertStores, returnedOf, staying}
 use Rattle.calls.specs.Step.{step}
 use Rattle.claims.specs.History.{isFormat, formats}
 use Rattle.links.proofs.RelinkedLaws.{beta-before}
-use Rattle.blocks.proofs.StoreLists.{isStored, stored-length, stored-other, Whole, one-stored}
+use Rattle.blocks.proofs.StoreLists.{isStored, stored-length, stored-other, Whole}
 use Rattle.calls.proofs.Passed.{WritePassed, SnapPassed, RevertPassed}
 use Rattle.claims.specs.Kinds.{Kind}
 use Rattle.claims.proofs.Changes.{storesBy, Allowed, to-format, to-leave, to-write, to-snap, to-revert}
@@ -31,7 +32,8 @@ use Rattle.claims.proofs.Steps.{step-cases}
 use Rattle.calls.proofs.CardLaws.{active-split, snapshots-snoc, snapshots-are, active-is}
 use Rattle.links.proofs.MemberLaws.{member-from, member-fresh}
 use Rattle.changes.proofs.WholeLaws.{write-whole, snap-whole, revert-whole}
-use Rattle.changes.proofs.RevertedChain.{before, behind, revert-split, reverted-chain}
+use Rattle.calls.proofs.VisitLaws.{before, behind}
+use Rattle.changes.proofs.RevertedChain.{revert-split, visit-below, reverted-chain, returned, revert-above}
 use Rattle.changes.proofs.SnappedChain.{snap-above, snapped-chain}
 use Rattle.changes.proofs.WrittenChain.{written-chain, write-above}
 use Rattle.chains.proofs.NamedLaws.{named-left}
@@ -103,7 +105,7 @@ module _ (s : List ℕ) (xs : List Descriptor) (v : Descriptor) (n : List ℕ) (
       (ap (λ (ys : List Descriptor). activeOf ys .name) (sym (append-snoc (snapshotsOf rest) old (new ∷ []))) ∙ ap (λ (y : Descriptor). y .name) (active-snoc (snapshotsOf rest ++ (old ∷ [])) new) ∙ active-called)
       (λ p q. snap-above t name e p (omega (arith, active-above)))
 
-  -- a revert: to a later snapshot v stays, otherwise it is gone
+  -- a revert: v stays where it is among those that stay, otherwise it is gone
   module _ (name : List ℕ) (e : RevertPassed t name) where
     abbrev ss : List Descriptor
     ss = snapshotsOf (descriptorsOf t)
@@ -114,8 +116,14 @@ module _ (s : List ℕ) (xs : List Descriptor) (v : Descriptor) (n : List ℕ) (
     abbrev u : Descriptor
     u = withName ss name
 
+    abbrev r : ℕ
+    r = revisionOf t
+
+    abbrev j : ℕ
+    j = staying r (indexOf ss name)
+
     abbrev w : Descriptor
-    w = linkedOf (renamedOf u (activeOf (descriptorsOf t) .name)) (physical 0)
+    w = returnedOf r u (activeOf (descriptorsOf t) .name)
 
     abbrev ws : List Descriptor
     ws = behind ss name ++ (activeOf (descriptorsOf t) ∷ [])
@@ -123,36 +131,50 @@ module _ (s : List ℕ) (xs : List Descriptor) (v : Descriptor) (n : List ℕ) (
     sound-t : chain t ≡ Sound (descriptorsOf t)
     sound-t = h .is ∙ ap Sound (sym ds-is)
 
-    later : (i : ℕ) → indexOf ss name ≡ length xs + suc i → before ss name ≡ xs ++ (v ∷ take i zs)
-    later i q = ap (λ (ys : List Descriptor). take (indexOf ss name) ys) stands-snapshots ∙ rw q (take-append-add xs (v ∷ zs) (suc i))
+    kept-split : (m i : ℕ) → m ≡ length xs + suc i → take m ss ≡ xs ++ (v ∷ take i zs)
+    kept-split m i q = ap (λ (ys : List Descriptor). take m ys) stands-snapshots ∙ rw q (take-append-add xs (v ∷ zs) (suc i))
 
+    -- a later snapshot starts where v ends, or after; v itself ends there
     later-above : (i : ℕ) → indexOf ss name ≡ length xs + suc i → v .beta .0 ≤ u .alpha .0
     later-above i q =
-        let split : descriptorsOf t ≡ xs ++ (v ∷ (take i zs ++ (u ∷ ws))) = revert-split t name e ∙ ap (λ (ys : List Descriptor). ys ++ (u ∷ ws)) (later i q) ∙ append-assoc xs (v ∷ take i zs) (u ∷ ws) in
+        let split : descriptorsOf t ≡ xs ++ (v ∷ (take i zs ++ (u ∷ ws))) = revert-split t name e ∙ ap (λ (ys : List Descriptor). ys ++ (u ∷ ws)) (kept-split (indexOf ss name) i q) ∙ append-assoc xs (v ∷ take i zs) (u ∷ ws) in
         beta-before (member-from t (descriptorsOf t) xs v (take i zs ++ (u ∷ ws)) sound-t split) v (take i zs) u ws refl
 
-    revert-above : (i : ℕ) → indexOf ss name ≡ length xs + suc i → (p : ℕ) → p < v .beta .0 → isStored (revertStores t name) p ≡ false
-    unfolding revertStores reverting
-    revert-above i q p l = one-stored (u .alpha .0) _ p (λ k. omega (arith, later-above i q))
+    itself : indexOf ss name ≡ length xs → u ≡ v
+    itself q = ap (λ (n : ℕ). getD ss n noDescriptor) q ∙ ap (λ (ys : List Descriptor). getD ys (length xs) noDescriptor) stands-snapshots ∙ getD-append-seam xs v zs noDescriptor
 
-    stands-later : (i : ℕ) → indexOf ss name ≡ length xs + suc i → Stands s xs v n (storeAll t (revertStores t name))
-    stands-later i q =
+    floor-by : (z : Bool) → length xs < pick z (suc (indexOf ss name)) (indexOf ss name) → v .beta .0 ≤ pick z (u .beta .0) (u .alpha .0)
+    floor-by true l = at-or-after (eqb (indexOf ss name) (length xs)) refl
+      where
+        at-or-after : (y : Bool) → eqb (indexOf ss name) (length xs) ≡ y → v .beta .0 ≤ u .beta .0
+        at-or-after true q = omega (arith, ap (λ (x : Descriptor). x .beta .0) (itself (eqb-true (indexOf ss name) (length xs) q)))
+        at-or-after false q =
+            omega (arith, later-above (indexOf ss name - suc (length xs)) (omega (arith, eqb-false (indexOf ss name) (length xs) q)), visit-below t name e .0)
+    floor-by false l = later-above (indexOf ss name - suc (length xs)) (omega arith)
+
+    floor : length xs < j → v .beta .0 ≤ pick (eqb r 1) (u .beta .0) (u .alpha .0)
+    unfolding staying
+    floor l = floor-by (eqb r 1) l
+
+    stands-later : length xs < j → Stands s xs v n (storeAll t (revertStores t name))
+    stands-later l =
+        let i = j - suc (length xs) in
+        let split : take j ss ≡ xs ++ (v ∷ take i zs) = kept-split j i (omega arith) in
         stands-by (revertStores t name) (revert-whole t name e) (take i zs ++ (w ∷ [])) (omega (arith, length-append (take i zs) (w ∷ [])))
-        (reverted-chain t name e ∙ ap Sound (ap (λ (ys : List Descriptor). ys ++ (w ∷ [])) (later i q) ∙ append-assoc xs (v ∷ take i zs) (w ∷ [])))
-        (ap (λ (y : Descriptor). y .name) (active-snoc (take i zs) w) ∙ active-called) (revert-above i q)
+        (reverted-chain t name e ∙ ap Sound (ap (λ (ys : List Descriptor). ys ++ (w ∷ [])) split ∙ append-assoc xs (v ∷ take i zs) (w ∷ [])))
+        (ap (λ (y : Descriptor). y .name) (active-snoc (take i zs) w) ∙ returned t name e .2 ∙ active-called) (λ p h. revert-above t name e p (omega (arith, floor l)))
 
-    gone : indexOf ss name ≤ length xs → named (snapshotsOf (descriptorsOf (storeAll t (revertStores t name)))) (v .name) ≡ false
+    gone : j ≤ length xs → named (snapshotsOf (descriptorsOf (storeAll t (revertStores t name)))) (v .name) ≡ false
     gone q =
-        let j = indexOf ss name in
-        let f : before ss name ≡ take j xs = ap (λ (ys : List Descriptor). take j ys) stands-snapshots ∙ take-append-le j xs (v ∷ zs) q in
-        let g : snapshotsOf (descriptorsOf (storeAll t (revertStores t name))) ≡ take j xs = ap snapshotsOf (descriptors-are (storeAll t (revertStores t name)) (before ss name ++ (w ∷ [])) (reverted-chain t name e)) ∙ snapshots-snoc (before ss name) w ∙ f in
+        let f : take j ss ≡ take j xs = ap (λ (ys : List Descriptor). take j ys) stands-snapshots ∙ take-append-le j xs (v ∷ zs) q in
+        let g : snapshotsOf (descriptorsOf (storeAll t (revertStores t name))) ≡ take j xs = ap snapshotsOf (descriptors-are (storeAll t (revertStores t name)) (take j ss ++ (w ∷ [])) (reverted-chain t name e)) ∙ snapshots-snoc (take j ss) w ∙ f in
         ap (λ (ys : List Descriptor). named ys (v .name)) g
         ∙ named-left (take j xs) (drop j xs) (v .name) (ap (λ (ys : List Descriptor). named ys (v .name)) (take-append-drop j xs) ∙ member-fresh t (xs ++ (v ∷ rest)) xs v rest (h .is) refl)
 
-    revert-by : (z : Bool) → leb (indexOf ss name) (length xs) ≡ z
+    revert-by : (z : Bool) → leb j (length xs) ≡ z
         → Stands s xs v n (storeAll t (revertStores t name)) ⊎ (named (snapshotsOf (descriptorsOf (storeAll t (revertStores t name)))) (v .name) ≡ false)
-    revert-by true q = inr (gone (leb-true (indexOf ss name) (length xs) q))
-    revert-by false q = inl (stands-later (indexOf ss name - suc (length xs)) (omega (arith, leb-false (indexOf ss name) (length xs) q)))
+    revert-by true q = inr (gone (leb-true j (length xs) q))
+    revert-by false q = inl (stands-later (leb-false j (length xs) q))
 
   -- every change that is no format
   abbrev Either : List ℕ → Type 0
@@ -164,7 +186,7 @@ module _ (s : List ℕ) (xs : List Descriptor) (v : Descriptor) (n : List ℕ) (
   stands-change f to-leave = inl h
   stands-change f (to-write {l = l} {block = block} e) = inl (stands-write l block e)
   stands-change f (to-snap {name = name} e) = inl (stands-snap name e)
-  stands-change f (to-revert {name = name} e) = revert-by name e (leb (indexOf (snapshotsOf (descriptorsOf t)) name) (length xs)) refl
+  stands-change f (to-revert {name = name} e) = revert-by name e (leb (staying (revisionOf t) (indexOf (snapshotsOf (descriptorsOf t)) name)) (length xs)) refl
 
   pub stands-step : (k : Call) → isFormat k t ≡ false → Stands s xs v n (step k t .card) ⊎ (named (snapshotsOf (descriptorsOf (step k t .card))) (v .name) ≡ false)
   stands-step k f = step-cases k t Either (λ e. inl h) (λ e g a. stands-change g a) f

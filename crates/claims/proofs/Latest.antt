@@ -5,11 +5,11 @@ use mathlib.Core.Bool.{Bool, true, false, _&&_}
 use mathlib.Core.List.{List, [], _∷_, _++_}
 use Prim.Native.Nat.{ℕ, suc, _+_}
 use native.Mathlib.Omega.{arith}
-use lib.ListN.{drop, take-append-drop}
+use lib.ListN.{take, drop, take-append-drop}
 use lib.Seq.{append-snoc}
 use Rattle.blocks.specs.Pick.{pick, same}
 use Rattle.blocks.specs.Bytes.{storeAll}
-use Rattle.blocks.specs.Descriptor.{renamedOf, linkedOf, reopenedOf}
+use Rattle.blocks.specs.Descriptor.{revisionOf, renamedOf, linkedOf, reopenedOf}
 use Rattle.chains.specs.Chain.{Sound, chain, indexOf, named, activeOf}
 use Rattle.blocks.specs.declared.descriptor.Descriptor.{Descriptor}
 use Rattle.blocks.proofs.BoolLaws.{no}
@@ -18,7 +18,7 @@ use Rattle.links.proofs.ChainLaws.{descriptors-are}
 use Rattle.calls.specs.Call.{Call}
 use Rattle.calls.specs.Parts.{descriptorsOf, snapshotsOf}
 use Rattle.calls.specs.Meaning.{answerOf}
-use Rattle.calls.specs.Effect.{writeStores, snapStores, revertStores}
+use Rattle.calls.specs.Effect.{writeStores, snapStores, revertStores, staying}
 use Rattle.calls.specs.Step.{step, after, isAccepted}
 use Rattle.claims.specs.History.{isFormat, Standing, more, isSnapOf, Position, Nowhere, At, latestFrom, latestSnap, formats, snapsAs}
 use Rattle.claims.specs.Claims.{Unsnapped, end, then, LastSnap}
@@ -29,7 +29,7 @@ use Rattle.claims.specs.Kinds.{Kind, kindOf}
 use Rattle.claims.proofs.Changes.{storesBy, Allowed, to-format, to-leave, to-write, to-snap, to-revert}
 use Rattle.claims.proofs.Steps.{step-cases}
 use Rattle.calls.proofs.CardLaws.{snapshots-snoc}
-use Rattle.changes.proofs.RevertedChain.{before, reverted-chain}
+use Rattle.changes.proofs.RevertedChain.{reverted-chain}
 use Rattle.changes.proofs.SnappedChain.{snapped-chain}
 use Rattle.changes.proofs.WrittenChain.{written-chain}
 
@@ -52,8 +52,9 @@ module _ (n t : List ℕ) (gone : named (snapshotsOf (descriptorsOf t)) n ≡ fa
   gone-revert : (name : List ℕ) → RevertPassed t name → named (snapshotsOf (descriptorsOf (storeAll t (revertStores t name)))) n ≡ false
   gone-revert name e =
       let ss = snapshotsOf (descriptorsOf t) in
-      gone-by (storeAll t (revertStores t name)) (before ss name) _ (reverted-chain t name e)
-      (named-left (before ss name) (drop (indexOf ss name) ss) n (ap (λ (ds : List Descriptor). named ds n) (take-append-drop (indexOf ss name) ss) ∙ gone))
+      let j = staying (revisionOf t) (indexOf ss name) in
+      gone-by (storeAll t (revertStores t name)) (take j ss) _ (reverted-chain t name e)
+      (named-left (take j ss) (drop j ss) n (ap (λ (ds : List Descriptor). named ds n) (take-append-drop j ss) ∙ gone))
 
   gone-change : {x : Kind} → formats x ≡ false → snapsAs n x ≡ false → Allowed t x → named (snapshotsOf (descriptorsOf (storeAll t (storesBy x t)))) n ≡ false
   unfolding formats snapsAs storesBy storeAll

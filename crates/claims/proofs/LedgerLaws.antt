@@ -5,14 +5,16 @@ use mathlib.Core.List.{List, [], _∷_, _++_}
 use Prim.Native.Nat.{ℕ, zero, suc, _+_, _<_, _≤_}
 use native.Mathlib.Omega.{arith}
 use lib.ListN.{length, getD, take}
+use lib.Dec.{eqb}
 use Rattle.blocks.specs.Pick.{pick, same}
-use Rattle.blocks.specs.Descriptor.{noDescriptor}
+use Rattle.blocks.specs.Descriptor.{noDescriptor, revisionOf}
 use Rattle.chains.specs.Chain.{indexOf, named, activeOf}
 use Rattle.blocks.specs.declared.descriptor.Descriptor.{Descriptor}
 use Rattle.blocks.proofs.BoolLaws.{no}
 use Rattle.chains.proofs.NamedLaws.{named-none, named-cons}
 use Rattle.calls.specs.Parts.{withName, foundThrough, blockFound, descriptorsOf, snapshotsOf}
-use Rattle.claims.specs.Ledger.{Volume, hasVolume, volumeNamed, cellsFrom, volumeOf, volumesOf, volumesBefore, ledgerOf}
+use Rattle.calls.specs.Effect.{staying}
+use Rattle.claims.specs.Ledger.{Volume, hasVolume, volumeNamed, cellsFrom, volumeOf, volumesOf, volumesKept, ledgerOf}
 
 other-then : (a b : Bool) → (a || b) ≡ true → a ≡ false → b ≡ true
 other-then true b h e = no (sym e)
@@ -56,17 +58,23 @@ volume-named c (d ∷ ds) name h =
     which-volume c d ds (indexOf ds name) (volumeNamed (volumesOf c ds) name) (same (d .name) name)
     (λ e. volume-named c ds name (other-then (same (d .name) name) (named ds name) (sym (named-cons d ds name) ∙ h) e))
 
--- the volumes before a name are those of the descriptors before it
-before-by : (c : List ℕ) (d : Descriptor) (ds : List Descriptor) (name : List ℕ) (vs : List Volume) (b : Bool) → vs ≡ volumesOf c (take (indexOf ds name) ds)
-    → pick b [] (volumeOf c d ∷ vs) ≡ volumesOf c (take (pick b 0 (suc (indexOf ds name))) (d ∷ ds))
+-- the volumes that stay at a rollback are those of the descriptors that stay
+kept-by : (o : Bool) (c : List ℕ) (d : Descriptor) (ds : List Descriptor) (i : ℕ) (vs : List Volume) (b : Bool) → vs ≡ volumesOf c (take (pick o (suc i) i) ds)
+    → pick b (pick o (volumeOf c d ∷ []) []) (volumeOf c d ∷ vs) ≡ volumesOf c (take (pick o (suc (pick b 0 (suc i))) (pick b 0 (suc i))) (d ∷ ds))
 unfolding volumesOf
-before-by c d ds name vs true h = refl
-before-by c d ds name vs false h = ap (λ (xs : List Volume). volumeOf c d ∷ xs) h
+kept-by true c d ds i vs true h = refl
+kept-by false c d ds i vs true h = refl
+kept-by true c d ds i vs false h = ap (λ (xs : List Volume). volumeOf c d ∷ xs) h
+kept-by false c d ds i vs false h = ap (λ (xs : List Volume). volumeOf c d ∷ xs) h
 
-pub volumes-before : (c : List ℕ) (ds : List Descriptor) (name : List ℕ) → volumesBefore (volumesOf c ds) name ≡ volumesOf c (take (indexOf ds name) ds)
-unfolding volumesBefore volumesOf volumeOf indexOf
-volumes-before c [] name = refl
-volumes-before c (d ∷ ds) name = before-by c d ds name (volumesBefore (volumesOf c ds) name) (same (d .name) name) (volumes-before c ds name)
+none-by : (o : Bool) → _≡_ {A = List Descriptor} (take (pick o 1 0) []) []
+none-by true = refl
+none-by false = refl
+
+pub volumes-kept : (r : ℕ) (c : List ℕ) (ds : List Descriptor) (name : List ℕ) → volumesKept r (volumesOf c ds) name ≡ volumesOf c (take (staying r (indexOf ds name)) ds)
+unfolding volumesKept volumesOf volumeOf indexOf staying
+volumes-kept r c [] name = ap (volumesOf c) (sym (none-by (eqb r 1)))
+volumes-kept r c (d ∷ ds) name = kept-by (eqb r 1) c d ds (indexOf ds name) (volumesKept r (volumesOf c ds) name) (same (d .name) name) (volumes-kept r c ds name)
 
 pub volumes-append : (c : List ℕ) (xs ys : List Descriptor) → volumesOf c (xs ++ ys) ≡ volumesOf c xs ++ volumesOf c ys
 unfolding volumesOf
@@ -87,9 +95,11 @@ volumes-same s t [] h = refl
 volumes-same s t (d ∷ ds) h =
     rw (cells-same s t d d (d .volume) 0 (λ j a b. h 0 (omega arith) j (omega arith)), volumes-same s t ds (λ i a j b. h (suc i) (omega arith) j b))
 
--- a card's ledger by the snapshots and the active descriptor of its chain
-pub ledger-parts : (t : List ℕ) (ss : List Descriptor) (d : Descriptor) → snapshotsOf (descriptorsOf t) ≡ ss → activeOf (descriptorsOf t) ≡ d → ledgerOf t ≡ record { snapshots = volumesOf t ss; active = volumeOf t d }
+-- a card's ledger by its revision, the snapshots and the active descriptor of its chain
+pub ledger-parts : (t : List ℕ) (r : ℕ) (ss : List Descriptor) (d : Descriptor) → revisionOf t ≡ r → snapshotsOf (descriptorsOf t) ≡ ss → activeOf (descriptorsOf t) ≡ d
+    → ledgerOf t ≡ record { revision = r; snapshots = volumesOf t ss; active = volumeOf t d }
 unfolding ledgerOf
-ledger-parts t ss d a b =
-    ap (λ (y : List Descriptor). record { snapshots = volumesOf t y; active = volumeOf t (activeOf (descriptorsOf t)) }) a
-    ∙ ap (λ (y : Descriptor). record { snapshots = volumesOf t ss; active = volumeOf t y }) b
+ledger-parts t r ss d e a b =
+    ap (λ (n : ℕ). record { revision = n; snapshots = volumesOf t (snapshotsOf (descriptorsOf t)); active = volumeOf t (activeOf (descriptorsOf t)) }) e
+    ∙ ap (λ (y : List Descriptor). record { revision = r; snapshots = volumesOf t y; active = volumeOf t (activeOf (descriptorsOf t)) }) a
+    ∙ ap (λ (y : Descriptor). record { revision = r; snapshots = volumesOf t ss; active = volumeOf t y }) b

@@ -26,8 +26,8 @@ use Rattle.claims.proofs.LedgerWrite.{ledger-write}
 use Rattle.claims.specs.Kinds.{Kind}
 use Rattle.claims.proofs.Changes.{storesBy, Allowed, to-format, to-leave, to-write, to-snap, to-revert}
 use Rattle.claims.proofs.Steps.{step-cases}
-use Rattle.claims.proofs.LedgerRevert.{ledger-revert}
-use Rattle.changes.proofs.RevertedRules.{passes-revert}
+use Rattle.claims.proofs.LedgerReopened.{ledger-revert}
+use Rattle.changes.proofs.ReopenedRules.{passes-revert}
 use Rattle.changes.proofs.SnappedRules.{passes-snap}
 use Rattle.changes.proofs.WritePasses.{passes-write}
 

@@ -7,7 +7,7 @@ use native.Mathlib.Omega.{arith}
 use lib.ListN.{length, getD}
 use lib.Dec.{eqb}
 use Rattle.blocks.specs.Bytes.{storeAll}
-use Rattle.blocks.specs.Descriptor.{noDescriptor, renamedOf, linkedOf, reopenedOf}
+use Rattle.blocks.specs.Descriptor.{noDescriptor, revisionOf, renamedOf, linkedOf, reopenedOf}
 use Rattle.blocks.specs.declared.descriptor.Descriptor.{Descriptor}
 use Rattle.chains.specs.Chain.{activeOf, chain}
 use Rattle.links.proofs.SoundLaws.{form-layout}
@@ -24,7 +24,7 @@ use Rattle.calls.proofs.CardLaws.{snapshots-snoc, chain-is}
 use Rattle.calls.proofs.CellLaws.{cell-as}
 use Rattle.claims.proofs.LedgerLaws.{cells-same, volumes-same, volumes-append, ledger-parts}
 use Rattle.calls.proofs.ActiveLaws.{region-at, region-below}
-use Rattle.changes.proofs.SnappedChain.{snapped-chain}
+use Rattle.changes.proofs.SnappedChain.{snapped-chain, snapped-revision}
 use Rattle.changes.proofs.SnappedRules.{counted, act-rules, blocks-kept, old-kept, new-kept, first-is, first-kept, act-layout}
 
 module _ (c name : List ℕ) (pass : Passes c) (e : SnapPassed c name) where
@@ -96,6 +96,6 @@ module _ (c name : List ℕ) (pass : Passes c) (e : SnapPassed c name) where
   pub ledger-snap : ledgerOf t ≡ ledgerChange (Snaps name) (ledgerOf c)
   unfolding ledgerChange ledgerOf
   ledger-snap =
-      ledger-parts t (snaps ++ (old ∷ [])) opened (ap snapshotsOf after-snoc ∙ snapshots-snoc (snaps ++ (old ∷ [])) opened) (ap activeOf after-snoc ∙ active-snoc (snaps ++ (old ∷ [])) opened)
-      ∙ ap (λ (x : List Volume). record { snapshots = x; active = volumeOf t opened }) volumes-after
-      ∙ ap (λ (x : Volume). record { snapshots = volumesOf c snaps ++ (record { name = name; cells = volumeOf c act .cells } ∷ []); active = x }) volume-opened
+      ledger-parts t (revisionOf c) (snaps ++ (old ∷ [])) opened (snapped-revision c name e) (ap snapshotsOf after-snoc ∙ snapshots-snoc (snaps ++ (old ∷ [])) opened) (ap activeOf after-snoc ∙ active-snoc (snaps ++ (old ∷ [])) opened)
+      ∙ ap (λ (x : List Volume). record { revision = revisionOf c; snapshots = x; active = volumeOf t opened }) volumes-after
+      ∙ ap (λ (x : Volume). record { revision = revisionOf c; snapshots = volumesOf c snaps ++ (record { name = name; cells = volumeOf c act .cells } ∷ []); active = x }) volume-opened

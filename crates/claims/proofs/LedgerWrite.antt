@@ -8,7 +8,7 @@ use lib.ListN.{length, getD, set, length-append, List·getD-append}
 use borrow.Author.Tests.{ne-eqb}
 use Rattle.blocks.specs.Pick.{pick}
 use Rattle.blocks.specs.Bytes.{blockAt, zeroBlock, storeAll}
-use Rattle.blocks.specs.Descriptor.{noDescriptor, extendedOf}
+use Rattle.blocks.specs.Descriptor.{noDescriptor, revisionOf, extendedOf}
 use Rattle.blocks.specs.declared.descriptor.Descriptor.{Descriptor}
 use Rattle.chains.specs.Chain.{activeOf, chain, Sound}
 use Rattle.links.proofs.SoundLaws.{form-layout}
@@ -29,7 +29,7 @@ use Rattle.entries.proofs.RulesLaws.{shared-entry}
 use Rattle.calls.proofs.CellLaws.{blockNamed, cell-as, cell-rules}
 use Rattle.claims.proofs.LedgerLaws.{cells-same, volumes-same, ledger-parts}
 use Rattle.calls.proofs.ActiveLaws.{chain-some, region-at, active-last, active-form}
-use Rattle.changes.proofs.WrittenChain.{written-chain}
+use Rattle.changes.proofs.WrittenChain.{written-chain, written-revision}
 use Rattle.changes.proofs.WrittenRules.{snapshot-region, write-below, snapshot-rules}
 use Rattle.changes.proofs.WriteFacts.{WriteFacts}
 use Rattle.changes.proofs.WritePasses.{write-facts}
@@ -140,9 +140,9 @@ module _ (c : List ℕ) (passes : Passes c) (l : ℕ) (block : List ℕ) (ok : W
     written-ledger : ledgerOf t ≡ ledgerChange (Writes l block) (ledgerOf c)
     unfolding ledgerChange ledgerOf volumeOf
     written-ledger =
-        ledger-parts t xs x (ap snapshotsOf after ∙ snapshots-snoc xs x) active-after
-        ∙ ap (λ (vs : List Volume). record { snapshots = vs; active = record { name = d .name; cells = cellsFrom t x (x .volume) 0 } }) (volumes-same c t xs snapshot-cell)
-        ∙ ap (λ (bs : List (List ℕ)). record { snapshots = volumesOf c xs; active = record { name = d .name; cells = bs } }) cells-after
+        ledger-parts t (revisionOf c) xs x (written-revision c l block ok) (ap snapshotsOf after ∙ snapshots-snoc xs x) active-after
+        ∙ ap (λ (vs : List Volume). record { revision = revisionOf c; snapshots = vs; active = record { name = d .name; cells = cellsFrom t x (x .volume) 0 } }) (volumes-same c t xs snapshot-cell)
+        ∙ ap (λ (bs : List (List ℕ)). record { revision = revisionOf c; snapshots = volumesOf c xs; active = record { name = d .name; cells = bs } }) cells-after
 
 -- and its ledger is the ledger's step
 pub ledger-write : (c : List ℕ) (l : ℕ) (block : List ℕ) → Passes c → WritePassed c l block → ledgerOf (storeAll c (writeStores c l block)) ≡ ledgerChange (Writes l block) (ledgerOf c)

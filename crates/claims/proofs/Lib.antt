@@ -19,16 +19,20 @@ pub mod Format
 pub mod Kept
 pub mod Runs
 pub mod Latest
+pub mod RevertAgain
 pub mod Undone
 pub mod AlgorithmLaws
+pub mod AlgorithmRevert
 pub mod CheckClaims
 pub mod Room
 pub mod SoundStep
 pub mod CardBytes
 pub mod Rollback
 pub mod Demand
+pub mod Surviving
 pub mod Answered
 pub mod NotEmpty
+pub mod SurvivingExample
 pub mod LedgerAnswers
 pub mod LedgerSnap
 pub mod LedgerWrite
@@ -36,4 +40,5 @@ pub mod LedgerRun
 pub mod Places
 pub mod LedgerLaws
 pub mod LedgerRevert
+pub mod LedgerReopened
 pub mod OnePass

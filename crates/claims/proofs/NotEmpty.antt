@@ -11,6 +11,7 @@ use Rattle.blocks.specs.Bytes.{blockSize}
 use Rattle.blocks.specs.Descriptor.{asFormat}
 use Rattle.blocks.specs.declared.descriptor.Format.{Format}
 use Rattle.calls.specs.Call.{Call, Outcome, None, accepted}
+use Rattle.calls.specs.Effect.{staying}
 use Rattle.calls.specs.Step.{after, outcomes}
 use Rattle.claims.specs.History.{Agree, AreBytes, Standing, none, more, isReam, isFormat, writtenBy, formattable, formatted, isSnapOf, Position, Nowhere, At, latestSnap, without}
 use Rattle.claims.specs.Claims.{Matched, RevertedAt, Demand3}
@@ -28,14 +29,14 @@ fill-bytes zero v h i = omega arith
 fill-bytes (suc n) v h zero = h
 fill-bytes (suc n) v h (suc i) = fill-bytes n v h i
 
-nil-bytes : AreBytes []
+pub nil-bytes : AreBytes []
 nil-bytes i = omega arith
 
-block-bytes : (v : ℕ) → v < 256 → AreBytes (replicate 512 v)
+pub block-bytes : (v : ℕ) → v < 256 → AreBytes (replicate 512 v)
 block-bytes v h = fill-bytes 512 v h
 
 -- the areas are bytes
-area-bytes : (n : ℕ) → AreBytes (area n)
+pub area-bytes : (n : ℕ) → AreBytes (area n)
 area-bytes n = fill-bytes (blockSize * n) 7 (omega arith)
 
 positionOf : Position → ℕ
@@ -43,13 +44,13 @@ positionOf Nowhere = 0
 positionOf (At i) = i
 
 -- demand 3 of a list in which the revert to v at position k is accepted, and the latest accepted snap of v is at position i
-matched : (n : ℕ) (format : Format) → formattable (area n) format ≡ true → (ks : List Call) → Standing (formatted (area n) format) ks
+pub matched : (n : ℕ) (format : Format) → formattable (area n) format ≡ true → (ks : List Call) → Standing (formatted (area n) format) ks
     → (k : ℕ) (v : List ℕ) → RevertedAt (formatted (area n) format) ks k v → (i : ℕ) → latestSnap v (formatted (area n) format) (take k ks) ≡ At i
-    → Matched (formatted (area n) format) ks (suc k) (without ks i k) i
+    → Matched (formatted (area n) format) ks (suc k) (without ks (staying (format .revision) i) k) (staying (format .revision) i)
 unfolding Demand3 positionOf
 matched n format can ks standing k v reverted i latest =
     let r = demand-3 (area n) format (area-bytes n) can ks standing k v reverted in
-    subst (λ (j : ℕ). Matched (formatted (area n) format) ks (suc k) (without ks j k) j) (ap positionOf (sym (r .2) ∙ latest)) (r .4)
+    subst (λ (j : ℕ). let stay = staying (format .revision) j in Matched (formatted (area n) format) ks (suc k) (without ks stay k) stay) (ap positionOf (sym (r .2) ∙ latest)) (r .4)
 
 -- 01's worked example. Its calls are reads, writes of bytes, snaps, reverts and lists
 pub example-standing : (c : List ℕ) → Standing c exampleCalls
@@ -89,6 +90,7 @@ module _ (layout : ℕ) (said : answers exampleCalls (exampleCard layout) ≡ re
 
   -- demand 3 of the example
   example-matched : formattable (area 16) (asFormat layout 200 fs) ≡ true → Matched (exampleCard layout) exampleCalls 7 (without exampleCalls 1 6) 1
+  unfolding staying
   example-matched can = matched 16 (asFormat layout 200 fs) can exampleCalls (example-standing (exampleCard layout)) 6 mon example-reverted 1 example-latest
 
 pub reverted-layout-1 : RevertedAt (exampleCard 1) exampleCalls 6 mon
@@ -171,10 +173,12 @@ module _ (layout beta : ℕ) (can : formattable (area 8) (asFormat layout 1 fs) 
 
   -- demand 3 of the second list
   second-matched : Matched (secondCard layout) secondCalls 12 (without secondCalls 1 11) 1
+  unfolding staying
   second-matched = matched 8 (asFormat layout 1 fs) can secondCalls standing 11 mon second-reverted 1 second-latest
 
   -- of the revert at position 16
   last-matched : Matched (secondCard layout) secondCalls 17 (without secondCalls 14 16) 14
+  unfolding staying
   last-matched = matched 8 (asFormat layout 1 fs) can secondCalls standing 16 tue last-reverted 14 last-latest
 
 pub second-outcomes : (outcomes secondCalls (secondCard 1) ≡ secondOutcomes 5) × (outcomes secondCalls (secondCard 2) ≡ secondOutcomes 4)

@@ -1,14 +1,16 @@
 -- The chain after accepted calls.
-use mathlib.Core.Path.{_≡_, ap, _∙_}
+use mathlib.Core.Path.{_≡_, ap, _∙_, subst}
 use mathlib.Core.Bool.{true}
-use mathlib.Core.List.{List}
+use mathlib.Core.List.{List, [], _∷_, _++_}
 use Prim.Native.Nat.{ℕ}
+use lib.ListN.{take}
 use Rattle.blocks.specs.Bytes.{storeAll}
-use Rattle.chains.specs.Chain.{Sound, chain}
+use Rattle.chains.specs.Chain.{Sound, chain, indexOf, activeOf}
 use Rattle.blocks.specs.declared.descriptor.Descriptor.{Descriptor}
 use Rattle.links.proofs.ChainLaws.{descriptors-are}
 use Rattle.calls.specs.Call.{Call, Write, Snap, Revert}
-use Rattle.calls.specs.Parts.{descriptorsOf}
+use Rattle.calls.specs.Parts.{descriptorsOf, snapshotsOf, withName}
+use Rattle.calls.specs.Effect.{revertStores, returnedOf, staying}
 use Rattle.calls.specs.Meaning.{answerOf, storesOf}
 use Rattle.calls.specs.Step.{step, isAccepted}
 use Rattle.calls.proofs.StepLaws.{accepted-card}
@@ -23,10 +25,11 @@ after-is : (k : Call) (c : List ℕ) → isAccepted (answerOf k c) ≡ true → 
 after-is k c e ds q = ap descriptorsOf (accepted-card k c e) ∙ descriptors-are (storeAll c (storesOf k c)) ds q
 
 pub room-claim : RoomClaim
-unfolding RoomClaim blocksNeeded storesOf
+unfolding RoomClaim blocksNeeded storesOf staying returnedOf
 room-claim c =
     record {
       write = λ l block e. after-is (Write l block) c e _ (written-chain c l block (write-passed c l block e));
       snap = λ name e. after-is (Snap name) c e _ (snapped-chain c name (snap-passed c name e));
-      revert = λ name e. after-is (Revert name) c e _ (reverted-chain c name (revert-passed c name e));
+      revert = λ name e z. after-is (Revert name) c e _ (subst (λ (n : ℕ). let ss = snapshotsOf (descriptorsOf c) in chain (storeAll c (revertStores c name)) ≡ Sound (take (staying n (indexOf ss name)) ss ++ (returnedOf n (withName ss name) (activeOf (descriptorsOf c) .name) ∷ []))) z (reverted-chain c name (revert-passed c name e)));
+      revert-1 = λ name e z. after-is (Revert name) c e _ (subst (λ (n : ℕ). let ss = snapshotsOf (descriptorsOf c) in chain (storeAll c (revertStores c name)) ≡ Sound (take (staying n (indexOf ss name)) ss ++ (returnedOf n (withName ss name) (activeOf (descriptorsOf c) .name) ∷ []))) z (reverted-chain c name (revert-passed c name e)));
     }

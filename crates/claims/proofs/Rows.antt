@@ -9,7 +9,7 @@ use borrow.Author.Tests.{lt-ltb, le-ltb, le-leb, lt-leb, eqb-true, eqb-false, lt
 use Rattle.blocks.specs.Pick.{pick}
 use Rattle.blocks.specs.Bytes.{blockCount}
 use Rattle.blocks.specs.Name.{isName}
-use Rattle.blocks.specs.Descriptor.{costIn}
+use Rattle.blocks.specs.Descriptor.{costIn, revisionOk}
 use Rattle.calls.specs.Parts.{areaBad}
 use Rattle.calls.specs.declared.answer.Answer.{Answer}
 use Rattle.calls.specs.Call.{Ream, answer, accepted}
@@ -31,14 +31,15 @@ table-claim k c =
     )
 
 -- a ream is accepted exactly where the area can be formatted so
-ream-by : (a l z v n k : Bool) → isAccepted (pick a (answer 1 0) (pick (not l) (answer 2 0) (pick (z || v) (answer 3 0) (pick (not n) (answer 4 0) (pick k (answer 5 0) accepted))))) ≡ (not a && l && not z && not v && n && not k)
-ream-by true l z v n k = refl
-ream-by false false z v n k = refl
-ream-by false true true v n k = refl
-ream-by false true false true n k = refl
-ream-by false true false false false k = refl
-ream-by false true false false true true = refl
-ream-by false true false false true false = refl
+ream-by : (a l z v r n k : Bool) → isAccepted (pick a (answer 1 0) (pick (not l) (answer 2 0) (pick (z || v) (answer 3 0) (pick (not r) (answer 17 0) (pick (not n) (answer 4 0) (pick k (answer 5 0) accepted)))))) ≡ (not a && l && not z && not v && r && n && not k)
+ream-by true l z v r n k = refl
+ream-by false false z v r n k = refl
+ream-by false true true v r n k = refl
+ream-by false true false true r n k = refl
+ream-by false true false false false n k = refl
+ream-by false true false false true false k = refl
+ream-by false true false false true true true = refl
+ream-by false true false false true true false = refl
 
 -- orders and their denials
 positive : (v : ℕ) (t : Bool) → eqb v 0 ≡ t → not t ≡ ltb 0 v
@@ -52,7 +53,7 @@ at-most v m false e = sym (le-leb v m (ltb-false m v e))
 ream-accepted : (area : List ℕ) (format : Format) → isAccepted (answerOf (Ream format) area) ≡ formattable area format
 unfolding answerOf rowsOf admission reamRows firstRow formattable
 ream-accepted area format =
-    ream-by (areaBad area) (eqb (format .layout) 1 || eqb (format .layout) 2) (eqb (format .volume) 0) (ltb 14336 (format .volume)) (isName (format .name)) (ltb (blockCount area) (costIn format))
+    ream-by (areaBad area) (eqb (format .layout) 1 || eqb (format .layout) 2) (eqb (format .volume) 0) (ltb 14336 (format .volume)) (revisionOk (format .revision)) (isName (format .name)) (ltb (blockCount area) (costIn format))
     ∙ rw (positive (format .volume) (eqb (format .volume) 0) refl, at-most (format .volume) 14336 (ltb 14336 (format .volume)) refl, at-most (costIn format) (blockCount area) (ltb (blockCount area) (costIn format)) refl)
 
 ream-formats : (area : List ℕ) (format : Format) → isAccepted (answerOf (Ream format) area) ≡ true → step (Ream format) area .card ≡ formatted area format

@@ -1,7 +1,7 @@
 -- On two cards that agree, a write, a snap and a revert make the same stores, and store every block that they take.
 use mathlib.Core.Path.{_≡_, refl}
-use mathlib.Core.List.{List, []}
-use Prim.Native.Nat.{ℕ, zero, suc, _+_, _-_, _≤_, _<_}
+use mathlib.Core.List.{List, [], _∷_, _++_}
+use Prim.Native.Nat.{ℕ, _+_, _-_, _≤_, _<_}
 use native.Mathlib.Omega.{arith}
 use Rattle.blocks.specs.Bytes.{blockAt}
 use Rattle.blocks.specs.Descriptor.{costOf, tailAt, copying}
@@ -9,6 +9,7 @@ use Rattle.chains.specs.Chain.{activeOf, chain}
 use Rattle.blocks.specs.declared.numbers.Physical.{Physical}
 use Rattle.blocks.specs.declared.descriptor.Descriptor.{Descriptor}
 use Rattle.blocks.proofs.DescriptorLaws.{cost-least}
+use Rattle.blocks.proofs.StoreLists.{copying-same}
 use Rattle.entries.specs.Entry.{find}
 use Rattle.entries.specs.declared.find.Found.the-variants.{Entry}
 use Rattle.entries.proofs.EntryLaws.{found-table}
@@ -16,13 +17,15 @@ use Rattle.calls.specs.declared.answer.Target.the-variants.{Active}
 use Rattle.calls.specs.Parts.{descriptorsOf, snapshotsOf, withName}
 use Rattle.calls.specs.Effect.{snapping, reverting, writeStores, snapStores, revertStores}
 use Rattle.claims.specs.History.{betaOf, Agree}
-use Rattle.links.proofs.SharedLaws.{shared-bytes}
+use Rattle.links.proofs.SharedLaws.{shared-bytes, below-revision}
 use Rattle.claims.proofs.Agreement.{agree-below, agree-chain, found-same}
 use Rattle.calls.proofs.Passed.{WritePassed, SnapPassed, RevertPassed}
 use Rattle.calls.proofs.ActiveLaws.{active-target, active-rise, active-through, active-long}
 use Rattle.calls.proofs.CardLaws.{chain-is}
 use Rattle.entries.proofs.PutLaws.{writing-same}
-use Rattle.changes.proofs.RevertedChain.{reverted-below}
+use Rattle.links.proofs.MemberLaws.{member-long}
+use Rattle.calls.proofs.VisitLaws.{before, behind}
+use Rattle.changes.proofs.RevertedChain.{revert-split, visit-below}
 
 module _ (s t : List ℕ) (agree : Agree s t) where
   abbrev ds : List Descriptor
@@ -45,9 +48,7 @@ module _ (s t : List ℕ) (agree : Agree s t) where
       shared-bytes s t p (omega (arith, b .inside, beta-is)) (omega (arith, b .inside, b .long, beta-is)) (below-block p h) 40 472 (omega arith)
 
   same-copies : (from p n : ℕ) → from + n ≤ d .beta .0 → copying s from p n ≡ copying t from p n
-  unfolding copying
-  same-copies from p zero h = refl
-  same-copies from p (suc n) h = rw (below-block from (omega arith), same-copies (suc from) (suc p) n (omega arith))
+  same-copies = copying-same s t (d .beta .0) below-block
 
   -- a revert
   module _ (name : List ℕ) (e : RevertPassed s name) where
@@ -57,9 +58,21 @@ module _ (s t : List ℕ) (agree : Agree s t) where
     abbrev v : Descriptor
     v = withName ss name
 
+    v-below : (v .alpha .0 < v .beta .0) × (v .beta .0 ≤ d .beta .0)
+    v-below = visit-below s name e
+
+    v-long : v .alpha .0 + costOf v ≤ v .beta .0
+    v-long = member-long s ds (before ss name) v (behind ss name ++ (d ∷ [])) (chain-is (chain s) (e .sound)) (revert-split s name e)
+
     pub same-revert : revertStores s name ≡ revertStores t name
     unfolding revertStores reverting
-    same-revert = rw (← (agree-chain s t agree), below-tail (v .alpha .0) (omega (arith, reverted-below s name e .0, reverted-below s name e .1)))
+    same-revert =
+        rw (
+          ← (agree-chain s t agree),
+          below-revision s t (betaOf s) (agree-below s t agree),
+          below-tail (v .alpha .0) (omega (arith, v-below .0, v-below .1)),
+          same-copies (v .alpha .0 + 1) (v .beta .0 + 1) (costOf v - 1) (omega (arith, v-long, v-below .1, cost-least (v .layout) (v .volume))),
+        )
 
   -- a snap
   module _ (name : List ℕ) (e : SnapPassed s name) where

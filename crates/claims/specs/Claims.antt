@@ -1,6 +1,6 @@
 -- What is claimed of the calls, each claim a theorem in proofs/: areas and names, refusals and their places, room, check, the algorithms, the ledger over whole lists of calls, and the rollback claim.
 -- A card area and what is written to it are bytes; the claims that need it say so by AreBytes. What stands in quotation marks is from the order's three
--- demands, which README gives, or from document 01.
+-- demands, which README gives, or from document 01; what is from document 02 says so.
 use mathlib.Core.Path.{_≡_}
 use mathlib.Core.Logic.{_⊎_, _↔_}
 use mathlib.Core.Bool.{Bool, true, false, not, _&&_, _||_}
@@ -9,9 +9,9 @@ use Prim.Native.Nat.{ℕ, suc, _+_, _*_, _/_, _%_, _<_, _≤_}
 use lib.ListN.{length, take, drop, getD, replicate}
 use Rattle.blocks.specs.Pick.{pick, same}
 use lib.Dec.{eqb}
-use Rattle.blocks.specs.Bytes.{blockSize, blockCount, blockAt, zeroBlock}
+use Rattle.blocks.specs.Bytes.{blockSize, le32, blockCount, blockAt, zeroBlock}
 use Rattle.blocks.specs.Name.{isName}
-use Rattle.blocks.specs.Descriptor.{physical, noDescriptor, tableSize, tailSize, tableCount, costOf, firstOf, descriptorBlock, renamedOf, linkedOf, extendedOf, reopenedOf, costIn}
+use Rattle.blocks.specs.Descriptor.{physical, noDescriptor, tableSize, tableCount, costOf, revisionOf, firstOf, descriptorBlock, renamedOf, linkedOf, extendedOf, reopenedOf, costIn}
 use Rattle.chains.specs.Chain.{Sound, Unsound, chain, chainSound, indexOf, named, activeOf}
 use Rattle.chains.specs.Chained.{FirstUnsound, Chained}
 use Rattle.blocks.specs.declared.descriptor.Descriptor.{Descriptor}
@@ -24,9 +24,10 @@ use Rattle.calls.specs.declared.answer.Record.{Record}
 use Rattle.calls.specs.Call.{Call, Ream, Read, Write, Snap, Revert, Listing, Check, Lent, None, Block, Records, answer, accepted, NoneGiven}
 use Rattle.calls.specs.Parts.{areaBad, descriptorsOf, snapshotsOf, withName, isSnapshot, targetOf, foundThrough}
 use Rattle.calls.specs.Check.{Passes}
+use Rattle.calls.specs.Effect.{staying}
 use Rattle.calls.specs.Ladder.{row}
 use Rattle.calls.specs.Meaning.{rowsOf, answerOf}
-use Rattle.claims.specs.Algorithms.{closeRegion, algorithm1, algorithm2, algorithm3, algorithm4, algorithm5, algorithm6}
+use Rattle.claims.specs.Algorithms.{copyRange, closeRegion, openRegion, algorithm1, algorithm2, algorithm3, algorithm4, algorithm5, algorithm6}
 use Rattle.calls.specs.Step.{step, after, outcomes, isAccepted}
 use Rattle.claims.specs.Kinds.{Kind, Formats, Leaves, Writes, Snaps, Reverts, kindOf}
 use Rattle.claims.specs.History.{betaOf, Agree, isReam, isFormat, AreBytes, writtenBy, Standing, isSnapOf, Position, Nowhere, At, latestSnap, without, formattable, formatted}
@@ -82,7 +83,8 @@ ReamClaim =
     × (formattable area format ≡ true → step (Ream format) area .card ≡ formatted area format)
 
 -- The whole chain after an accepted call: a write moves the active beta by its need, a snap opens a region of c blocks at beta, a revert goes back to
--- the snapshot's region, with those before it. The active name stays, and every other descriptor is as it was.
+-- the snapshot's region, with those before it; on revision 1 the snapshot stays too, and a region opens at its beta (02, W5). The active name stays, and every
+-- other descriptor is as it was.
 pub record MovesBeta (c : List ℕ) : Type 0 where
   pub write : (l : ℕ) (block : List ℕ) → isAccepted (answerOf (Write l block) c) ≡ true
       → descriptorsOf (step (Write l block) c .card)
@@ -90,21 +92,25 @@ pub record MovesBeta (c : List ℕ) : Type 0 where
   pub snap : (name : List ℕ) → isAccepted (answerOf (Snap name) c) ≡ true
       → descriptorsOf (step (Snap name) c .card)
       ≡ snapshotsOf (descriptorsOf c) ++ (linkedOf (renamedOf (activeOf (descriptorsOf c)) name) (activeOf (descriptorsOf c) .beta) ∷ reopenedOf (activeOf (descriptorsOf c)) ∷ [])
-  pub revert : (name : List ℕ) → isAccepted (answerOf (Revert name) c) ≡ true
+  pub revert : (name : List ℕ) → isAccepted (answerOf (Revert name) c) ≡ true → revisionOf c ≡ 0
       → let ss = snapshotsOf (descriptorsOf c) in
       descriptorsOf (step (Revert name) c .card)
       ≡ take (indexOf ss name) ss ++ (linkedOf (renamedOf (withName ss name) (activeOf (descriptorsOf c) .name)) (physical 0) ∷ [])
+  pub revert-1 : (name : List ℕ) → isAccepted (answerOf (Revert name) c) ≡ true → revisionOf c ≡ 1
+      → let ss = snapshotsOf (descriptorsOf c) in
+      descriptorsOf (step (Revert name) c .card)
+      ≡ take (suc (indexOf ss name)) ss ++ (reopenedOf (linkedOf (renamedOf (withName ss name) (activeOf (descriptorsOf c) .name)) (physical 0)) ∷ [])
 
 unfoldable pub RoomClaim : Type 0
 RoomClaim = (c : List ℕ) → MovesBeta c
 
--- Every call but an accepted format, on a card with a sound chain, leaves a sound chain with the same layout, L and active name.
+-- Every call but an accepted format, on a card with a sound chain, leaves a sound chain with the same revision, layout, L and active name.
 unfoldable pub SoundClaim : Type 0
 SoundClaim =
     (k : Call) (c : List ℕ) → chainSound (chain c) ≡ true → isFormat k c ≡ false
     → let d = activeOf (descriptorsOf c) in
     let e = activeOf (descriptorsOf (step k c .card)) in
-    (chainSound (chain (step k c .card)) ≡ true) × (e .layout ≡ d .layout) × (e .volume ≡ d .volume) × (e .name ≡ d .name)
+    (chainSound (chain (step k c .card)) ≡ true) × (revisionOf (step k c .card) ≡ revisionOf c) × (e .layout ≡ d .layout) × (e .volume ≡ d .volume) × (e .name ≡ d .name)
 
 -- a kind that stores nothing; a call of that kind; a call that fills what is lent
 unfoldable pub leaves : Kind → Bool
@@ -269,10 +275,16 @@ pub record FollowsAlgorithms (c : List ℕ) : Type 0 where
   pub snap : (name : List ℕ) → isAccepted (answerOf (Snap name) c) ≡ true → (p : ℕ) → p < blockCount c
       → let d = activeOf (descriptorsOf c) in
       blockAt (step (Snap name) c .card) p ≡ pick (eqb (d .layout) 1) (algorithm3 (blockAt c) (d .alpha .0) (tableCount (d .volume)) name) (algorithm6 (blockAt c) (d .alpha .0) name) p
-  -- "Revert gives the snapshot's descriptor the active name and a nil next", and no other byte changes
-  pub revert : (name : List ℕ) → isAccepted (answerOf (Revert name) c) ≡ true → (p : ℕ) → p < blockCount c
+  -- "Revert gives the snapshot's descriptor the active name and a nil next", and no other byte changes; on revision 1 (02, W5) it "leaves the snapshot's
+  -- descriptor as it is and opens a new active region from it, at its beta, as snap does, under the active name": a copy of c blocks, and in the first of
+  -- them name, next, alpha and beta
+  pub revert : (name : List ℕ) → isAccepted (answerOf (Revert name) c) ≡ true → revisionOf c ≡ 0 → (p : ℕ) → p < blockCount c
       → let v = withName (snapshotsOf (descriptorsOf c)) name in
       blockAt (step (Revert name) c .card) p ≡ closeRegion (blockAt c) (v .alpha .0) 0 (activeOf (descriptorsOf c) .name) p
+  pub revert-1 : (name : List ℕ) → isAccepted (answerOf (Revert name) c) ≡ true → revisionOf c ≡ 1 → (p : ℕ) → p < blockCount c
+      → let v = withName (snapshotsOf (descriptorsOf c)) name in
+      blockAt (step (Revert name) c .card) p
+      ≡ openRegion (closeRegion (copyRange (blockAt c) (v .alpha .0) (v .beta .0) (costOf v)) (v .beta .0) 0 (activeOf (descriptorsOf c) .name)) (v .beta .0) (costOf v) p
 
 unfoldable pub AlgorithmClaim : Type 0
 AlgorithmClaim = (c : List ℕ) → AreBytes c → FollowsAlgorithms c
@@ -319,7 +331,7 @@ LedgerClaim =
 
 -- the ledger that a format starts: no snapshots, and a volume of zeros
 abbrev pub firstLedger : Format → Ledger
-firstLedger format = record { snapshots = []; active = record { name = format .name; cells = replicate (format .volume) zeroBlock } }
+firstLedger format = record { revision = format .revision; snapshots = []; active = record { name = format .name; cells = replicate (format .volume) zeroBlock } }
 
 -- From a format the ledger starts with no snapshots and a volume of zeros, and the card passes, whatever the area held.
 unfoldable pub FormatClaim : Type 0
@@ -328,7 +340,8 @@ FormatClaim =
     → Passes (formatted area format)
     × (ledgerOf (formatted area format) ≡ firstLedger format)
     × (descriptorsOf (formatted area format) ≡ firstOf format ∷ [])
-    × (blockAt (formatted area format) 0 ≡ descriptorBlock (firstOf format) (replicate tailSize 0))
+    × (blockAt (formatted area format) 0 ≡ descriptorBlock (firstOf format) (le32 (format .revision) ++ replicate 468 0))
+    × (revisionOf (formatted area format) ≡ format .revision)
     × ((p : ℕ) → 0 < p → p < costIn format → blockAt (formatted area format) p ≡ zeroBlock)
     × (drop (blockSize * costIn format) (formatted area format) ≡ drop (blockSize * costIn format) area)
 
@@ -364,11 +377,12 @@ pub record LastSnap (v s : List ℕ) (ks : List Call) (i : ℕ) : Type 0 where
   pub later : Unsnapped v (after (take (suc i) ks) s) (drop (suc i) ks)
 
 -- What a rollback to the visit v at position k comes to, given the latest accepted snap of v before it.
--- At i: "forget the calls from that visit's latest accepted snapshot up to and including the rollback and run the shorter list from the same start";
--- the card right after the revert is compared with the card after the calls before the forgotten ones.
+-- At i: "forget the calls from that visit's latest accepted snapshot up to and including the rollback and run the shorter list from the same start"; on
+-- revision 1 "the forgotten calls begin after the snap" (02, W5). The card right after the revert is compared with the card after the calls before the
+-- forgotten ones.
 -- Nowhere: no snap of v is accepted before it, and v stands on the starting card; all calls before the rollback are forgotten, the rollback stays and is accepted there too.
 unfoldable pub Forgets : List ℕ → List ℕ → List Call → ℕ → Position → Type 0
-Forgets s v ks k (At i) = LastSnap v s (take k ks) i × Matched s ks (suc k) (without ks i k) i
+Forgets s v ks k (At i) = let stay = staying (revisionOf s) i in LastSnap v s (take k ks) i × Matched s ks (suc k) (without ks stay k) stay
 Forgets s v ks k Nowhere =
     Unsnapped v s (take k ks) × (named (snapshotsOf (descriptorsOf s)) v ≡ true) × (isAccepted (answerOf (Revert v) s) ≡ true) × Matched s ks (suc k) (drop k ks) 1
 
@@ -378,7 +392,7 @@ pub record RevertedAt (s : List ℕ) (ks : List Call) (k : ℕ) (v : List ℕ) :
   pub is : getD ks k Check ≡ Revert v
   pub accepted-there : isAccepted (answerOf (Revert v) (after (take k ks) s)) ≡ true
 
--- For any card with a sound chain, any list of calls in which no format is accepted, and every accepted revert in it, by itself.
+-- For any card with a sound chain, of either revision, any list of calls in which no format is accepted, and every accepted revert in it, by itself.
 unfoldable pub RollbackClaim : Type 0
 RollbackClaim =
     (s : List ℕ) (ks : List Call) → AreBytes s → chainSound (chain s) ≡ true → Standing s ks
@@ -392,11 +406,11 @@ SnapshotClaim =
     → (k : ℕ) (v : List ℕ) → RevertedAt (formatted area format) ks k v
     → (i : ℕ) × (i < k) × (latestSnap v (formatted area format) (take k ks) ≡ At i) × LastSnap v (formatted area format) (take k ks) i
 
--- Demand 3, whole: the list starts from all N blocks as an accepted ream left them, in either layout.
+-- Demand 3, whole: the list starts from all N blocks as an accepted ream left them, in either layout and of either revision.
 unfoldable pub Demand3 : Type 0
 Demand3 =
     (area : List ℕ) (format : Format) → AreBytes area → formattable area format ≡ true
     → (ks : List Call) → Standing (formatted area format) ks
     → (k : ℕ) (v : List ℕ) → RevertedAt (formatted area format) ks k v
     → (i : ℕ) × (i < k) × (latestSnap v (formatted area format) (take k ks) ≡ At i) × LastSnap v (formatted area format) (take k ks) i
-    × Matched (formatted area format) ks (suc k) (without ks i k) i
+    × (let stay = staying (format .revision) i in Matched (formatted area format) ks (suc k) (without ks stay k) stay)

@@ -8,7 +8,7 @@ use lib.Dec.{eqb, ltb, leb}
 use Rattle.blocks.specs.Pick.{pick, same}
 use Rattle.blocks.specs.Bytes.{blockSize, blockCount, storeAll}
 use Rattle.blocks.specs.Name.{isName}
-use Rattle.blocks.specs.Descriptor.{mostVolume, opening, costIn}
+use Rattle.blocks.specs.Descriptor.{mostVolume, revisionOk, opening, costIn}
 use Rattle.chains.specs.Chain.{chain, chainSound, activeOf}
 use Rattle.calls.specs.Call.{Call}
 use Rattle.calls.specs.Parts.{areaBad, descriptorsOf}
@@ -93,14 +93,14 @@ latestFrom name c (k ∷ ks) i best =
 unfoldable pub latestSnap : List ℕ → List ℕ → List Call → Position
 latestSnap name c ks = latestFrom name c ks 0 Nowhere
 
--- the list without the calls from position i up to and including position k: those that the rollback at k forgets, where the visit's latest accepted snap is at i
+-- the list without the calls from position i up to and including position k: those that the rollback at k forgets
 unfoldable pub without : List Call → ℕ → ℕ → List Call
 without ks i k = take i ks ++ drop (suc k) ks
 
--- what a card can be formatted to: the area is a card, and layout, L, name and c are those of one
+-- what a card can be formatted to: the area is a card, and layout, L, revision, name and c are those of one
 unfoldable pub formattable : List ℕ → Format → Bool
 formattable area format =
-    not (areaBad area) && (eqb (format .layout) 1 || eqb (format .layout) 2) && ltb 0 (format .volume) && leb (format .volume) mostVolume && isName (format .name) && leb (costIn format) (blockCount area)
+    not (areaBad area) && (eqb (format .layout) 1 || eqb (format .layout) 2) && ltb 0 (format .volume) && leb (format .volume) mostVolume && revisionOk (format .revision) && isName (format .name) && leb (costIn format) (blockCount area)
 
 -- all N blocks as an accepted ream leaves them, whatever the untouched blocks held
 unfoldable pub formatted : List ℕ → Format → List ℕ

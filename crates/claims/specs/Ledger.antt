@@ -1,11 +1,13 @@
--- The ledger: an ordered list of named volumes, one for each snapshot, and an active one. Its step knows no bytes of a card, no alpha, no beta and no tables.
+-- The ledger: an ordered list of named volumes, one for each snapshot, an active one, and the revision, by which a rollback goes. Its step knows no bytes of a
+-- card, no alpha, no beta and no tables.
 use mathlib.Core.Bool.{Bool, false, not, _&&_, _||_}
 use mathlib.Core.List.{List, [], _∷_, _++_}
 use Prim.Native.Nat.{ℕ, zero, suc}
 use lib.ListN.{length, getD, set}
-use lib.Dec.{ltb, leb}
+use lib.Dec.{eqb, ltb, leb}
 use Rattle.blocks.specs.Pick.{pick, same}
 use Rattle.blocks.specs.Name.{isName, noName}
+use Rattle.blocks.specs.Descriptor.{revisionOf}
 use Rattle.blocks.specs.declared.descriptor.Descriptor.{Descriptor}
 use Rattle.chains.specs.Chain.{activeOf}
 use Rattle.calls.specs.declared.answer.Target.{Target}
@@ -21,13 +23,14 @@ pub record Volume : Type 0 where
   pub cells : List (List ℕ)
 
 pub record Ledger : Type 0 where
+  pub revision : ℕ
   pub snapshots : List Volume
   pub active : Volume
 
 abbrev pub noVolume : Volume
 noVolume = record { name = noName; cells = [] }
 
--- whether a volume has the name; the volume that has it; those before it
+-- whether a volume has the name; the volume that has it; those that stay at a rollback to it: those before it, and on revision 1 it too
 unfoldable pub hasVolume : List Volume → List ℕ → Bool
 hasVolume [] name = false
 hasVolume (v ∷ vs) name = same (v .name) name || hasVolume vs name
@@ -36,17 +39,18 @@ unfoldable pub volumeNamed : List Volume → List ℕ → Volume
 volumeNamed [] name = noVolume
 volumeNamed (v ∷ vs) name = pick (same (v .name) name) v (volumeNamed vs name)
 
-unfoldable pub volumesBefore : List Volume → List ℕ → List Volume
-volumesBefore [] name = []
-volumesBefore (v ∷ vs) name = pick (same (v .name) name) [] (v ∷ volumesBefore vs name)
+unfoldable pub volumesKept : ℕ → List Volume → List ℕ → List Volume
+volumesKept revision [] name = []
+volumesKept revision (v ∷ vs) name = pick (same (v .name) name) (pick (eqb revision 1) (v ∷ []) []) (v ∷ volumesKept revision vs name)
 
 -- what an accepted call makes of the ledger
 unfoldable pub ledgerChange : Kind → Ledger → Ledger
 ledgerChange (Formats format) g = g
 ledgerChange Leaves g = g
-ledgerChange (Writes l block) g = record { snapshots = g .snapshots; active = record { name = g .active .name; cells = set (g .active .cells) l block } }
-ledgerChange (Snaps name) g = record { snapshots = g .snapshots ++ (record { name = name; cells = g .active .cells } ∷ []); active = g .active }
-ledgerChange (Reverts name) g = record { snapshots = volumesBefore (g .snapshots) name; active = record { name = g .active .name; cells = volumeNamed (g .snapshots) name .cells } }
+ledgerChange (Writes l block) g = record { revision = g .revision; snapshots = g .snapshots; active = record { name = g .active .name; cells = set (g .active .cells) l block } }
+ledgerChange (Snaps name) g = record { revision = g .revision; snapshots = g .snapshots ++ (record { name = name; cells = g .active .cells } ∷ []); active = g .active }
+ledgerChange (Reverts name) g =
+    record { revision = g .revision; snapshots = volumesKept (g .revision) (g .snapshots) name; active = record { name = g .active .name; cells = volumeNamed (g .snapshots) name .cells } }
 
 unfoldable pub ledgerStep : Call → Ledger → Ledger
 unfolding kindOf ledgerChange
@@ -91,7 +95,7 @@ namesFrom (v ∷ vs) active = v .name ∷ namesFrom vs active
 unfoldable pub ledgerNames : Ledger → List (List ℕ)
 ledgerNames g = namesFrom (g .snapshots) (g .active .name)
 
--- the ledger of a card: for each descriptor its name and what a read through it gives of each logical block, n of them from l on
+-- the ledger of a card: its revision, and for each descriptor its name and what a read through it gives of each logical block, n of them from l on
 unfoldable pub cellsFrom : List ℕ → Descriptor → ℕ → ℕ → List (List ℕ)
 cellsFrom c d zero l = []
 cellsFrom c d (suc n) l = blockFound c (foundThrough c d l) ∷ cellsFrom c d n (suc l)
@@ -104,4 +108,4 @@ volumesOf c [] = []
 volumesOf c (d ∷ ds) = volumeOf c d ∷ volumesOf c ds
 
 unfoldable pub ledgerOf : List ℕ → Ledger
-ledgerOf c = record { snapshots = volumesOf c (snapshotsOf (descriptorsOf c)); active = volumeOf c (activeOf (descriptorsOf c)) }
+ledgerOf c = record { revision = revisionOf c; snapshots = volumesOf c (snapshotsOf (descriptorsOf c)); active = volumeOf c (activeOf (descriptorsOf c)) }

@@ -4,7 +4,9 @@ pub mod Kinds
 pub mod History
 pub mod Ledger
 pub mod Claims
+pub mod Surviving
 pub mod OnePass
 pub mod Bench
 pub mod Example
 pub mod SecondExample
+pub mod SurvivingExample

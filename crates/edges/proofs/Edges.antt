@@ -14,7 +14,7 @@ use Rattle.calls.proofs.RowLaws.{not-admitted, admission-1}
 use Rattle.claims.specs.Bench.{Result, expected, computed, showing, blockOf}
 use Rattle.claims.proofs.Bench.{apart, betaIn, lastByteIn}
 use Rattle.claims.proofs.Running.{running}
-use Rattle.edges.specs.Edges.{areaEdges, refusedEdges, nameEdges, formEdges, chainEdges, roomEdges, orderEdges, edges, allowed, WrongEdges, NameBytes, SizeEdges}
+use Rattle.edges.specs.Edges.{areaEdges, refusedEdges, nameEdges, formEdges, chainEdges, roomEdges, orderEdges, revisionEdges, edges, allowed, WrongEdges, NameBytes, SizeEdges}
 use Rattle.samples.proofs.FastCheck.{runningOnce}
 use Rattle.samples.proofs.AsSaid.{AsSaid, _and_, quickly}
 use Rattle.blocks.specs.Descriptor.{asFormat}
@@ -47,6 +47,10 @@ order-edges : AsSaid orderEdges
 unfolding runningOnce orderEdges
 order-edges = quickly _ refl
 
+revision-edges : AsSaid revisionEdges
+unfolding runningOnce revisionEdges
+revision-edges = quickly _ refl
+
 whole : AsSaid edges
 unfolding edges
 whole =
@@ -57,6 +61,7 @@ whole =
     and chain-edges
     and room-edges
     and order-edges
+    and revision-edges
 
 pub edge-values : map computed edges ≡ map expected edges
 edge-values = whole .as-said
@@ -69,6 +74,8 @@ wrong-edges = (
   apart (λ (r : Result). betaIn (r .shown)) 2 1 (λ e. omega arith) _ _ refl refl,
   apart (λ (r : Result). lastByteIn (r .shown)) 0 1 (λ e. omega arith) _ _ refl refl,
   apart (λ (r : Result). lastByteIn (r .shown)) 9 0 (λ e. omega arith) _ _ refl refl,
+  apart (λ (r : Result). r .answer .place) 1 0 (λ e. omega arith) _ _ refl refl,
+  apart (λ (r : Result). betaIn (r .shown)) 2 1 (λ e. omega arith) _ _ refl refl,
 )
 
 pub name-bytes : NameBytes

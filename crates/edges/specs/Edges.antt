@@ -8,13 +8,14 @@ use lib.ListN.{length, replicate, set}
 use Rattle.blocks.specs.Pick.{pick}
 use Rattle.blocks.specs.Bytes.{zeroBlock}
 use Rattle.blocks.specs.Name.{nameByte, isName, noName}
-use Rattle.blocks.specs.Descriptor.{asFormat}
+use Rattle.blocks.specs.Descriptor.{asFormat, formatOf}
 use Rattle.calls.specs.declared.answer.Target.the-variants.{Active, Snapshot}
 use Rattle.calls.specs.Call.{Call, Ream, Read, Write, Snap, Revert, Listing, Check, answer}
 use Rattle.calls.specs.Meaning.{answerOf}
+use Rattle.calls.specs.Step.{step}
 use Rattle.claims.specs.Bench.{Value, Differs, area, ones, fs, mon, tue, lent}
 use Rattle.claims.specs.Example.{blank}
-use Rattle.samples.specs.Samples.{descriptor, bare, withTailByte, table, literal, snapText, oneByte, long, wed, oneBlock, first, one, two, twoNames, second1, second2, apart1, apart2, later, tabled, three, four, empty, threeSnapshots, reading, readingFrom, only, showingBeta, showingBlock, refusing}
+use Rattle.samples.specs.Samples.{descriptor, bare, withTailByte, table, literal, snapText, oneByte, long, wed, revised, pairOf, pairOf1, visits, oneBlock, first, one, two, twoNames, second1, second2, apart1, apart2, later, tabled, three, four, empty, threeSnapshots, reading, readingFrom, only, showingBeta, showingBlock, refusing}
 
 unfoldable pub areaEdges : List Value
 areaEdges =
@@ -114,8 +115,8 @@ formEdges =
     ∷ only (first 2 1 (oneByte 47)) (Listing []) 6 0
     ∷ only (first 1 1 noName) (Listing []) 6 0
     ∷ only (first 1 1 (oneByte 47)) (Listing []) 6 0
-    -- byte 40, 50 or 63 is set
-    ∷ only (withTailByte 0 (descriptor 2 1 0 2 0 fs) ++ zeroBlock) (Listing []) 6 0
+    -- byte 44, 50 or 63 is set
+    ∷ only (withTailByte 4 (descriptor 2 1 0 2 0 fs) ++ zeroBlock) (Listing []) 6 0
     ∷ only (withTailByte 10 (descriptor 2 1 0 2 0 fs) ++ zeroBlock) (Listing []) 6 0
     ∷ only (withTailByte 23 (descriptor 2 1 0 2 0 fs) ++ zeroBlock) (Listing []) 6 0
     -- byte 64 or 511 is set, in layout 2; byte 64, 240 or 511 in layout 1
@@ -124,8 +125,9 @@ formEdges =
     ∷ only (withTailByte 24 (descriptor 1 1 0 2 0 fs) ++ zeroBlock) (Listing []) 6 0
     ∷ only (withTailByte 200 (descriptor 1 1 0 2 0 fs) ++ zeroBlock) (Listing []) 6 0
     ∷ only (withTailByte 471 (descriptor 1 1 0 2 0 fs) ++ zeroBlock) (Listing []) 6 0
-    -- in the second descriptor: byte 40, 63 or 64 in layout 2; byte 40, 64 or 511 in layout 1; no name
+    -- in the second descriptor: byte 40, 44, 63 or 64 in layout 2; byte 40, 64 or 511 in layout 1; no name
     ∷ only (second2 0) (Listing []) 6 1
+    ∷ only (second2 4) (Listing []) 6 1
     ∷ only (second2 23) (Listing []) 6 1
     ∷ only (second2 24) (Listing []) 14 0
     ∷ only (second1 0) (Listing []) 6 2
@@ -231,7 +233,7 @@ orderEdges =
     ∷ only (area 2) (Revert mon) 6 0
     ∷ only (one 2 1) (Snap fs) 6 0
     ∷ only (area 2) (Listing []) 6 0
-    ∷ only (withTailByte 0 (descriptor 1 1 0 2 0 fs) ++ table 9 0) Check 6 0
+    ∷ only (withTailByte 4 (descriptor 1 1 0 2 0 fs) ++ table 9 0) Check 6 0
     -- 7 before 8, and the active name is no snapshot's
     ∷ only (four 1 3 1 2 0) (Read Snapshot fs 9 lent) 7 0
     ∷ only (four 1 3 1 2 0) (reading 1) 8 0
@@ -256,6 +258,70 @@ orderEdges =
     ∷ only (four 2 4 0 0 0) (Snap fs) 12 0
     ∷ []
 
+-- the card after a revert that is accepted
+abbrev pub back : List ℕ → List ℕ → List ℕ
+back card name = step (Revert name) card .card
+
+-- The revision, as 02 says (W5).
+unfoldable pub revisionEdges : List Value
+revisionEdges =
+    -- given to a ream: 1; 2, 256 and 2^32 - 1
+    showingBeta (area 2) (Ream (formatOf 2 1 1 fs)) 1
+    ∷ only (area 2) (Ream (formatOf 2 1 2 fs)) 17 0
+    ∷ only (area 2) (Ream (formatOf 2 1 256 fs)) 17 0
+    ∷ only (area 2) (Ream (formatOf 2 1 4294967295 fs)) 17 0
+    -- 1, 2 and 3 before 17, 17 before 4 and 5
+    ∷ only (replicate 1025 0) (Ream (formatOf 9 0 2 [])) 1 0
+    ∷ only (area 2) (Ream (formatOf 3 0 2 noName)) 2 0
+    ∷ only (area 2) (Ream (formatOf 2 0 2 noName)) 3 0
+    ∷ only (area 2) (Ream (formatOf 1 129 2 noName)) 17 0
+    ∷ only (area 2) (Ream (formatOf 1 129 2 fs)) 17 0
+    ∷ only (area 2) (Ream (formatOf 1 129 1 noName)) 4 0
+    ∷ only (area 2) (Ream (formatOf 1 129 1 fs)) 5 0
+    -- stored in block 0: 1; 2, 256, 65,536 and 2^32 - 1
+    ∷ only (revised 1) (Listing []) 14 0
+    ∷ only (revised 2) (Listing []) 6 0
+    ∷ only (revised 256) (Listing []) 6 0
+    ∷ only (revised 65536) (Listing []) 6 0
+    ∷ only (revised 4294967295) (Listing []) 6 0
+    -- in the second descriptor: block 0's, or another; in block 0 and in the second one such that is none
+    ∷ only (pairOf 1 1) (Listing []) 14 0
+    ∷ only (pairOf 0 1) (Listing []) 6 1
+    ∷ only (pairOf 1 0) (Listing []) 6 1
+    ∷ only (pairOf 1 257) (Listing []) 6 1
+    ∷ only (pairOf 2 2) (Listing []) 6 0
+    ∷ only (pairOf1 1 1) (Listing []) 14 0
+    ∷ only (pairOf1 0 1) (Listing []) 6 2
+    ∷ only (pairOf1 1 0) (Listing []) 6 2
+    -- beta = N, and the active descriptor stands at the visit's beta: no room for a snap, and a revert needs none; on revision 0 it gives blocks back
+    ∷ only (pairOf 1 1) (Snap tue) 11 0
+    ∷ showingBeta (pairOf 1 1) (Revert mon) 2
+    ∷ showingBeta (pairOf 0 0) (Revert mon) 1
+    ∷ only (pairOf1 1 1) (Snap tue) 11 0
+    ∷ showingBeta (pairOf1 1 1) (Revert mon) 4
+    ∷ showingBeta (pairOf1 0 0) (Revert mon) 2
+    -- the visit is still there, under its name: to be read, to be rolled back to again, and not to be snapped anew; on revision 0 it is not
+    ∷ showingBlock (back (pairOf 1 1) mon) (readingFrom mon 0) zeroBlock
+    ∷ showingBeta (back (pairOf 1 1) mon) (Revert mon) 2
+    ∷ only (back (pairOf 1 1) mon) (Snap mon) 12 0
+    ∷ only (back (pairOf 0 0) mon) (readingFrom mon 0) 7 0
+    ∷ only (back (pairOf 0 0) mon) (Revert mon) 7 0
+    ∷ showingBeta (back (pairOf 0 0) mon) (Snap mon) 2
+    -- the first of three visits, and to it again: those after it are gone; to the second, and to the first after it
+    ∷ showingBeta (visits 1) (Revert mon) 2
+    ∷ showingBeta (back (visits 1) mon) (Revert mon) 2
+    ∷ only (back (visits 1) mon) (Revert tue) 7 0
+    ∷ only (back (visits 1) mon) (Listing (blank ∷ [])) 14 0
+    ∷ showingBeta (back (visits 1) mon) (Listing (blank ∷ blank ∷ [])) 2
+    ∷ showingBeta (visits 1) (Revert tue) 3
+    ∷ showingBeta (back (visits 1) tue) (Revert mon) 2
+    ∷ only (back (visits 1) tue) (Revert wed) 7 0
+    -- the ladder of a revert is the same: 4, 6 and 7
+    ∷ only (visits 1) (Revert noName) 4 0
+    ∷ only (pairOf 1 0) (Revert mon) 6 1
+    ∷ only (visits 1) (Revert fs) 7 0
+    ∷ []
+
 unfoldable pub edges : List Value
 edges =
     areaEdges
@@ -265,6 +331,7 @@ edges =
     ++ chainEdges
     ++ roomEdges
     ++ orderEdges
+    ++ revisionEdges
 
 -- the numbers below n that a test allows, rising
 unfoldable pub allowed : (ℕ → Bool) → ℕ → List ℕ
@@ -299,3 +366,5 @@ WrongEdges =
     × Differs (showingBeta (one 1 0) (Snap mon) 1)
     × Differs (showingBlock (one 2 0) (reading 0) (set zeroBlock 511 1))
     × Differs (refusing (one 2 0) (reading 1) 8 0 zeroBlock)
+    × Differs (only (pairOf 0 1) (Listing []) 6 0)
+    × Differs (showingBeta (pairOf 1 1) (Revert mon) 1)

@@ -44,6 +44,7 @@ fn run_ream(
     let format = Format {
         layout,
         volume,
+        revision: 0,
         name,
     };
     let answer = ream::ream(&mut area[..end], format);

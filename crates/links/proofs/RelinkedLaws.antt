@@ -12,7 +12,7 @@ use Rattle.chains.specs.Chain.{sound}
 use Rattle.blocks.specs.declared.descriptor.Descriptor.{Descriptor}
 use Rattle.blocks.proofs.DescriptorLaws.{cost-least}
 use Rattle.links.proofs.LinkedLaws.{Linked, last, more, sound-alpha, sound-long, sound-next, linked-some}
-use Rattle.links.proofs.SharedLaws.{shared-descriptor, shared-sound}
+use Rattle.links.proofs.SharedLaws.{shared-descriptor, shared-revision, shared-sound}
 
 -- where the descriptors of a chain stand
 module _ (s : List ℕ) where
@@ -46,6 +46,16 @@ module _ (s : List ℕ) where
   linked-next (last {d = e} is ok z) d q = let k : e ≡ d = cc in rw (← k) z
   linked-next (more {d = e} {ds = ds} is ok z rest) d q = let k : ds ≡ [] = cc in absurd (omega (arith, linked-some rest, ap length k))
 
+  pub linked-follows : {es : List Descriptor} {p : ℕ} {ds : List Descriptor} → Linked s es p ds → (d z : Descriptor) (zs : List Descriptor) → ds ≡ d ∷ z ∷ zs → (d .next .0 ≡ d .beta .0) × (z .alpha .0 ≡ d .beta .0)
+  linked-follows (last is ok n) d z zs q = absurd (omega (arith, ap length q))
+  linked-follows (more {es = es} {p = p} {d = e} {ds = ds} is ok n rest) d z zs q =
+      let k : ds ≡ z ∷ zs = cc in
+      let x : e ≡ d = cc in
+      let next = sound-next s es p e is ok n in
+      let alpha = first-alpha rest z zs k in
+      let beta = ap (λ (y : Descriptor). y .beta .0) x in
+      (omega (arith, next, beta, ap (λ (y : Descriptor). y .next .0) x), omega (arith, next, alpha, beta))
+
 -- the descriptors before the one at d stay, where the blocks before it do
 module _ (s t : List ℕ) (long : length s ≡ length t) where
   module _ (d : Descriptor) (ys zs : List Descriptor) (inside : 512 * d .alpha .0 ≤ length s) (kept : (q : ℕ) → q < d .alpha .0 → blockAt s q ≡ blockAt t q) where
@@ -55,7 +65,7 @@ module _ (s t : List ℕ) (long : length s ≡ length t) where
     kept-sound : (es : List Descriptor) (q : ℕ) → q < d .alpha .0 → sound s es q ≡ sound t es q
     kept-sound es q h =
         let first = kept-descriptor 0 (omega arith) in
-        shared-sound s t q (omega arith) (omega arith) (kept q h) long (ap (λ (x : Descriptor). x .layout) first) (ap (λ (x : Descriptor). x .volume) first) es
+        shared-sound s t q (omega arith) (omega arith) (kept q h) long (shared-revision s t 0 (omega arith) (omega arith) (kept 0 (omega arith))) (ap (λ (x : Descriptor). x .layout) first) (ap (λ (x : Descriptor). x .volume) first) es
 
     pub relinked : {es : List Descriptor} {p : ℕ} {ds : List Descriptor} → Linked s es p ds → (xs : List Descriptor) → ds ≡ xs ++ (d ∷ ys) → Linked t (es ++ xs) (d .alpha .0) zs → Linked t es p (xs ++ zs)
     relinked {es = es} h [] q new = rw (← (append-nil es), ← (first-alpha s h d ys q)) new

@@ -8,7 +8,7 @@ use lib.ListN.{length}
 use lib.Seq.{append-snoc}
 use borrow.Author.Tests.{ne-eqb}
 use Rattle.blocks.specs.Bytes.{u32At, part, blockCount, blockAt}
-use Rattle.blocks.specs.Descriptor.{costOf, descriptorAt}
+use Rattle.blocks.specs.Descriptor.{costOf, descriptorAt, revisionAt, revisionOf}
 use Rattle.chains.specs.Chain.{formOk, regionOk, sound, Sound, chainFrom, chain}
 use Rattle.blocks.specs.declared.descriptor.Descriptor.{Descriptor}
 use Rattle.blocks.proofs.ByteLaws.{u32-part, part-part}
@@ -33,15 +33,19 @@ module _ (s t : List ℕ) (p : ℕ) (in-s : 512 * p + 512 ≤ length s) (in-t : 
   shared-descriptor =
       rw (shared-number 4 (omega arith), shared-number 8 (omega arith), shared-number 12 (omega arith), shared-number 16 (omega arith), shared-number 20 (omega arith), shared-bytes 24 16 (omega arith))
 
-  pub shared-form : (d : Descriptor) → formOk s p d ≡ formOk t p d
-  unfolding formOk
-  shared-form d = rw (shared-mark, shared-bytes 40 24 (omega arith), shared-bytes 64 448 (omega arith))
+  pub shared-revision : revisionAt s p ≡ revisionAt t p
+  unfolding revisionAt
+  shared-revision = shared-number 40 (omega arith)
 
-  -- layout and L of block 0
-  module _ (long : length s ≡ length t) (layout : descriptorAt s 0 .layout ≡ descriptorAt t 0 .layout) (volume : descriptorAt s 0 .volume ≡ descriptorAt t 0 .volume) where
+  pub shared-form : revisionOf s ≡ revisionOf t → (d : Descriptor) → formOk s p d ≡ formOk t p d
+  unfolding formOk
+  shared-form e d = rw (shared-mark, e, shared-bytes 40 24 (omega arith), shared-bytes 64 448 (omega arith))
+
+  -- revision, layout and L of block 0
+  module _ (long : length s ≡ length t) (revision : revisionOf s ≡ revisionOf t) (layout : descriptorAt s 0 .layout ≡ descriptorAt t 0 .layout) (volume : descriptorAt s 0 .volume ≡ descriptorAt t 0 .volume) where
     pub shared-sound : (es : List Descriptor) → sound s es p ≡ sound t es p
     unfolding sound regionOk blockCount
-    shared-sound es = rw (shared-descriptor, shared-form (descriptorAt t p), long, layout, volume)
+    shared-sound es = rw (shared-descriptor, shared-form revision (descriptorAt t p), long, layout, volume)
 
 -- descriptors that are linked are a chain
 module _ (c : List ℕ) where
@@ -71,10 +75,13 @@ module _ (s t : List ℕ) (b : ℕ) (same-below : Below s t b) where
   pub below-descriptor : (p : ℕ) → p < b → descriptorAt s p ≡ descriptorAt t p
   below-descriptor p h = shared-descriptor s t p (omega (arith, same-below .inside)) (omega (arith, same-below .inside, same-below .long)) (same-below .blocks p h)
 
+  pub below-revision : revisionOf s ≡ revisionOf t
+  below-revision = shared-revision s t 0 (omega (arith, same-below .inside, same-below .some)) (omega (arith, same-below .inside, same-below .long, same-below .some)) (same-below .blocks 0 (same-below .some))
+
   pub below-sound : (es : List Descriptor) (p : ℕ) → p < b → sound s es p ≡ sound t es p
   below-sound es p h =
       let first = below-descriptor 0 (same-below .some) in
-      shared-sound s t p (omega (arith, same-below .inside)) (omega (arith, same-below .inside, same-below .long)) (same-below .blocks p h) (same-below .long) (ap (λ (d : Descriptor). d .layout) first) (ap (λ (d : Descriptor). d .volume) first) es
+      shared-sound s t p (omega (arith, same-below .inside)) (omega (arith, same-below .inside, same-below .long)) (same-below .blocks p h) (same-below .long) below-revision (ap (λ (d : Descriptor). d .layout) first) (ap (λ (d : Descriptor). d .volume) first) es
 
   pub below-linked : {es : List Descriptor} {p : ℕ} {ds : List Descriptor} → Linked s es p ds → regionStart p ds (length ds) ≤ b → Linked t es p ds
   below-linked (last {es = es} {p = p} {d = d} is ok z) h =

@@ -10,7 +10,7 @@ use borrow.Author.Tests.{eq-eqb, ne-eqb, lt-ltb, le-leb, lt-leb, eqb-false, ltb-
 use Rattle.blocks.specs.Pick.{same, allZero}
 use Rattle.blocks.specs.Bytes.{part}
 use Rattle.blocks.specs.Name.{isName}
-use Rattle.blocks.specs.Descriptor.{mark, descriptorAt, reservedOk, phiOk}
+use Rattle.blocks.specs.Descriptor.{mark, descriptorAt, revisionOf, reservedOk, phiOk}
 use Rattle.chains.specs.Chain.{formOk}
 use Rattle.blocks.specs.declared.descriptor.Descriptor.{Descriptor}
 use Rattle.blocks.proofs.Tests.{and-left, and-right}
@@ -64,9 +64,9 @@ module _ (c : List ℕ) (p : ℕ) (d : Descriptor) (m : Bool) (marked : m ≡ sa
           unfolding formOk
           form-unnamed h = rw (← marked, not-false m is, layout-ok, volume-ok, le-leb (d .volume) 14336 most, ← called, not-true n h)
 
-          module _ (yes-name : not n ≡ false) (z : Bool) (zero : z ≡ reservedOk (take (512 * p + 64 - (512 * p + 40)) (drop (512 * p + 40) c))) where
-            reserved-is : z ≡ reservedOk (part c (512 * p + 40) 24)
-            reserved-is = let e : 512 * p + 64 - (512 * p + 40) ≡ 24 = omega arith in zero ∙ rw e
+          module _ (yes-name : not n ≡ false) (r : ℕ) (revision : r ≡ revisionOf c) (z : Bool) (zero : z ≡ reservedOk r (take (512 * p + 64 - (512 * p + 40)) (drop (512 * p + 40) c))) where
+            reserved-is : z ≡ reservedOk (revisionOf c) (part c (512 * p + 40) 24)
+            reserved-is = let e : 512 * p + 64 - (512 * p + 40) ≡ 24 = omega arith in zero ∙ rw (e, revision)
 
             pub form-reserved : not z ≡ true → false ≡ formOk c p d
             unfolding formOk
@@ -102,8 +102,8 @@ module _ (c : List ℕ) (p : ℕ) (d : Descriptor) (ok : formOk c p d ≡ true) 
   unfolding formOk
   form-to-volume =
       and-left to-volume (isName (d .name))
-      (and-left (to-volume && isName (d .name)) (reservedOk (part c (512 * p + 40) 24))
-      (and-left (to-volume && isName (d .name) && reservedOk (part c (512 * p + 40) 24)) (phiOk (d .layout) (part c (512 * p + 64) 448)) ok))
+      (and-left (to-volume && isName (d .name)) (reservedOk (revisionOf c) (part c (512 * p + 40) 24))
+      (and-left (to-volume && isName (d .name) && reservedOk (revisionOf c) (part c (512 * p + 40) 24)) (phiOk (d .layout) (part c (512 * p + 64) 448)) ok))
 
   form-to-least : (of-mark && of-layout && ltb 0 (d .volume)) ≡ true
   form-to-least = and-left (of-mark && of-layout && ltb 0 (d .volume)) (leb (d .volume) 14336) form-to-volume

@@ -10,9 +10,9 @@ use lib.Seq.{drop-append-add, drop-at}
 use lib.Dec.{eqb, ltb, leb}
 use borrow.Author.Tests.{eq-eqb, le-leb, lt-ltb}
 use Rattle.blocks.specs.Pick.{same}
-use Rattle.blocks.specs.Bytes.{splice, part, blockAt}
+use Rattle.blocks.specs.Bytes.{u32At, splice, part, blockAt}
 use Rattle.blocks.specs.Name.{isName}
-use Rattle.blocks.specs.Descriptor.{costOf, mark, descriptorAt, headBytes, tailAt, descriptorBlock, reservedOk, phiOk}
+use Rattle.blocks.specs.Descriptor.{costOf, mark, descriptorAt, revisionAt, revisionOf, headBytes, tailAt, descriptorBlock, reservedOk, phiOk}
 use Rattle.chains.specs.Chain.{formOk, regionOk}
 use Rattle.blocks.specs.declared.descriptor.Descriptor.{Descriptor}
 use Rattle.blocks.proofs.Tests.{and-left, and-right}
@@ -65,7 +65,7 @@ module _ (c : List ℕ) (p : ℕ) (d : Descriptor) (ok : formOk c p d ≡ true) 
   to-name = same (part c (512 * p) 4) mark && (eqb (d .layout) 1 || eqb (d .layout) 2) && ltb 0 (d .volume) && leb (d .volume) 14336 && isName (d .name)
 
   abbrev of-reserved : Bool
-  of-reserved = reservedOk (part c (512 * p + 40) 24)
+  of-reserved = reservedOk (revisionOf c) (part c (512 * p + 40) 24)
 
   abbrev of-phi : Bool
   of-phi = phiOk (d .layout) (part c (512 * p + 64) 448)
@@ -93,13 +93,22 @@ module _ (c : List ℕ) (p : ℕ) (inside : 512 * p + 512 ≤ length c) (d : Des
   unfolding blockAt
   stored-bytes k n h = sym (part-part c (512 * p) 512 k n h inside) ∙ ap (λ (b : List ℕ). part b k n) is
 
+  pub stored-revision : revisionAt c p ≡ u32At tail 0
+  unfolding revisionAt blockAt
+  stored-revision =
+      sym (u32-part c (512 * p) 512 40 (omega arith))
+      ∙ ap (λ (b : List ℕ). u32At b 40) is
+      ∙ sym (u32-part (descriptorBlock d tail) 40 4 0 (omega arith))
+      ∙ ap (λ (b : List ℕ). u32At b 0) (block-tail d tail fits whole 0 4)
+      ∙ u32-part tail 0 4 0 (omega arith)
+
   pub stored-mark : part c (512 * p) 4 ≡ mark
   stored-mark = let e : 512 * p ≡ 512 * p + 0 = omega arith in ap (λ (n : ℕ). part c n 4) e ∙ stored-bytes 0 4 (omega arith) ∙ block-mark d tail fits whole
 
-  -- its form, where layout, L and name are those of a descriptor and the tail has the zero bytes
+  -- its form, where layout, L and name are those of a descriptor and the tail has the card's revision and the zero bytes
   module _ (old : Descriptor) (layout : d .layout ≡ old .layout) (volume : d .volume ≡ old .volume) (name : isName (d .name) ≡ true)
       (c₀ : List ℕ) (a : ℕ) (formed : formOk c₀ a old ≡ true)
-      (reserved : reservedOk (part tail 0 24) ≡ true) (phi : phiOk (old .layout) (part tail 24 448) ≡ true) where
+      (reserved : reservedOk (revisionOf c) (part tail 0 24) ≡ true) (phi : phiOk (old .layout) (part tail 24 448) ≡ true) where
     pub stored-form : formOk c p d ≡ true
     unfolding formOk
     stored-form =

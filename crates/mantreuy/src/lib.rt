@@ -19,7 +19,7 @@ use writes::write;
 ghost use mathlib.Core.Path.{_≡_};
 ghost use Rattle.calls.specs.Call.{Ream, Read, Write, Snap, Revert, Check, None, Block, answer};
 ghost use Rattle.calls.specs.Step.{step};
-ghost use Rattle.blocks.specs.Descriptor.{asFormat};
+ghost use Rattle.blocks.specs.Descriptor.{formatOf};
 ghost use Rattle.boundary.specs.Exported.{exported, nameIn, targetIn, paddingOf};
 ghost use Rattle.boundary.specs.RecordBytes.{listingOf};
 
@@ -29,15 +29,17 @@ pub extern "C" fn mantreuy_ream(
     card: &mut [u8],
     layout: u32,
     volume: u32,
+    revision: u32,
     name: &[u8],
     place: &mut u32,
 ) -> u32
-    ensures { λ r. ⌜ exported r (now (place .exit)) None (now (card .exit)) ≡ step (Ream (asFormat layout volume (nameIn (now (name .entry))))) (now (card .entry)) ⌝ }
+    ensures { λ r. ⌜ exported r (now (place .exit)) None (now (card .exit)) ≡ step (Ream (formatOf layout volume revision (nameIn (now (name .entry))))) (now (card .entry)) ⌝ }
 {
     let name = argument::name_in(name);
     let format = Format {
         layout,
         volume,
+        revision,
         name,
     };
     let a = ream::ream(card, format);

@@ -7,14 +7,15 @@ use blocks::descriptor::Format;
 use blocks::numbers::Physical;
 use blocks::sizes::BLOCK_SIZE;
 use blocks::sizes::MOST_VOLUME;
+use blocks::sizes::REVISION_START;
 use calls::answer;
 use calls::answer::Answer;
 use names::name;
 ghost use mathlib.Core.Path.{_≡_};
 ghost use Prim.Native.Nat.{_+_, _*_, _≤_, _<_};
-ghost use lib.ListN.{length, replicate};
+ghost use lib.ListN.{length};
 ghost use Rattle.blocks.specs.Bytes.{storeAll, blockSize};
-ghost use Rattle.blocks.specs.Descriptor.{costIn, clearing, descriptorBlock, opening, tailSize};
+ghost use Rattle.blocks.specs.Descriptor.{costIn, clearing, descriptorBlock, firstTail, opening};
 ghost use Rattle.calls.specs.Call.{Ream, None};
 ghost use Rattle.calls.specs.Step.{step, done};
 
@@ -32,12 +33,13 @@ fn clear_blocks(card: &mut [u8], first: Physical, n: u32)
     }
 }
 
-// The block of a descriptor with zeros after its first 40 bytes.
-fn fresh_block(d: Descriptor) -> [u8; BLOCK_SIZE]
-    ensures { λ r. ⌜ r ≡ descriptorBlock d (replicate tailSize 0) ⌝ }
+// The block of a descriptor with the revision after its first 40 bytes, then zeros.
+fn fresh_block(d: Descriptor, revision: u32) -> [u8; BLOCK_SIZE]
+    ensures { λ r. ⌜ r ≡ descriptorBlock d (firstTail revision) ⌝ }
 {
     let mut b = [0u8; BLOCK_SIZE];
     descriptor::put_head(&mut b, d);
+    bytes::put_u32(&mut b, REVISION_START, revision);
     b
 }
 
@@ -62,6 +64,9 @@ pub fn ream(card: &mut [u8], format: Format) -> Answer
     }
     if MOST_VOLUME < volume {
         return answer::BAD_VOLUME;
+    }
+    if 1 < format.revision {
+        return answer::BAD_REVISION;
     }
     let name = format.name;
     if !name::is_name(name) {
@@ -89,7 +94,7 @@ fn open_card(card: &mut [u8], format: Format, cost: u32)
         next: Physical(0),
         name,
     };
-    let b = fresh_block(first);
+    let b = fresh_block(first, format.revision);
     clear_blocks(card, Physical(1), cost - 1);
     bytes::store_block(card, Physical(0), &b);
 }

@@ -6,23 +6,35 @@ use blocks::numbers::Physical;
 use blocks::sizes::NAME_SIZE;
 use calls::answer;
 use calls::answer::Answer;
+use copying::copy;
 use indexing::index;
 use names::name;
 use walking::chain;
 ghost use mathlib.Core.Path.{_≡_};
-ghost use Prim.Native.Nat.{_+_, _*_, _≤_};
+ghost use mathlib.Core.List.{[]};
+ghost use Prim.Native.Nat.{_+_, _*_, _≤_, _<_};
 ghost use lib.ListN.{length};
-ghost use Rattle.blocks.specs.Bytes.{storeBlock, blockSize};
-ghost use Rattle.blocks.specs.Descriptor.{physical, tailAt, descriptorBlock, renamedOf, linkedOf};
+ghost use Rattle.blocks.specs.Bytes.{storeBlock, storeAll, blockSize};
+ghost use Rattle.blocks.specs.Descriptor.{costOf, tailAt, descriptorBlock, reopening};
 ghost use Rattle.calls.specs.Call.{Revert, None};
+ghost use Rattle.calls.specs.Effect.{activatedOf};
 ghost use Rattle.calls.specs.Step.{step, done};
 
 // The descriptor `d` in block `p` becomes the active one: it gets the active name, and a nil next.
 fn make_active(card: &mut [u8], p: Physical, d: Descriptor, name: [u8; NAME_SIZE])
     requires { ⌜ blockSize * p .0 + blockSize ≤ length (now card) ⌝ }
-    ensures { λ _. ⌜ now (card .exit) ≡ storeBlock (now (card .entry)) (p .0) (descriptorBlock (linkedOf (renamedOf d name) (physical 0)) (tailAt (now (card .entry)) (p .0))) ⌝ }
+    ensures { λ _. ⌜ now (card .exit) ≡ storeBlock (now (card .entry)) (p .0) (descriptorBlock (activatedOf d name) (tailAt (now (card .entry)) (p .0))) ⌝ }
 {
     descriptor::put_descriptor(card, p, d.renamed(name).linked(Physical(0)));
+}
+
+// A region opens at the beta of the descriptor `d`, under the active name; `d` stays as it is.
+fn open_active(card: &mut [u8], d: Descriptor, name: [u8; NAME_SIZE])
+    requires { ⌜ (d .alpha .0 + costOf d ≤ d .beta .0) × (blockSize * (d .beta .0 + costOf d) ≤ length (now card)) × (d .beta .0 + costOf d < 4294967296) ⌝ }
+    ensures { λ _. ⌜ now (card .exit) ≡ storeAll (now (card .entry)) (reopening (now (card .entry)) (activatedOf d name) []) ⌝ }
+{
+    let cost = descriptor::opening_cost(d.layout, d.volume);
+    copy::open_region(card, d.renamed(name).linked(Physical(0)), cost);
 }
 
 // Rolls the card back to the snapshot that has the name.
@@ -51,6 +63,10 @@ pub fn revert(card: &mut [u8], name: [u8; NAME_SIZE]) -> Answer
     let p = found.starts[k];
     let d = index::descriptor_of(card, active, &found.starts, count, k);
     let current = active.name;
+    if descriptor::revision_at(card, Physical(0)) == 1 {
+        open_active(card, d, current);
+        return answer::ACCEPTED;
+    }
     make_active(card, Physical(p), d, current);
     answer::ACCEPTED
 }

@@ -21,6 +21,10 @@ bare d = descriptorBlock d (replicate tailSize 0)
 abbrev pub withTailByte : ℕ → Descriptor → List ℕ
 withTailByte i d = descriptorBlock d (set (replicate tailSize 0) i 1)
 
+-- its block of a revision, with zeros after it
+abbrev pub ofRevision : ℕ → Descriptor → List ℕ
+ofRevision revision d = descriptorBlock d (le32 revision ++ replicate 468 0)
+
 abbrev pub withPhi : Descriptor → ℕ → ℕ → List ℕ
 withPhi d a b = descriptorBlock d (replicate 24 0 ++ le32 a ++ le32 b ++ replicate 440 0)
 
@@ -51,6 +55,25 @@ long b = set (replicate 16 97) 15 b
 
 abbrev pub wed : List ℕ
 wed = padded (119 ∷ 101 ∷ 100 ∷ [])
+
+-- two blocks: a descriptor of a revision, then zeros
+abbrev pub revised : ℕ → List ℕ
+revised revision = ofRevision revision (descriptor 2 1 0 2 0 fs) ++ zeroBlock
+
+-- the snapshot mon and the active store, each with its revision: layout 2, two blocks, beta = N; layout 1, four blocks, beta = N
+abbrev pub pairOf : ℕ → ℕ → List ℕ
+pairOf a b = ofRevision a (descriptor 2 1 0 1 1 mon) ++ ofRevision b (descriptor 2 1 1 2 0 fs)
+
+abbrev pub pairOf1 : ℕ → ℕ → List ℕ
+pairOf1 a b = ofRevision a (descriptor 1 1 0 2 2 mon) ++ zeroBlock ++ ofRevision b (descriptor 1 1 2 4 0 fs) ++ zeroBlock
+
+-- four blocks of a revision, full: the snapshots mon, tue and wed, then the active store
+abbrev pub visits : ℕ → List ℕ
+visits revision =
+    ofRevision revision (descriptor 2 1 0 1 1 mon)
+    ++ ofRevision revision (descriptor 2 1 1 2 2 tue)
+    ++ ofRevision revision (descriptor 2 1 2 3 3 wed)
+    ++ ofRevision revision (descriptor 2 1 3 4 0 fs)
 
 -- one block: a descriptor that would be sound
 abbrev pub oneBlock : List ℕ

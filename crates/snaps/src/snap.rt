@@ -2,7 +2,6 @@
 use admitting::area;
 use blocks::descriptor;
 use blocks::descriptor::Descriptor;
-use blocks::numbers::Physical;
 use blocks::sizes::BLOCK_SIZE;
 use blocks::sizes::MOST_SNAPSHOTS;
 use blocks::sizes::NAME_SIZE;
@@ -28,12 +27,8 @@ fn take_snapshot(card: &mut [u8], d: Descriptor, cost: u32, name: [u8; NAME_SIZE
 {
     let alpha = d.alpha;
     let beta = d.beta;
-    let opened = d.reopened();
     let closed = d.renamed(name).linked(beta);
-    let from = Physical(alpha.0 + 1);
-    let to = Physical(beta.0 + 1);
-    copy::copy_blocks(card, from, to, cost - 1);
-    copy::store_descriptor_upto(card, alpha, beta, opened, BLOCK_SIZE);
+    copy::open_region(card, d, cost);
     descriptor::put_descriptor(card, alpha, closed);
 }
 

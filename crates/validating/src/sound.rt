@@ -16,7 +16,7 @@ ghost use lib.ListN.{length};
 ghost use Rattle.blocks.specs.Pick.{same};
 ghost use Rattle.blocks.specs.Bytes.{blockSize, part};
 ghost use Rattle.blocks.specs.Name.{isName};
-ghost use Rattle.blocks.specs.Descriptor.{mark, mostVolume, descriptorAt, reservedOk};
+ghost use Rattle.blocks.specs.Descriptor.{mark, mostVolume, descriptorAt, reservedSize, reservedOk};
 ghost use Rattle.chains.specs.Chain.{formOk, regionOk};
 
 // Whether block `p` begins with the mark.
@@ -32,11 +32,18 @@ fn has_mark(card: &[u8], p: Physical) -> bool
         & (card[at + 3] == mark[3])
 }
 
-// Whether bytes 40 to 63 of a descriptor block are as they must be.
-fn is_reserved(reserved: &[u8]) -> bool
-    ensures { λ r. ⌜ r ≡ reservedOk (now (reserved .entry)) ⌝ }
+// Whether bytes 40 to 63 of a descriptor block are as they must be, on a card of the revision. The first eight are one number: the revision, then zeros.
+fn is_reserved(reserved: &[u8], revision: u32) -> bool
+    requires { ⌜ length (now reserved) ≡ reservedSize ⌝ }
+    ensures { λ r. ⌜ r ≡ reservedOk revision (now (reserved .entry)) ⌝ }
 {
-    bytes::all_zero(reserved)
+    if 1 < revision {
+        return false;
+    }
+    if bytes::get_u64(reserved, 0) != revision as u64 {
+        return false;
+    }
+    bytes::all_zero(&reserved[8..PHI_START - HEAD_SIZE])
 }
 
 // Whether the name in block `p` is one. It is judged where it stands: a copy would have to be stored first.
@@ -48,7 +55,7 @@ fn is_called(card: &[u8], p: Physical) -> bool
     name::are_name(&card[at + NAME_START..at + HEAD_SIZE])
 }
 
-// Whether mark, layout, L, name and zero bytes of block `p` are those of a descriptor; `d` is what its bytes say.
+// Whether mark, layout, L, name, revision and zero bytes of block `p` are those of a descriptor; `d` is what its bytes say.
 fn is_formed(card: &[u8], p: Physical, d: Descriptor) -> bool
     requires { ⌜ (blockSize * p .0 + blockSize ≤ length (now card)) × (d ≡ descriptorAt (now card) (p .0)) ⌝ }
     ensures { λ r. ⌜ r ≡ formOk (now (card .entry)) (p .0) d ⌝ }
@@ -74,7 +81,8 @@ fn is_formed(card: &[u8], p: Physical, d: Descriptor) -> bool
     if !is_called(card, p) {
         return false;
     }
-    if !is_reserved(&card[at + HEAD_SIZE..at + PHI_START]) {
+    let revision = descriptor::revision_at(card, Physical(0));
+    if !is_reserved(&card[at + HEAD_SIZE..at + PHI_START], revision) {
         return false;
     }
     if layout != 1 {
@@ -128,7 +136,7 @@ pub fn is_right(card: &[u8], first: Descriptor, n: usize, p: Physical, d: Descri
     is_placed(first, n, p, d)
 }
 
-// Whether mark, name and zero bytes of block `p` are those of a descriptor, where layout and L are in range. The four tests stand in `is_formed` too: a shared
+// Whether mark, name, revision and zero bytes of block `p` are those of a descriptor, where layout and L are in range. The four tests stand in `is_formed` too: a shared
 // function would be called and not inlined (decision 95).
 fn is_formed_in_range(card: &[u8], p: Physical, d: Descriptor) -> bool
     requires { ⌜ (blockSize * p .0 + blockSize ≤ length (now card)) × (d ≡ descriptorAt (now card) (p .0)) × (d .layout ≡ 0 → ⊥) × (d .layout ≤ 2) × (d .volume ≡ 0 → ⊥) × (d .volume ≤ mostVolume) ⌝ }
@@ -142,7 +150,8 @@ fn is_formed_in_range(card: &[u8], p: Physical, d: Descriptor) -> bool
     if !is_called(card, p) {
         return false;
     }
-    if !is_reserved(&card[at + HEAD_SIZE..at + PHI_START]) {
+    let revision = descriptor::revision_at(card, Physical(0));
+    if !is_reserved(&card[at + HEAD_SIZE..at + PHI_START], revision) {
         return false;
     }
     if layout != 1 {

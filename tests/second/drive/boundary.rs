@@ -4,7 +4,8 @@ use crate::call::{carry_out, Call};
 use crate::declared::*;
 use crate::lent::Lent;
 use crate::numbers::{MOST_DESCRIPTORS, NAME_SIZE};
-use crate::store::{number_at, store_number, unpadded, Logical, Name, Record, Target};
+use crate::rng::Rng;
+use crate::store::{number_at, padded, store_number, unpadded, Logical, Name, Record, Target};
 
 /// A call's arguments and the memory lent to it besides the card.
 #[derive(Clone, PartialEq, Eq)]
@@ -12,6 +13,7 @@ pub enum Ask {
     Ream {
         layout: u32,
         volume: u32,
+        revision: u32,
         name: Lent,
     },
     Read {
@@ -46,10 +48,12 @@ impl Ask {
             Ask::Ream {
                 layout,
                 volume,
+                revision,
                 name,
             } => Call::Ream {
                 layout: u64::from(*layout),
                 volume: u64::from(*volume),
+                revision: u64::from(*revision),
                 name: text_of(name),
             },
             Ask::Read {
@@ -86,6 +90,59 @@ impl Ask {
         }
     }
 
+    /// The call of the own store as the library takes it.
+    pub fn of(call: &Call, rng: &mut Rng) -> Ask {
+        match call {
+            Call::Ream {
+                layout,
+                volume,
+                revision,
+                name,
+            } => Ask::Ream {
+                layout: *layout as u32,
+                volume: *volume as u32,
+                revision: *revision as u32,
+                name: name_of(name, rng),
+            },
+            Call::Read {
+                target,
+                logical,
+                lent,
+            } => {
+                let (snapshot, name) = match target {
+                    Target::Active => (0, name_of(&[], rng)),
+                    Target::Snapshot(name) => (1, name_of(name, rng)),
+                };
+                Ask::Read {
+                    snapshot,
+                    name,
+                    block: logical.0 as u32,
+                    out: Lent::new(rng, lent, 40),
+                }
+            }
+            Call::Write { logical, lent } => Ask::Write {
+                block: logical.0 as u32,
+                bytes: Lent::new(rng, lent, 40),
+            },
+            Call::Snap { name } => Ask::Snap {
+                name: name_of(name, rng),
+            },
+            Call::Revert { name } => Ask::Revert {
+                name: name_of(name, rng),
+            },
+            Call::List { lent } => {
+                let mut records = vec![0; lent.len() * RECORD_SIZE];
+                for (bytes, record) in records.chunks_exact_mut(RECORD_SIZE).zip(lent) {
+                    store_record(bytes, record);
+                }
+                Ask::List {
+                    records: Lent::new(rng, &records, 40),
+                }
+            }
+            Call::Check => Ask::Check,
+        }
+    }
+
     /// The call in a few words.
     pub fn words(&self) -> String {
         let text = |name: &Lent| format!("\"{}\"", name.part().escape_ascii());
@@ -93,8 +150,12 @@ impl Ask {
             Ask::Ream {
                 layout,
                 volume,
+                revision,
                 name,
-            } => format!("ream layout {layout} volume {volume} name {}", text(name)),
+            } => format!(
+                "ream layout {layout} volume {volume} revision {revision} name {}",
+                text(name)
+            ),
             Ask::Read {
                 snapshot,
                 name,
@@ -133,10 +194,11 @@ pub fn by_library(card: &mut [u8], ask: &mut Ask) -> Answer {
             Ask::Ream {
                 layout,
                 volume,
+                revision,
                 name,
             } => {
                 let (name, length) = lend(name.part_mut());
-                mantreuy_ream(card, n, *layout, *volume, name, length, at)
+                mantreuy_ream(card, n, *layout, *volume, *revision, name, length, at)
             }
             Ask::Read {
                 snapshot,
@@ -176,6 +238,14 @@ pub fn pad_name(text: &mut [u8], name: &mut [u8]) -> u32 {
     let (name, name_length) = lend(name);
     // Safety: as above.
     unsafe { mantreuy_pad_name(text, text_length, name, name_length) }
+}
+
+/// The buffer of a text; one that is too long for a name stays as it is.
+fn name_of(text: &[u8], rng: &mut Rng) -> Lent {
+    match text.len() > NAME_SIZE {
+        true => Lent::new(rng, text, 40),
+        false => Lent::new(rng, &padded(text), 40),
+    }
 }
 
 /// The text of a name buffer; of another length than 16 it is no name.

@@ -1,13 +1,15 @@
-//! Random calls on damaged cards.
+//! Random calls on damaged cards. Damage to bytes 40 to 63 of a descriptor alone is met by 6 with
+//! its place.
 
 use crate::boundary::{by_own, Ask};
-use crate::call::Kind;
+use crate::call::{Call, Kind};
 use crate::lent::{noise, Lent};
 use crate::lists::{random_shape, random_volume, unformatted, Maker, Shape, MANY_SNAPS};
 use crate::numbers::*;
 use crate::pair::Pair;
+use crate::reserved;
 use crate::rng::Rng;
-use crate::store::{self, Record, NOTHING};
+use crate::store::{self, Logical, Record, Target, NOTHING};
 use crate::table::Table;
 
 /// The kinds of calls on a damaged card, some more often.
@@ -33,11 +35,13 @@ pub fn one(seed: u64, table: &mut Table) -> Result<(), String> {
         true => wide_shape(&mut rng),
         false => random_shape(&mut rng, false).0,
     };
-    let (layout, volume, sizes) = (shape.layout, shape.volume, shape.words());
-    let length = shape.length;
+    let (layout, volume, revision) = (shape.layout, shape.volume, shape.revision);
+    let (length, sizes) = (shape.length, shape.words());
     let mut card = unformatted(&mut rng, shape.blocks);
     let mut maker = Maker::new(rng, shape);
     in_use(&mut maker, &mut card, length);
+    reserved_bytes(&mut maker.rng, &card, table)
+        .map_err(|reason| format!("{sizes}: bytes 40 to 63: {reason}"))?;
 
     let rounds = if wide { 2 } else { maker.rng.between(1, 5) };
     for round in 0..rounds {
@@ -75,6 +79,7 @@ pub fn one(seed: u64, table: &mut Table) -> Result<(), String> {
         maker.hot = hot;
         maker.shape.layout = layout;
         maker.shape.volume = volume;
+        maker.shape.revision = revision;
     }
     Ok(())
 }
@@ -84,6 +89,7 @@ fn wide_shape(rng: &mut Rng) -> Shape {
     Shape {
         layout: rng.between(1, 2) as u32,
         volume: random_volume(rng, MOST_VOLUME),
+        revision: rng.below(2) as u32,
         blocks: *rng.pick(&[MOST_BLOCKS as usize, 65_535, 40_000, 20_000]),
         length: rng.between(300, 1_500),
         snap_weight: *rng.pick(&[20, 200, MANY_SNAPS]),
@@ -105,6 +111,42 @@ fn in_use(maker: &mut Maker, card: &mut [u8], length: u64) {
         maker.after(&ask, answer.0);
     }
     maker.steady = false;
+}
+
+/// Damages bytes 40 to 63 of one descriptor of a good card, and has every call but ream meet it.
+fn reserved_bytes(rng: &mut Rng, card: &[u8], table: &mut Table) -> Result<(), String> {
+    let mut damaged = card.to_vec();
+    let mut records = [NOTHING; MOST_DESCRIPTORS];
+    let (listed, count) = store::list(card, &mut records);
+    if listed != store::ACCEPTED {
+        return Err(format!("a good card: {listed:?}"));
+    }
+    let expected = reserved::damage(rng, &mut damaged, &records[..count]);
+    let expected = (expected.number as u32, expected.place as u32);
+    let records = records.to_vec();
+    let mut calls = vec![Call::Check, Call::List { lent: records }];
+    if expected != (0, 0) {
+        let (logical, lent) = (Logical(0), vec![7; BLOCK]);
+        let name = b"new".to_vec();
+        calls.push(Call::Read {
+            target: Target::Active,
+            logical,
+            lent: lent.clone(),
+        });
+        calls.push(Call::Write { logical, lent });
+        calls.push(Call::Snap { name: name.clone() });
+        calls.push(Call::Revert { name });
+    }
+    let mut pair = Pair::new(Lent::new(rng, &damaged, 0));
+    for call in calls {
+        let ask = Ask::of(&call, rng);
+        let (answer, _) = pair.call(damaged.len(), &ask, table)?;
+        if answer != expected {
+            let words = ask.words();
+            return Err(format!("{words}: {answer:?} and not {expected:?}"));
+        }
+    }
+    Ok(())
 }
 
 fn number_at(card: &[u8], at: usize) -> u32 {
@@ -144,7 +186,7 @@ fn damage(maker: &mut Maker, card: &mut [u8]) {
         _ => *rng.pick(&maker.hot) / entries,
     };
     let value = any_entry(rng, card, records, &descriptor, blocks);
-    match rng.below(26) {
+    match rng.below(30) {
         0 => {
             let byte = rng.below(PHI as u64) as usize;
             card[start + byte] ^= 1 << rng.below(8);
@@ -236,6 +278,28 @@ fn damage(maker: &mut Maker, card: &mut [u8]) {
                 if at >= BLOCK || at >= PHI && layout == 2 {
                     put(card, at, active.beta as u32);
                 }
+            }
+        }
+        24 => {
+            let revision = match rng.below(2) {
+                0 => rng.below(2) as u32,
+                _ => *rng.pick(&NO_REVISIONS),
+            };
+            put(card, start + REVISION, revision);
+        }
+        25 => {
+            let zeros = (PHI - REVISION_END) as u64;
+            let at = start + REVISION_END + rng.below(zeros) as usize;
+            card[at] ^= rng.between(1, 255) as u8;
+        }
+        26 | 27 => {
+            // The other revision in every descriptor: as good as before, with the other rule.
+            if count > 0 {
+                let other = 1 - number_at(card, REVISION);
+                for record in records {
+                    put(card, record.alpha as usize * BLOCK + REVISION, other);
+                }
+                maker.shape.revision = other;
             }
         }
         _ => {

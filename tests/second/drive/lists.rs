@@ -18,6 +18,7 @@ pub const LETTERS: &[u8] = b"abcdefghijklmnopqrstuvwxyz0123456789.-";
 pub struct Shape {
     pub layout: u32,
     pub volume: u32,
+    pub revision: u32,
     pub blocks: usize,
     /// How many calls the list has.
     pub length: u64,
@@ -27,8 +28,8 @@ pub struct Shape {
 impl Shape {
     /// In a few words.
     pub fn words(&self) -> String {
-        let sizes = (self.layout, self.volume, self.blocks);
-        format!("layout, volume, blocks {sizes:?}")
+        let sizes = (self.layout, self.volume, self.revision, self.blocks);
+        format!("layout, volume, revision, blocks {sizes:?}")
     }
 }
 
@@ -40,6 +41,8 @@ pub struct Maker {
     /// The names of the snapshots, in order.
     pub names: Vec<Name>,
     active: Name,
+    /// The visit of the last accepted revert.
+    last: Option<Name>,
     pool: Vec<Name>,
     /// Whether the area is always lent whole and no ream is accepted.
     pub steady: bool,
@@ -90,7 +93,7 @@ pub fn unformatted(rng: &mut Rng, blocks: usize) -> Vec<u8> {
         _ => {
             // A card that was in use before.
             let mut card = vec![0; length];
-            store::ream(&mut card, rng.between(1, 2), 300, b"old");
+            store::ream(&mut card, rng.between(1, 2), 300, rng.below(2), b"old");
             for k in 0..blocks.min(300) {
                 let logical = Logical(rng.below(300));
                 store::write(&mut card, logical, &[k as u8; BLOCK]);
@@ -121,6 +124,7 @@ impl Maker {
             shape,
             hot,
             names: Vec::new(),
+            last: None,
             pool,
             steady: false,
             full: false,
@@ -129,12 +133,12 @@ impl Maker {
 
     /// The format that the list begins with.
     pub fn first_ream(&mut self) -> Ask {
-        let (layout, volume) = (self.shape.layout, self.shape.volume);
         self.pool.retain(|name| *name != self.active);
         let name = self.active;
         Ask::Ream {
-            layout,
-            volume,
+            layout: self.shape.layout,
+            volume: self.shape.volume,
+            revision: self.shape.revision,
             name: self.lent(&name),
         }
     }
@@ -153,20 +157,25 @@ impl Maker {
             Ask::Revert { name } if number == 0 => {
                 self.full = false;
                 let name = named(name);
+                self.last = Some(name);
+                // On revision 1 the visit itself stays.
                 if let Some(k) = self.names.iter().position(|other| *other == name) {
-                    self.names.truncate(k);
+                    self.names.truncate(k + self.shape.revision as usize);
                 }
             }
             Ask::Ream {
                 layout,
                 volume,
+                revision,
                 name,
             } if number == 0 => {
                 self.full = false;
                 self.names.clear();
                 self.active = named(name);
+                self.last = None;
                 self.shape.layout = *layout;
                 self.shape.volume = *volume;
+                self.shape.revision = *revision;
             }
             _ => {}
         }
@@ -200,6 +209,11 @@ impl Maker {
     /// the card.
     pub fn next(&mut self, card: &[u8]) -> Ask {
         if self.full && !self.names.is_empty() && self.rng.once_in(3) {
+            return self.make(Kind::Revert, card);
+        }
+        // On revision 1 all 255 may stay.
+        let most = self.shape.revision == 1 && self.names.len() == MOST_SNAPSHOTS;
+        if most && self.rng.once_in(20) {
             return self.make(Kind::Revert, card);
         }
         // With 255 snapshots the rest of the card is filled as well.
@@ -250,7 +264,7 @@ impl Maker {
                 name: self.fresh_name(),
             },
             Kind::Revert => Ask::Revert {
-                name: self.old_name(),
+                name: self.name_to_revert(),
             },
             Kind::List => {
                 let length = self.list_length();
@@ -334,10 +348,11 @@ impl Maker {
     fn ream(&mut self) -> Ask {
         let (mut layout, mut volume) = (self.shape.layout, self.shape.volume);
         let rng = &mut self.rng;
+        let mut revision = rng.below(2) as u32;
         let blocks = self.shape.blocks as u64;
         let mut name = random_name(rng);
         let mut bad_name = false;
-        match rng.below(5) {
+        match rng.below(6) {
             0 => layout = *rng.pick(&[0, 3, 258, 65_537, u32::MAX]),
             1 => volume = *rng.pick(&[0, MOST_VOLUME as u32 + 1, 65_537, 1 << 31, u32::MAX]),
             2 if TABLE_ENTRIES * blocks <= MOST_VOLUME => {
@@ -352,13 +367,15 @@ impl Maker {
                     name = *rng.pick(&self.pool);
                 }
             }
+            4 => revision = *rng.pick(&NO_REVISIONS),
             _ => bad_name = true,
         }
         // Several refusals at once.
-        if rng.once_in(8) {
-            layout = 0;
-            volume = 0;
-            bad_name = true;
+        if rng.once_in(4) {
+            layout = *rng.pick(&[0, layout, layout, layout]);
+            volume = *rng.pick(&[0, volume, volume]);
+            revision = *rng.pick(&NO_REVISIONS);
+            bad_name = bad_name || rng.once_in(2);
         }
         let name = match bad_name {
             true => self.no_name(),
@@ -367,6 +384,7 @@ impl Maker {
         Ask::Ream {
             layout,
             volume,
+            revision,
             name,
         }
     }
@@ -416,6 +434,14 @@ impl Maker {
         self.lent(&name)
     }
 
+    /// The name of a revert: mostly a snapshot's, and on revision 1 often that of the last one.
+    fn name_to_revert(&mut self) -> Lent {
+        match self.last {
+            Some(name) if self.shape.revision == 1 && self.rng.once_in(3) => self.lent(&name),
+            _ => self.old_name(),
+        }
+    }
+
     /// Mostly a name that is not in use.
     fn fresh_name(&mut self) -> Lent {
         let name = match self.rng.below(30) {
@@ -451,6 +477,7 @@ pub fn started(seed: u64, large: bool) -> (Pair, Maker, bool) {
 pub fn random_shape(rng: &mut Rng, large: bool) -> (Shape, bool) {
     let kind = rng.below(400);
     let mut layout = rng.between(1, 2);
+    let revision = rng.below(2) as u32;
     let mut snap_weight = rng.between(20, 200);
     let mut length = match rng.below(4) {
         0 => rng.between(5, 60),
@@ -505,6 +532,7 @@ pub fn random_shape(rng: &mut Rng, large: bool) -> (Shape, bool) {
     let shape = Shape {
         layout: layout as u32,
         volume,
+        revision,
         blocks: blocks as usize,
         length,
         snap_weight,

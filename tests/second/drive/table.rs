@@ -1,7 +1,7 @@
 //! Counts of the answers by call and number.
 
 use crate::call::KINDS;
-use crate::counts::{print_missing, Counts};
+use crate::counts::{print_missing, Counts, Reverts};
 use crate::numbers::ANSWERS;
 
 /// The row of mantreuy_pad_name, after those of the calls.
@@ -14,7 +14,7 @@ pub type Expected = [&'static [u64]; ROWS];
 
 /// A card made by accepted calls passes check: no 10. A shortened one can give 6.
 pub const CALLS: Expected = [
-    &[0, 1, 2, 3, 4, 5],
+    &[0, 1, 2, 3, 4, 5, 17],
     &[0, 1, 4, 6, 7, 8, 9],
     &[0, 1, 6, 8, 9, 11],
     &[0, 1, 4, 6, 11, 12, 13],
@@ -25,7 +25,7 @@ pub const CALLS: Expected = [
 ];
 
 pub const DAMAGED: Expected = [
-    &[0, 1, 2, 3, 4, 5],
+    &[0, 1, 2, 3, 4, 5, 17],
     &[0, 1, 4, 6, 7, 8, 9, 10],
     &[0, 1, 6, 8, 9, 10, 11],
     &[0, 1, 4, 6, 11, 12, 13],
@@ -37,7 +37,7 @@ pub const DAMAGED: Expected = [
 
 /// The card is always the whole one and sound; an accepted ream stands only at the start.
 pub const ROLLBACK: Expected = [
-    &[0, 2, 3, 4, 5],
+    &[0, 2, 3, 4, 5, 17],
     &[0, 4, 7, 8, 9],
     &[0, 8, 9, 11],
     &[0, 4, 11, 12, 13],
@@ -47,7 +47,17 @@ pub const ROLLBACK: Expected = [
     &[],
 ];
 
-pub const VALUES: Expected = [&[0], &[], &[], &[0, 13], &[], &[], &[], &[]];
+/// What the cases worked out by hand give.
+pub const VALUES: Expected = [
+    &[0, 1, 2, 3, 4, 5, 17],
+    &[0, 7],
+    &[0, 11],
+    &[0, 11, 12, 13],
+    &[0, 1, 4, 6, 7],
+    &[0],
+    &[0],
+    &[],
+];
 
 pub const NAMES: Expected = [&[], &[], &[], &[], &[], &[], &[], &[0, 4]];
 
@@ -55,7 +65,7 @@ pub const NAMES: Expected = [&[], &[], &[], &[], &[], &[], &[], &[0, 4]];
 pub struct Table {
     counts: Counts,
     /// What else was counted, as a last remark.
-    pub reverts: u64,
+    pub reverts: Reverts,
     pub compared: u64,
 }
 
@@ -79,12 +89,7 @@ impl Table {
             .print("call", &rows.collect::<Vec<_>>(), &ANSWERS);
         let sum: u64 = self.counts.given().map(|(_, _, times)| times).sum();
         println!("{sum} calls");
-        if self.reverts > 0 {
-            println!(
-                "{} accepted reverts, {} cards compared",
-                self.reverts, self.compared
-            );
-        }
+        self.reverts.print(self.compared);
         print_missing(&self.counts.missing(&titles, &expected));
         let strange: Vec<String> = self
             .counts

@@ -1,33 +1,68 @@
 //! The bench value of document 01 that is not marked, on the library and on the own store:
-//! layout 2, N 256, 255 snaps pass, the next gives 13.
+//! layout 2, N 256, 255 snaps pass, the next gives 13. Then the cases of document 02's revisions.
 
 use crate::boundary::Ask;
+use crate::cases::{self, Case};
 use crate::lent::Lent;
 use crate::numbers::BLOCK;
 use crate::pair::Pair;
 use crate::rng::Rng;
-use crate::store;
+use crate::store::{self, Answer};
 use crate::table::Table;
 
-/// The value, with a volume that the seed chooses.
+/// The value, on both revisions, and the cases, on an area of zeros and on one of other bytes.
 pub fn one(seed: u64, table: &mut Table) -> Result<(), String> {
     let mut rng = Rng::new(seed);
+    // The seed chooses the volume.
     let volume = [1, 128, 14_336][(seed % 3) as usize];
+    for revision in [0, 1] {
+        bench(&mut rng, volume, revision, table)?;
+    }
+    for case in cases::all() {
+        for fill in [0, 0xff] {
+            by_hand(&mut rng, &case, fill, table)
+                .map_err(|reason| format!("{}, on bytes of {fill}: {reason}", case.name))?;
+        }
+    }
+    Ok(())
+}
+
+fn bench(rng: &mut Rng, volume: u32, revision: u32, table: &mut Table) -> Result<(), String> {
     let area = vec![0; 256 * BLOCK];
-    let mut pair = Pair::new(Lent::new(&mut rng, &area, 0));
-    let volume_name = name(&mut rng, "fs");
+    let mut pair = Pair::new(Lent::new(rng, &area, 0));
     let ream = Ask::Ream {
         layout: 2,
         volume,
-        name: volume_name,
+        revision,
+        name: name(rng, "fs"),
     };
     expect(&mut pair, &ream, 0, table)?;
     for k in 0..255 {
-        let visit = name(&mut rng, &format!("visit-{k}"));
+        let visit = name(rng, &format!("visit-{k}"));
         expect(&mut pair, &Ask::Snap { name: visit }, 0, table)?;
     }
-    let visit = name(&mut rng, "visit-255");
+    let visit = name(rng, "visit-255");
     expect(&mut pair, &Ask::Snap { name: visit }, 13, table)
+}
+
+/// Runs a case on both cards and holds the library's against it.
+fn by_hand(rng: &mut Rng, case: &Case, fill: u8, table: &mut Table) -> Result<(), String> {
+    let area = vec![fill; case.blocks * BLOCK];
+    let mut pair = Pair::new(Lent::new(rng, &area, 0));
+    for (k, step) in case.steps.iter().enumerate() {
+        let ask = Ask::of(&step.call, rng);
+        let named = |reason: String| format!("call {k}, {}: {reason}", ask.words());
+        let before = pair.library.part().to_vec();
+        let (answer, lent) = pair.call(area.len(), &ask, table).map_err(named)?;
+        let answer = Answer {
+            number: u64::from(answer.0),
+            place: u64::from(answer.1),
+        };
+        let (block, records) = lent.call().lent();
+        step.compare(answer, &block, &records, &before, pair.library.part())
+            .map_err(named)?;
+    }
+    Ok(())
 }
 
 /// The call is answered with this number, place 0, on both cards alike.

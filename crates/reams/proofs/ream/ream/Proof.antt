@@ -2,7 +2,7 @@
 use mathlib.Core.Path.{refl}
 use Rattle.calls.specs.Meaning.{lentOf, filledOf, storesOf, givenOf}
 use Rattle.calls.proofs.StepLaws.{step-barred, step-refused, step-accepted}
-use Rattle.calls.proofs.ReamLaws.{ream-2-low, ream-2-high, ream-3-none, ream-3-large, ream-4, ream-5, ream-0}
+use Rattle.calls.proofs.ReamLaws.{ream-2-low, ream-2-high, ream-3-none, ream-3-large, ream-17, ream-4, ream-5, ream-0}
 use borrow.Author.Needs.{needs}
 use Rattle.reams.proofs.ream.ream.Statement.{statement}
 use Rattle.reams.proofs.ream.ream.Tie as tie
@@ -45,38 +45,45 @@ returns-5 : tie.Need-returns-5
 unfolding lentOf
 returns-5 c = step-refused _ _ _ _ (search ream-3-large) refl
 
-is-name-requires : tie.Need-is-name-requires
-is-name-requires c κs = search needs
-
 same-length-6 : tie.Need-same-length-6
 same-length-6 c = search needs
 
 returns-6 : tie.Need-returns-6
 unfolding lentOf
-returns-6 c = step-refused _ _ _ _ (search ream-4) refl
+returns-6 c = step-refused _ _ _ _ (search ream-17) refl
 
-opening-cost-requires : tie.Need-opening-cost-requires
-opening-cost-requires c κs = search needs
-
-cast-if7 : tie.Need-cast-if7
-cast-if7 c = search needs
+is-name-requires : tie.Need-is-name-requires
+is-name-requires c κs = search needs
 
 same-length-7 : tie.Need-same-length-7
 same-length-7 c = search needs
 
 returns-7 : tie.Need-returns-7
 unfolding lentOf
-returns-7 c = step-refused _ _ _ _ (search ream-5) refl
+returns-7 c = step-refused _ _ _ _ (search ream-4) refl
 
-open-card-requires : tie.Need-open-card-requires
-open-card-requires c κs = search needs
+opening-cost-requires : tie.Need-opening-cost-requires
+opening-cost-requires c κs = search needs
+
+cast-if8 : tie.Need-cast-if8
+cast-if8 c = search needs
 
 same-length-8 : tie.Need-same-length-8
 same-length-8 c = search needs
 
 returns-8 : tie.Need-returns-8
+unfolding lentOf
+returns-8 c = step-refused _ _ _ _ (search ream-5) refl
+
+open-card-requires : tie.Need-open-card-requires
+open-card-requires c κs = search needs
+
+same-length-9 : tie.Need-same-length-9
+same-length-9 c = search needs
+
+returns-9 : tie.Need-returns-9
 unfolding filledOf storesOf givenOf
-returns-8 c = step-accepted _ _ (search ream-0) _ refl _ (c .before .before .open-card .ensures) refl
+returns-9 c = step-accepted _ _ (search ream-0) _ refl _ (c .before .before .open-card .ensures) refl
 
 pub ream-spec : {M : Type 1} → statement M
 ream-spec =
@@ -93,13 +100,15 @@ ream-spec =
     returns-4
     same-length-5
     returns-5
-    is-name-requires
     same-length-6
     returns-6
-    opening-cost-requires
-    cast-if7
+    is-name-requires
     same-length-7
     returns-7
-    open-card-requires
+    opening-cost-requires
+    cast-if8
     same-length-8
-    returns-8)
+    returns-8
+    open-card-requires
+    same-length-9
+    returns-9)

@@ -1,16 +1,16 @@
 -- `revert` meets its contract, row by row.
 use mathlib.Core.Path.{refl}
 use native.Mathlib.Omega.{arith}
-use Prim.Native.Nat.{_<_, _-_}
+use Prim.Native.Nat.{_+_, _*_, _-_, _≤_, _<_}
 use borrow.Author.Needs.{needs}
-use lib.ListN.{drop}
+use lib.ListN.{length, drop, getD}
 use Rattle.calls.specs.Call.{Revert}
 use Rattle.calls.specs.Ladder.{revertRows}
 use Rattle.calls.specs.Meaning.{rowsOf, answerOf, lentOf, filledOf, givenOf}
 use Rattle.calls.proofs.StepLaws.{step-barred, step-refused, step-accepted}
 use Rattle.calls.proofs.CardLaws.{card-some, card-few, card-inside, card-long, card-whole}
 use Rattle.calls.proofs.RowLaws.{Reached, named-4, named-6}
-use Rattle.calls.proofs.RevertLaws.{revert-reached, revert-7, revert-0, reverted}
+use Rattle.calls.proofs.RevertLaws.{revert-reached, revert-7, revert-0, revert-room, reverted, reopened}
 use Rattle.reverts.proofs.revert.revert.Statement.{statement}
 use Rattle.reverts.proofs.revert.revert.Tie as tie
 
@@ -82,11 +82,22 @@ descriptor-of-requires c κs =
     let past = past-chain (c .before .before .before .before .before .before .before .before .before .before .before) in
     (card-whole _ _ (past .walked) (past .area) (past .sound), omega (arith, card-some _ _ (past .walked) (past .area) (past .sound), c .before .before .before .before .before .before .index-of .ensures .1))
 
-make-active-requires : tie.Need-make-active-requires
-make-active-requires c κs =
-    let past = past-chain (c .before .before .before .before .before .before .before .before .before .before .before .before .before .before) in
-    let some = card-some _ _ (past .walked) (past .area) (past .sound) in
-    card-inside _ _ (past .walked) (past .area) (past .sound) _ (omega (arith, c .before .before .before .before .before .before .before .before .before .index-of .ensures .1))
+-- where the snapshot's descriptor is at hand: its index is that of a snapshot, and the area has a block 0
+inside-at : (d : tie.After-descriptor-of) → let e = d .before .before .before .before .before .before .before in e .index-of .result < e .before .before .before .before .before .before .before .walk-chain .result .count - 1
+inside-at d = omega (arith, d .before .before .before .before .before .before .before .index-of .ensures .1)
+
+visit-inside : (d : tie.After-descriptor-of) → let r = d .before .before .before .before .before .before .before .before .before .before .before .before .before .before .walk-chain in 512 * getD (r .result .starts) (d .before .before .before .before .before .before .before .index-of .result) 0 + 512 ≤ length (d .before .before .before .before .before .before .before .before .before .before .before .before .before .before .before .before .before .before .before .before .before .before .before .args .card .now)
+visit-inside d =
+    let past = past-chain (d .before .before .before .before .before .before .before .before .before .before .before .before) in
+    card-inside _ _ (past .walked) (past .area) (past .sound) _ (omega (arith, inside-at d, card-some _ _ (past .walked) (past .area) (past .sound)))
+
+revision-at-requires : tie.Need-revision-at-requires
+revision-at-requires c κs = omega (arith, visit-inside (c .before .before))
+
+open-active-requires : tie.Need-open-active-requires
+open-active-requires c κs =
+    let d = c .before .before .before .before .before in
+    revert-room _ _ _ (past-chain (d .before .before .before .before .before .before .before .before .before .before .before .before)) _ (d .before .before .before .before .before .before .before .index-of .ensures .0) (inside-at d) _ (d .descriptor-of .ensures)
 
 same-length-5 : tie.Need-same-length-5
 same-length-5 c = search needs
@@ -94,13 +105,27 @@ same-length-5 c = search needs
 returns-5 : tie.Need-returns-5
 unfolding filledOf givenOf
 returns-5 c =
-    let i = c .before .before .before .before .before .before .before .before .before .before .before .before .index-of in
-    let w = c .before .before .before .before .before .before .before .before .before .before .before .before .before .before .before .before .before .before .before .walk-chain in
-    let inside : i .result < w .result .count - 1 = omega (arith, i .ensures .1) in
-    step-accepted _ _
-    (revert-0 _ _ _ (past-chain (c .before .before .before .before .before .before .before .before .before .before .before .before .before .before .before .before .before)) _ (i .ensures .0) inside)
-    _ refl _
-    (reverted _ _ _ (past-chain (c .before .before .before .before .before .before .before .before .before .before .before .before .before .before .before .before .before)) _ (i .ensures .0) inside _ (c .before .before .before .before .before .descriptor-of .ensures) _ (c .before .before .make-active .ensures))
+    let d = c .before .before .before .before .before .before .before .before in
+    let past = past-chain (d .before .before .before .before .before .before .before .before .before .before .before .before) in
+    let i = d .before .before .before .before .before .before .before .index-of .ensures .0 in
+    step-accepted _ _ (revert-0 _ _ _ past _ i (inside-at d)) _ refl _
+    (reopened _ _ _ past _ i (inside-at d) _ (d .descriptor-of .ensures) _ (c .before .before .before .before .before .revision-at .ensures) (c .before .before .before .before .if5 .taken) _ (c .before .before .open-active .ensures))
+    refl
+
+make-active-requires : tie.Need-make-active-requires
+make-active-requires c κs = visit-inside (c .before .before .before .before .before)
+
+same-length-6 : tie.Need-same-length-6
+same-length-6 c = search needs
+
+returns-6 : tie.Need-returns-6
+unfolding filledOf givenOf
+returns-6 c =
+    let d = c .before .before .before .before .before .before .before .before in
+    let past = past-chain (d .before .before .before .before .before .before .before .before .before .before .before .before) in
+    let i = d .before .before .before .before .before .before .before .index-of .ensures .0 in
+    step-accepted _ _ (revert-0 _ _ _ past _ i (inside-at d)) _ refl _
+    (reverted _ _ _ past _ i (inside-at d) _ (d .descriptor-of .ensures) _ (c .before .before .before .before .before .revision-at .ensures) (c .before .before .before .before .if5 .left) _ (c .before .before .make-active .ensures))
     refl
 
 pub revert-spec : {M : Type 1} → statement M
@@ -123,6 +148,10 @@ revert-spec =
     mul-p
     element-copy-out-p
     descriptor-of-requires
-    make-active-requires
+    revision-at-requires
+    open-active-requires
     same-length-5
-    returns-5)
+    returns-5
+    make-active-requires
+    same-length-6
+    returns-6)

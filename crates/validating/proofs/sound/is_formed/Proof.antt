@@ -1,5 +1,6 @@
 -- `is_formed` meets its contract, test by test.
 use Rattle.links.proofs.SoundLaws.{form-unmarked, form-layout-low, form-layout-high, form-no-volume, form-large-volume, form-unnamed, form-reserved, form-layout-2, form-layout-1}
+use native.Mathlib.Omega.{arith}
 use borrow.Author.Needs.{needs}
 use Rattle.validating.proofs.sound.is_formed.Statement.{statement}
 use Rattle.validating.proofs.sound.is_formed.Tie as tie
@@ -34,6 +35,9 @@ is-called-requires c κs = search needs
 returns-6 : tie.Need-returns-6
 returns-6 c = search form-unnamed
 
+revision-at-requires : tie.Need-revision-at-requires
+revision-at-requires c κs = omega arith
+
 add-is-reserved : tie.Need-add-is-reserved
 add-is-reserved c = search needs
 
@@ -50,7 +54,7 @@ part-is-reserved-end : tie.Need-part-is-reserved-end
 part-is-reserved-end c = search needs
 
 is-reserved-requires : tie.Need-is-reserved-requires
-is-reserved-requires c κs = search needs
+is-reserved-requires c κs = omega arith
 
 returns-7 : tie.Need-returns-7
 returns-7 c = search form-reserved
@@ -93,6 +97,7 @@ is-formed-spec =
     returns-5
     is-called-requires
     returns-6
+    revision-at-requires
     add-is-reserved
     add-is-reserved-2
     sub-is-reserved

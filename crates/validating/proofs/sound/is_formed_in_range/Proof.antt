@@ -1,5 +1,6 @@
 -- `is_formed_in_range` meets its contract, test by test.
 use Rattle.links.proofs.SoundLaws.{form-unmarked, form-unnamed, form-reserved, form-layout-2, form-layout-1}
+use native.Mathlib.Omega.{arith}
 use borrow.Author.Needs.{needs}
 use Rattle.validating.proofs.sound.is_formed_in_range.Statement.{statement}
 use Rattle.validating.proofs.sound.is_formed_in_range.Tie as tie
@@ -22,6 +23,9 @@ is-called-requires c κs = search needs
 returns-2 : tie.Need-returns-2
 returns-2 c = search form-unnamed
 
+revision-at-requires : tie.Need-revision-at-requires
+revision-at-requires c κs = omega arith
+
 add-is-reserved : tie.Need-add-is-reserved
 add-is-reserved c = search needs
 
@@ -38,7 +42,7 @@ part-is-reserved-end : tie.Need-part-is-reserved-end
 part-is-reserved-end c = search needs
 
 is-reserved-requires : tie.Need-is-reserved-requires
-is-reserved-requires c κs = search needs
+is-reserved-requires c κs = omega arith
 
 returns-3 : tie.Need-returns-3
 returns-3 c = search form-reserved
@@ -77,6 +81,7 @@ is-formed-in-range-spec =
     returns
     is-called-requires
     returns-2
+    revision-at-requires
     add-is-reserved
     add-is-reserved-2
     sub-is-reserved
