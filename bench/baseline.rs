@@ -234,8 +234,8 @@ impl Chain {
 
     // Takes a descriptor in, unless it is unsound by itself; its next.
     fn pass(&mut self, blocks: &[Block], p: u32) -> Result<u32, Refusal> {
-        let b = &blocks[p as usize];
-        if !is_sound(b, self.layout, self.revision, self.cost, p, blocks.len() as u32) {
+        let (b, n) = (&blocks[p as usize], blocks.len() as u32);
+        if !is_sound(b, self.layout, self.revision, self.cost, p, n) {
             return refuse_at(6, p);
         }
         self.starts.push(p);
@@ -416,10 +416,9 @@ pub fn revert(card: &mut [u8], name: &[u8]) -> Answer {
     chain.walk(blocks, Some(name))?;
     let mut p = chain.snapshot()?;
     let active = *name_of(&blocks[chain.alpha as usize]);
-    let b = &blocks[p as usize];
     if chain.revision == 1 {
-        // fits: the next region starts there and has as many blocks at least
-        let to = get(b, BETA);
+        // fits: the region after the snapshot's starts there, and has as many blocks at least
+        let to = get(&blocks[p as usize], BETA);
         open(blocks, p, to, chain.cost);
         p = to;
     }

@@ -255,8 +255,8 @@ fn blocks() {
         {
             return;
         }
-        // other bytes in the free blocks, for a revert in all after the last descriptor, and for a format in all, so that
-        // every store shows
+        // other bytes in the free blocks, for a revert in all after the last descriptor, and for a format in all, so
+        // that every store shows
         let mut before = card.to_vec();
         let free = match row.kind {
             row::Kind::Ream => 0,

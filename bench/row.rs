@@ -56,7 +56,7 @@ const KINDS: [Kind; 10] = [
     Kind::Check,
 ];
 
-// All rows, those with the same card beside one another; among them a revert on the same card of the other revision.
+// All rows, those with the same card beside one another; among them stands the revert on such a card of revision 1.
 pub fn rows() -> Vec<Row> {
     let mut rows = Vec::new();
     for layout in [1, 2] {
@@ -99,8 +99,8 @@ pub fn rows() -> Vec<Row> {
     rows
 }
 
-// One snapshot less than the most is for the snap that takes the last one; a format does not look at the card; revision 1
-// is for the revert, which alone goes by it.
+// One snapshot less than the most is for the snap that takes the last one; a format does not look at the card; revision
+// 1 is for the revert, which alone goes by it.
 fn is_row(row: &Row) -> bool {
     let s = row.setting;
     let fits = match row.kind {

@@ -30,8 +30,8 @@ struct Pair {
     given: Given,
 }
 
-// What came of the calls: how often each answer was given, by its number, and how many reverts were accepted, by layout
-// and revision.
+// What came of the calls: how often each answer was given, by its number; how many reverts were accepted, by layout and
+// revision.
 #[derive(Default)]
 struct Given {
     answers: BTreeMap<u32, u64>,
@@ -60,8 +60,8 @@ impl Pair {
         let number = x.err().map_or(0, |r| r.number);
         *self.given.answers.entry(number).or_default() += 1;
         if matches!(call, Call::Revert { .. }) && number == 0 {
-            let rule = (get(&self.a, 0, LAYOUT), get(&self.a, 0, REVISION));
-            *self.given.reverts.entry(rule).or_default() += 1;
+            let kind = (get(&self.a, 0, LAYOUT), get(&self.a, 0, REVISION));
+            *self.given.reverts.entry(kind).or_default() += 1;
         }
         number == 0
     }
@@ -194,10 +194,10 @@ fn damage(r: &mut Random, card: &mut [u8]) -> u32 {
             6 => put(card, p, ALPHA, other as u32),
             7 => put(card, p, LAYOUT, 3 - layout),
             8 => put(card, p, REVISION, some_revision(r)),
-            // the other rule, for the whole card
+            // the other revision, on the whole card
             9 => {
-                let other = 1 - get(card, p, REVISION);
-                chain.iter().for_each(|&p| put(card, p, REVISION, other))
+                let revision = 1 - get(card, p, REVISION);
+                chain.iter().for_each(|&p| put(card, p, REVISION, revision))
             }
             _ => put(card, p, VOLUME, volume + 1),
         }

@@ -1,11 +1,11 @@
--- The stores of a write, a snap and a revert, in order and computed from the card at entry; the records of a listing; what a read and a write do once the entry is found.
+-- The stores of a write, a snap and a revert, in order and computed from the card at entry; what stays of a list at a rollback; the records of a listing; what a read and a write do once the entry is found.
 use mathlib.Core.List.{List, [], _∷_}
 use Prim.Native.Nat.{ℕ, suc, _+_}
 use Rattle.blocks.specs.Pick.{pick}
 use lib.Dec.{eqb, ltb}
 use Rattle.blocks.specs.Bytes.{Store, store, blockCount, storeAll}
 use Rattle.blocks.specs.Name.{noName}
-use Rattle.blocks.specs.Descriptor.{physical, revisionOf, tailAt, descriptorBlock, renamedOf, linkedOf, reopenedOf, reopening}
+use Rattle.blocks.specs.Descriptor.{physical, revisionOf, tailAt, descriptorBlock, renamedOf, linkedOf, reopening}
 use Rattle.blocks.specs.declared.descriptor.Descriptor.{Descriptor}
 use Rattle.chains.specs.Chain.{activeOf}
 use Rattle.entries.specs.Entry.{need, writing}
@@ -29,10 +29,6 @@ unfoldable pub reverting : List ℕ → Descriptor → List ℕ → List Store
 reverting c v activeName =
     let w = activatedOf v activeName in
     pick (eqb (revisionOf c) 1) (reopening c w []) (store (w .alpha .0) (descriptorBlock w (tailAt c (w .alpha .0))) ∷ [])
-
--- the active descriptor after it
-unfoldable pub returnedOf : ℕ → Descriptor → List ℕ → Descriptor
-returnedOf revision v activeName = let w = activatedOf v activeName in pick (eqb revision 1) (reopenedOf w) w
 
 -- how many of a list a rollback to its item i leaves: those before it, and on revision 1 the item too
 unfoldable pub staying : ℕ → ℕ → ℕ

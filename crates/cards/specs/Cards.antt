@@ -134,6 +134,10 @@ snaps =
     ∷ change first2
     (Snap mon)
     (fullPhi (descriptor 2 130 0 3 3 mon) 1 0 10 ++ table 2 0 ++ counted 2 ++ fullPhi (descriptor 2 130 3 4 0 letters16) 1 0 10 ++ lent)
+    -- the same of revision 1, which is copied too
+    ∷ change (fullPhiOf 1 (descriptor 2 130 0 3 0 letters16) 1 0 10 ++ table 2 0 ++ counted 2 ++ counted 50 ++ lent)
+    (Snap mon)
+    (fullPhiOf 1 (descriptor 2 130 0 3 3 mon) 1 0 10 ++ table 2 0 ++ counted 2 ++ fullPhiOf 1 (descriptor 2 130 3 4 0 letters16) 1 0 10 ++ lent)
     -- layout 1, a second snap: the first snapshot stays
     ∷ change
     second1
@@ -171,7 +175,7 @@ reverts =
 abbrev pub firstTwenty : ℕ → ℕ → ℕ → ℕ → ℕ → List ℕ
 firstTwenty layout low high alpha beta = 115 ∷ 110 ∷ 97 ∷ 112 ∷ layout ∷ 0 ∷ 0 ∷ 0 ∷ low ∷ high ∷ 0 ∷ 0 ∷ alpha ∷ 0 ∷ 0 ∷ 0 ∷ beta ∷ 0 ∷ 0 ∷ 0 ∷ []
 
--- A format stores the revision in bytes 40 to 43, lowest byte first: layout 2 and layout 1, of revision 1 and of revision 0. L is 300 and 1.
+-- A format stores the revision in bytes 40 to 43, lowest byte first: layout 2, L 300, of revision 1 and of revision 0; layout 1, L 1, of revision 1.
 unfoldable pub reams : List Change
 reams =
     change (counted 5 ++ counted 6)

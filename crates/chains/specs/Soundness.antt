@@ -1,4 +1,4 @@
--- When a descriptor is sound, a second time: in 01's own words and numbers, byte by byte, and with nothing of the definitions that the calls are made of.
+-- When a descriptor is sound, a second time: in 01's own words and numbers, and 02's for the revision (W5), byte by byte, and with nothing of the definitions that the calls are made of.
 use mathlib.Core.Path.{_≡_}
 use mathlib.Core.Logic.{_⊎_, _↔_}
 use mathlib.Core.Bool.{true}

@@ -22,7 +22,7 @@ use Rattle.blocks.proofs.NameLaws.{name-size}
 use Rattle.blocks.proofs.RegionLaws.{reopening-above, reopening-covers, reopening-kept, reopening-block, reopening-length}
 use Rattle.chains.proofs.NamedLaws.{named-left, index-below}
 use Rattle.calls.specs.Parts.{descriptorsOf, snapshotsOf, withName}
-use Rattle.calls.specs.Effect.{activatedOf, reverting, revertStores, returnedOf, staying}
+use Rattle.calls.specs.Effect.{activatedOf, reverting, revertStores, staying}
 use Rattle.calls.proofs.CardLaws.{card-most, chain-is}
 use Rattle.calls.proofs.Passed.{RevertPassed}
 use Rattle.calls.proofs.VisitLaws.{before, behind, name-split, visit-split, visit-next, visit-room, visit-end}
@@ -36,6 +36,10 @@ use Rattle.blocks.proofs.StoreLists.{Whole, none, isStored, stored-length, stor
 use Rattle.links.proofs.MemberLaws.{member-from, member-is, member-region, member-inside, member-long, member-end, member-rise, member-layout, member-volume, member-phi, member-upto}
 use Rattle.calls.proofs.ActiveLaws.{active-name, active-fresh, snapshots-few}
 use Rattle.changes.proofs.WholeLaws.{revert-whole}
+
+-- the active descriptor after a revert to v
+unfoldable pub returnedOf : ℕ → Descriptor → List ℕ → Descriptor
+returnedOf revision v activeName = let w = activatedOf v activeName in pick (eqb revision 1) (reopenedOf w) w
 
 module _ (c name : List ℕ) (e : RevertPassed c name) where
   abbrev ds : List Descriptor

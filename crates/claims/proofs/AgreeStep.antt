@@ -16,7 +16,7 @@ use Rattle.entries.specs.Entry.{find, need}
 use Rattle.calls.specs.Call.{Call}
 use Rattle.calls.specs.Parts.{descriptorsOf, snapshotsOf, withName}
 use Rattle.calls.specs.Meaning.{answerOf}
-use Rattle.calls.specs.Effect.{writeStores, snapStores, revertStores, returnedOf, staying}
+use Rattle.calls.specs.Effect.{writeStores, snapStores, revertStores, staying}
 use Rattle.calls.specs.Step.{step, isAccepted}
 use Rattle.claims.specs.History.{betaOf, Agree, isFormat, formats}
 use Rattle.claims.proofs.Agreement.{agree-below, agree-chain}
@@ -31,7 +31,7 @@ use Rattle.claims.proofs.Owed.{owed}
 use Rattle.links.proofs.LinkedLaws.{active-append}
 use Rattle.changes.proofs.WholeLaws.{write-whole, snap-whole, revert-whole}
 use Rattle.links.proofs.SharedLaws.{below-revision}
-use Rattle.changes.proofs.RevertedChain.{reverted-chain, returned}
+use Rattle.changes.proofs.RevertedChain.{returnedOf, reverted-chain, returned}
 use Rattle.changes.proofs.SnappedChain.{snapped-chain, snap-covered}
 use Rattle.changes.proofs.WrittenChain.{written-chain, write-covered}
 

@@ -20,7 +20,7 @@ use Rattle.links.proofs.ChainLaws.{active-snoc, descriptors-are}
 use Rattle.entries.specs.Entry.{need}
 use Rattle.calls.specs.Call.{Call}
 use Rattle.calls.specs.Parts.{descriptorsOf, snapshotsOf, withName, foundThrough}
-use Rattle.calls.specs.Effect.{writeStores, snapStores, revertStores, returnedOf, staying}
+use Rattle.calls.specs.Effect.{writeStores, snapStores, revertStores, staying}
 use Rattle.calls.specs.Step.{step}
 use Rattle.claims.specs.History.{isFormat, formats}
 use Rattle.links.proofs.RelinkedLaws.{beta-before}
@@ -33,7 +33,7 @@ use Rattle.calls.proofs.CardLaws.{active-split, snapshots-snoc, snapshots-are, 
 use Rattle.links.proofs.MemberLaws.{member-from, member-fresh}
 use Rattle.changes.proofs.WholeLaws.{write-whole, snap-whole, revert-whole}
 use Rattle.calls.proofs.VisitLaws.{before, behind}
-use Rattle.changes.proofs.RevertedChain.{revert-split, visit-below, reverted-chain, returned, revert-above}
+use Rattle.changes.proofs.RevertedChain.{returnedOf, revert-split, visit-below, reverted-chain, returned, revert-above}
 use Rattle.changes.proofs.SnappedChain.{snap-above, snapped-chain}
 use Rattle.changes.proofs.WrittenChain.{written-chain, write-above}
 use Rattle.chains.proofs.NamedLaws.{named-left}

@@ -21,7 +21,7 @@ use Rattle.chains.proofs.NamedLaws.{named-none, named-cons, index-at}
 use Rattle.links.proofs.ChainLaws.{active-snoc, descriptors-are, is-sound}
 use Rattle.calls.specs.Call.{Call, Revert, Check}
 use Rattle.calls.specs.Parts.{descriptorsOf, snapshotsOf, withName}
-use Rattle.calls.specs.Effect.{activatedOf, reverting, snapStores, revertStores, returnedOf, staying}
+use Rattle.calls.specs.Effect.{activatedOf, reverting, snapStores, revertStores, staying}
 use Rattle.calls.specs.Meaning.{answerOf, storesOf}
 use Rattle.calls.specs.Step.{step, after, isAccepted}
 use Rattle.claims.specs.History.{betaOf, Agree, AreBytes, Standing, without, isSnapOf}
@@ -44,7 +44,7 @@ use Rattle.claims.proofs.Owed.{owed}
 use Rattle.links.proofs.MemberLaws.{member-fresh, member-inside, member-rise, member-long}
 use Rattle.changes.proofs.WholeLaws.{revert-whole}
 use Rattle.calls.proofs.VisitLaws.{before, behind}
-use Rattle.changes.proofs.RevertedChain.{revert-split, reverted-chain, revert-covers}
+use Rattle.changes.proofs.RevertedChain.{returnedOf, revert-split, reverted-chain, revert-covers}
 use Rattle.changes.proofs.SnappedChain.{snapped-chain}
 
 -- v stands on t: a revert to it leaves the descriptors before it, on revision 1 v too, and then the one that is active

@@ -10,13 +10,13 @@ use Rattle.blocks.specs.declared.descriptor.Descriptor.{Descriptor}
 use Rattle.links.proofs.ChainLaws.{descriptors-are}
 use Rattle.calls.specs.Call.{Call, Write, Snap, Revert}
 use Rattle.calls.specs.Parts.{descriptorsOf, snapshotsOf, withName}
-use Rattle.calls.specs.Effect.{revertStores, returnedOf, staying}
+use Rattle.calls.specs.Effect.{revertStores, staying}
 use Rattle.calls.specs.Meaning.{answerOf, storesOf}
 use Rattle.calls.specs.Step.{step, isAccepted}
 use Rattle.calls.proofs.StepLaws.{accepted-card}
 use Rattle.claims.specs.Claims.{blocksNeeded, RoomClaim}
 use Rattle.calls.proofs.Passed.{write-passed, snap-passed, revert-passed}
-use Rattle.changes.proofs.RevertedChain.{reverted-chain}
+use Rattle.changes.proofs.RevertedChain.{returnedOf, reverted-chain}
 use Rattle.changes.proofs.SnappedChain.{snapped-chain}
 use Rattle.changes.proofs.WrittenChain.{written-chain}
 

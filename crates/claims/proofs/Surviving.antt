@@ -7,25 +7,28 @@ use Prim.Native.Nat.{ℕ, suc, _+_, _*_, _-_, _/_, _%_, _≤_, _<_}
 use native.Mathlib.Omega.{arith}
 use lib.ListN.{length, take, getD}
 use lib.Seq.{append-snoc, getD-take, getD-append-add}
-use lib.Dec.{eqb}
+use lib.Dec.{eqb, ltb}
+use borrow.Author.Tests.{ne-eqb, le-ltb, eqb-true, eqb-false, ltb-true, ltb-false}
 use Rattle.blocks.specs.Pick.{pick, same}
 use Rattle.blocks.specs.Bytes.{le32, blockCount, blockAt, storeAll}
-use Rattle.blocks.specs.Descriptor.{costOf, descriptorAt, revisionOf, headBytes, tailAt, descriptorBlock, reopenedOf, reopening}
+use Rattle.blocks.specs.Descriptor.{costOf, costIn, revisionOf, revisionOk, headBytes, tailAt, descriptorBlock, reopenedOf, reopening}
 use Rattle.blocks.specs.declared.descriptor.Descriptor.{Descriptor}
 use Rattle.chains.specs.Chain.{Sound, chain, chainSound, indexOf, named, activeOf}
-use Rattle.blocks.proofs.BoolLaws.{or-true}
+use Rattle.blocks.proofs.BoolLaws.{no, or-true}
 use Rattle.blocks.proofs.ListLaws.{same-self}
 use Rattle.blocks.proofs.ByteLaws.{part-at}
-use Rattle.blocks.proofs.DescriptorLaws.{head-length, block-back}
+use Rattle.blocks.proofs.DescriptorLaws.{head-length, block-back, revision-large, small-revision}
 use Rattle.blocks.proofs.RegionLaws.{reopening-table, reopening-past, reopening-tail}
 use Rattle.chains.proofs.NamedLaws.{named-append, named-one, index-below}
 use Rattle.links.proofs.ChainLaws.{active-snoc, descriptors-are, is-sound}
 use Rattle.links.proofs.MemberLaws.{member-is, member-form, member-inside, member-long, member-name, member-fresh}
 use Rattle.links.proofs.SoundLaws.{form-mark}
 use Rattle.blocks.proofs.NameLaws.{name-size}
-use Rattle.calls.specs.Call.{Call, Revert}
-use Rattle.calls.specs.Parts.{descriptorsOf, snapshotsOf, withName}
-use Rattle.calls.specs.Ladder.{row, firstRow, admission, revertRows}
+use Rattle.calls.specs.declared.answer.Answer.{Answer}
+use Rattle.calls.specs.Call.{Call, Ream, Revert, answer}
+use Rattle.calls.specs.Parts.{areaBad, descriptorsOf, snapshotsOf, withName}
+use Rattle.blocks.specs.Name.{isName}
+use Rattle.calls.specs.Ladder.{row, firstRow, admission, reamRows, revertRows}
 use Rattle.calls.specs.Effect.{activatedOf, revertStores, staying}
 use Rattle.calls.specs.Meaning.{rowsOf, answerOf}
 use Rattle.calls.specs.Step.{step, after, isAccepted}
@@ -35,7 +38,7 @@ use Rattle.calls.proofs.Passed.{RevertPassed, revert-passed, revert-accepted}
 use Rattle.calls.proofs.VisitLaws.{before, behind, visit-end}
 use Rattle.claims.specs.History.{Agree, AreBytes, Standing, At, latestSnap}
 use Rattle.claims.specs.Claims.{RevertedAt}
-use Rattle.claims.specs.Surviving.{Survives, SurvivesClaim, RoomAtVisitClaim, AsAfterSnapClaim}
+use Rattle.claims.specs.Surviving.{Survives, SurvivesClaim, RoomAtVisitClaim, RevisionClaim, StayingClaim, AsAfterSnapClaim}
 use Rattle.changes.proofs.RevertedChain.{revert-split, same-long, visit-below, visit-bytes, called-long, stores-open, below-visit, new-block, reverted-1, reverted-revision}
 use Rattle.claims.proofs.CardBytes.{bytes-run}
 use Rattle.claims.proofs.Latest.{latest-at}
@@ -209,6 +212,29 @@ pub survives-claim : SurvivesClaim
 unfolding SurvivesClaim
 survives-claim c name bytes revision accepted = survives c name bytes revision accepted
 
+-- two answers with other numbers are not the same
+other : {A : Type 0} (n : ℕ) → answer n 0 ≡ answer 17 0 → (n ≡ 17 → ⊥) → A
+other n e f = absurd (f (ap (λ (a : Answer). a .number) e))
+
+either-layout : (l : ℕ) → (eqb l 1 || eqb l 2) ≡ true → (l ≡ 1) ⊎ (l ≡ 2)
+either-layout l = by (eqb l 1) (eqb l 2) refl refl
+  where
+    by : (x y : Bool) → eqb l 1 ≡ x → eqb l 2 ≡ y → (x || y) ≡ true → (l ≡ 1) ⊎ (l ≡ 2)
+    by true y e f h = inl (eqb-true l 1 e)
+    by false true e f h = inr (eqb-true l 2 f)
+    by false false e f h = no h
+
+layout-is : (l : ℕ) → (l ≡ 1) ⊎ (l ≡ 2) → (eqb l 1 || eqb l 2) ≡ true
+layout-is l (inl e) = rw e
+layout-is l (inr e) = rw e
+
+no-revision : (r : ℕ) → revisionOk r ≡ false → 2 ≤ r
+no-revision r h = by (ltb r 2) refl
+  where
+    by : (z : Bool) → ltb r 2 ≡ z → 2 ≤ r
+    by true e = no (sym h ∙ small-revision r (omega (arith, ltb-true r 2 e)))
+    by false e = ltb-false r 2 e
+
 -- the numbers that a revert can give
 number-by : (a n y s : Bool) (p : ℕ) → firstRow (row a 1 0 ∷ row n 4 0 ∷ row y 6 p ∷ row s 7 0 ∷ []) .number ≤ 7
 unfolding firstRow
@@ -226,9 +252,39 @@ pub room-at-visit-claim : RoomAtVisitClaim
 unfolding RoomAtVisitClaim
 room-at-visit-claim c name = (
   λ ok there. let ds = descriptorsOf c in let is = chain-is (chain c) ok in (visit-end c ds is name there, omega (arith, index-below (snapshotsOf ds) name there, snapshots-few c ds is)),
+  (
+    λ e. let p = revert-passed c name (ap isAccepted e) in (p .area, p .called, p .sound, p .there),
+    λ h. revert-accepted c name (record { area = h .0; called = h .1; sound = h .2; there = h .3 }),
+  ),
   λ n. omega (arith, n, number-small c name),
   λ n. omega (arith, n, number-small c name),
 )
+
+-- a ream's 17: by the rows before it and its own
+revision-by : (a l z v r n k : Bool) → firstRow (row a 1 0 ∷ row (not l) 2 0 ∷ row (z || v) 3 0 ∷ row (not r) 17 0 ∷ row (not n) 4 0 ∷ row k 5 0 ∷ []) ≡ answer 17 0
+    → (a ≡ false) × (l ≡ true) × (z ≡ false) × (v ≡ false) × (r ≡ false)
+unfolding firstRow
+revision-by true l z v r n k e = other 1 e (λ q. omega (arith, q))
+revision-by false false z v r n k e = other 2 e (λ q. omega (arith, q))
+revision-by false true true v r n k e = other 3 e (λ q. omega (arith, q))
+revision-by false true false true r n k e = other 3 e (λ q. omega (arith, q))
+revision-by false true false false false n k e = (refl, refl, refl, refl, refl)
+revision-by false true false false true false k e = other 4 e (λ q. omega (arith, q))
+revision-by false true false false true true true e = other 5 e (λ q. omega (arith, q))
+revision-by false true false false true true false e = other 0 e (λ q. omega (arith, q))
+
+pub revision-claim : RevisionClaim
+unfolding RevisionClaim answerOf rowsOf admission reamRows firstRow
+revision-claim c format = (
+  λ e.
+      let h = revision-by (areaBad c) (eqb (format .layout) 1 || eqb (format .layout) 2) (eqb (format .volume) 0) (ltb 14336 (format .volume)) (revisionOk (format .revision)) (isName (format .name)) (ltb (blockCount c) (costIn format)) e in
+      (h .0, either-layout (format .layout) (h .1), omega (arith, eqb-false (format .volume) 0 (h .2)), ltb-false 14336 (format .volume) (h .3), no-revision (format .revision) (h .4)),
+  λ h. rw (h .0, layout-is (format .layout) (h .1), ne-eqb (format .volume) 0 (omega (arith, h .2)), le-ltb 14336 (format .volume) (h .3), revision-large (format .revision) (h .4)),
+)
+
+pub staying-claim : StayingClaim
+unfolding StayingClaim staying
+staying-claim i = (refl, refl)
 
 pub as-after-snap-claim : AsAfterSnapClaim
 unfolding AsAfterSnapClaim staying

@@ -1,42 +1,53 @@
 -- 01's worked example on a card of revision 1, in both layouts, with a second rollback to the same visit: what the calls answer, and what demand 3 says of
 -- each rollback. The snap, at position 1, stays in the shorter lists: of the first rollback these are the write and the snap, then all that comes after position 6.
--- And from the card just after the snap, where the visit stands on the starting card.
-use mathlib.Core.Path.{_≡_, refl, ap, subst}
+-- And from the card just after the snap, where the visit stands on the starting card, on either revision.
+use mathlib.Core.Path.{_≡_, refl, sym, ap, _∙_, subst}
 use mathlib.Core.Bool.{true}
 use mathlib.Core.List.{List, map}
 use Prim.Native.Nat.{ℕ}
 use native.Mathlib.Omega.{arith}
-use lib.ListN.{take, drop, replicate}
+use lib.ListN.{length, take, drop, replicate}
 use Rattle.blocks.specs.Descriptor.{formatOf}
+use Rattle.blocks.specs.declared.descriptor.Format.{Format}
+use Rattle.calls.specs.declared.answer.Answer.{Answer}
 use Rattle.calls.specs.Call.{Call, Outcome, accepted}
 use Rattle.calls.specs.Effect.{staying}
 use Rattle.calls.specs.Step.{after, outcomes}
-use Rattle.claims.specs.History.{Standing, none, more, isReam, isFormat, writtenBy, formattable, isSnapOf, Position, At, latestSnap, without}
+use Rattle.claims.specs.History.{Standing, none, more, isReam, isFormat, writtenBy, formattable, formatted, isSnapOf, Position, Nowhere, At, latestSnap, without}
 use Rattle.claims.specs.Claims.{Matched, RevertedAt, Forgets, RollbackClaim, FormatLedgerClaim}
 use Rattle.claims.specs.Bench.{area, fs, mon}
-use Rattle.claims.specs.Example.{exampleCalls, exampleOutcomes}
-use Rattle.claims.specs.SurvivingExample.{survivingCard, survivingCalls, survivingOutcomes}
+use Rattle.claims.specs.Example.{exampleCard, exampleCalls, exampleOutcomes}
+use Rattle.claims.specs.SurvivingExample.{survivingCard, survivingCalls, survivingOutcomes, survivingAnswers}
 use Rattle.claims.proofs.Running.{running}
-use Rattle.claims.proofs.Runs.{standing-take, standing-drop}
+use Rattle.claims.proofs.Runs.{standing-take, standing-drop, standing-length, after-length}
 use Rattle.claims.proofs.CardBytes.{bytes-run, bytes-format}
 use Rattle.claims.proofs.LedgerRun.{format-ledger-claim}
 use Rattle.claims.proofs.Demand.{rollback-claim}
 use Rattle.claims.proofs.Answered.{answers, reverted-by, latestBy, latest-by}
-use Rattle.claims.proofs.NotEmpty.{matched, area-bytes, block-bytes, nil-bytes}
+use Rattle.claims.proofs.NotEmpty.{matched, area-bytes, block-bytes, nil-bytes, example-standing, can-layout-1, can-layout-2}
 
-pub surviving-layout-2 : outcomes survivingCalls (survivingCard 2) ≡ survivingOutcomes 3 6 4
+pub surviving-layout-2 : outcomes survivingCalls (survivingCard 2) ≡ survivingOutcomes 3 6 4 7
 unfolding running exampleCalls exampleOutcomes survivingCalls survivingOutcomes
 surviving-layout-2 = refl
 
-pub surviving-layout-1 : outcomes survivingCalls (survivingCard 1) ≡ survivingOutcomes 4 8 7
+pub surviving-layout-1 : outcomes survivingCalls (survivingCard 1) ≡ survivingOutcomes 4 8 7 11
 unfolding running exampleCalls exampleOutcomes survivingCalls survivingOutcomes
 surviving-layout-1 = refl
 
-surviving-standing : (c : List ℕ) → Standing c survivingCalls
-unfolding exampleCalls survivingCalls isFormat isReam writtenBy
-surviving-standing c =
+-- the ream is refused on a card of sixteen blocks, in whatever layout it is
+standing-1 : Standing (survivingCard 1) survivingCalls
+unfolding running exampleCalls survivingCalls isFormat isReam writtenBy
+standing-1 =
     more refl (block-bytes 7 (omega arith)) (more refl nil-bytes (more refl (block-bytes 9 (omega arith)) (more refl nil-bytes (more refl nil-bytes (more refl nil-bytes
-    (more refl nil-bytes (more refl nil-bytes (more refl nil-bytes (more refl (block-bytes 11 (omega arith)) (more refl nil-bytes (more refl nil-bytes (more refl nil-bytes (more refl nil-bytes (more refl nil-bytes none))))))))))))))
+    (more refl nil-bytes (more refl nil-bytes (more refl nil-bytes (more refl (block-bytes 11 (omega arith)) (more refl nil-bytes (more refl nil-bytes (more refl nil-bytes (more refl nil-bytes (more refl nil-bytes
+    (more refl nil-bytes (more refl nil-bytes (more refl nil-bytes (more refl nil-bytes (more refl nil-bytes none)))))))))))))))))))
+
+same-length : length (survivingCard 1) ≡ length (survivingCard 2)
+unfolding running
+same-length = refl
+
+standing-2 : Standing (survivingCard 2) survivingCalls
+standing-2 = standing-length (survivingCard 1) (survivingCard 2) same-length survivingCalls standing-1
 
 can-surviving-1 : formattable (area 16) (formatOf 1 200 1 fs) ≡ true
 unfolding running formattable
@@ -46,73 +57,104 @@ can-surviving-2 : formattable (area 16) (formatOf 2 200 1 fs) ≡ true
 unfolding running formattable
 can-surviving-2 = refl
 
-said-1 : answers survivingCalls (survivingCard 1) ≡ replicate 15 accepted
-unfolding exampleOutcomes survivingOutcomes
+said-1 : answers survivingCalls (survivingCard 1) ≡ survivingAnswers
+unfolding exampleOutcomes survivingOutcomes survivingAnswers
 said-1 = ap (λ (os : List Outcome). map (λ (o : Outcome). o .answer) os) surviving-layout-1
 
-said-2 : answers survivingCalls (survivingCard 2) ≡ replicate 15 accepted
-unfolding exampleOutcomes survivingOutcomes
+said-2 : answers survivingCalls (survivingCard 2) ≡ survivingAnswers
+unfolding exampleOutcomes survivingOutcomes survivingAnswers
 said-2 = ap (λ (os : List Outcome). map (λ (o : Outcome). o .answer) os) surviving-layout-2
 
-module _ (layout : ℕ) (can : formattable (area 16) (formatOf layout 200 1 fs) ≡ true) (said : answers survivingCalls (survivingCard layout) ≡ replicate 15 accepted) where
+module _ (layout : ℕ) (can : formattable (area 16) (formatOf layout 200 1 fs) ≡ true) (standing : Standing (survivingCard layout) survivingCalls) (said : answers survivingCalls (survivingCard layout) ≡ survivingAnswers) where
   first-reverted : RevertedAt (survivingCard layout) survivingCalls 6 mon
-  unfolding exampleCalls survivingCalls
-  first-reverted = reverted-by survivingCalls (survivingCard layout) (replicate 15 accepted) said 6 mon (omega arith) refl refl
+  unfolding exampleCalls survivingCalls survivingAnswers
+  first-reverted = reverted-by survivingCalls (survivingCard layout) survivingAnswers said 6 mon (omega arith) refl refl
 
-  again-reverted : RevertedAt (survivingCard layout) survivingCalls 12 mon
-  unfolding exampleCalls survivingCalls
-  again-reverted = reverted-by survivingCalls (survivingCard layout) (replicate 15 accepted) said 12 mon (omega arith) refl refl
+  again-reverted : RevertedAt (survivingCard layout) survivingCalls 17 mon
+  unfolding exampleCalls survivingCalls survivingAnswers
+  again-reverted = reverted-by survivingCalls (survivingCard layout) survivingAnswers said 17 mon (omega arith) refl refl
 
   first-latest : latestSnap mon (survivingCard layout) (take 6 survivingCalls) ≡ At 1
-  unfolding running exampleCalls survivingCalls latestBy isSnapOf
-  first-latest = latest-by mon 6 survivingCalls (survivingCard layout) (replicate 15 accepted) said
+  unfolding running exampleCalls survivingCalls survivingAnswers latestBy isSnapOf
+  first-latest = latest-by mon 6 survivingCalls (survivingCard layout) survivingAnswers said
 
-  again-latest : latestSnap mon (survivingCard layout) (take 12 survivingCalls) ≡ At 1
-  unfolding running exampleCalls survivingCalls latestBy isSnapOf
-  again-latest = latest-by mon 12 survivingCalls (survivingCard layout) (replicate 15 accepted) said
+  again-latest : latestSnap mon (survivingCard layout) (take 17 survivingCalls) ≡ At 1
+  unfolding running exampleCalls survivingCalls survivingAnswers latestBy isSnapOf
+  again-latest = latest-by mon 17 survivingCalls (survivingCard layout) survivingAnswers said
 
   first-forgotten : Matched (survivingCard layout) survivingCalls 7 (without survivingCalls 2 6) 2
   unfolding staying
-  first-forgotten = matched 16 (formatOf layout 200 1 fs) can survivingCalls (surviving-standing (survivingCard layout)) 6 mon first-reverted 1 first-latest
+  first-forgotten = matched 16 (formatOf layout 200 1 fs) can survivingCalls standing 6 mon first-reverted 1 first-latest
 
-  again-forgotten : Matched (survivingCard layout) survivingCalls 13 (without survivingCalls 2 12) 2
+  again-forgotten : Matched (survivingCard layout) survivingCalls 18 (without survivingCalls 2 17) 2
   unfolding staying
-  again-forgotten = matched 16 (formatOf layout 200 1 fs) can survivingCalls (surviving-standing (survivingCard layout)) 12 mon again-reverted 1 again-latest
+  again-forgotten = matched 16 (formatOf layout 200 1 fs) can survivingCalls standing 17 mon again-reverted 1 again-latest
 
-  -- the card just after the snap as the start: mon stands on it, and no snap of it is among the calls
+-- the card just after the snap as the start, of either revision: mon stands on it, and no snap of it is among the calls
+module _ (format : Format) (can : formattable (area 16) format ≡ true) (calls : List Call) (standing : Standing (formatted (area 16) format) calls) where
   abbrev start : List ℕ
-  start = after (take 2 survivingCalls) (survivingCard layout)
+  start = after (take 2 calls) (formatted (area 16) format)
 
   abbrev rest : List Call
-  rest = drop 2 survivingCalls
+  rest = drop 2 calls
 
-  start-matched : answers rest start ≡ replicate 13 accepted → Matched start rest 5 (drop 4 rest) 1
-  unfolding running exampleCalls survivingCalls latestBy isSnapOf FormatLedgerClaim RollbackClaim Forgets
-  start-matched answered =
-      let standing = surviving-standing (survivingCard layout) in
-      let run = format-ledger-claim (area 16) (formatOf layout 200 1 fs) can (take 2 survivingCalls) (standing-take (survivingCard layout) survivingCalls 2 standing) in
-      let bytes = bytes-run (take 2 survivingCalls) (survivingCard layout) (bytes-format (area 16) (formatOf layout 200 1 fs) (area-bytes 16) can) (standing-take (survivingCard layout) survivingCalls 2 standing) in
-      let reverted : RevertedAt start rest 4 mon = reverted-by rest start (replicate 13 accepted) answered 4 mon (omega arith) refl refl in
-      let forgets = rollback-claim start rest bytes (run .1 .sound) (standing-drop start survivingCalls 2 (surviving-standing start)) 4 mon reverted in
-      subst (λ (p : Position). Forgets start mon rest 4 p) (latest-by mon 4 rest start (replicate 13 accepted) answered) forgets .3
+  start-matched : (said : List Answer) → answers rest start ≡ said → RevertedAt start rest 4 mon → latestBy mon (take 4 rest) said 0 Nowhere ≡ Nowhere → Matched start rest 5 (drop 4 rest) 1
+  unfolding FormatLedgerClaim RollbackClaim Forgets
+  start-matched said answered reverted none-there =
+      let c = formatted (area 16) format in
+      let before = standing-take c calls 2 standing in
+      let run = format-ledger-claim (area 16) format can (take 2 calls) before in
+      let bytes = bytes-run (take 2 calls) c (bytes-format (area 16) format (area-bytes 16) can) before in
+      let here = standing-length c start (sym (after-length (take 2 calls) c)) rest (standing-drop c calls 2 standing) in
+      let forgets = rollback-claim start rest bytes (run .1 .sound) here 4 mon reverted in
+      subst (λ (p : Position). Forgets start mon rest 4 p) (latest-by mon 4 rest start said answered ∙ none-there) forgets .3
 
-rest-1 : answers (drop 2 survivingCalls) (after (take 2 survivingCalls) (survivingCard 1)) ≡ replicate 13 accepted
-unfolding running exampleCalls survivingCalls
+rest-1 : answers (drop 2 survivingCalls) (after (take 2 survivingCalls) (survivingCard 1)) ≡ drop 2 survivingAnswers
+unfolding running exampleCalls survivingCalls survivingAnswers
 rest-1 = refl
 
-rest-2 : answers (drop 2 survivingCalls) (after (take 2 survivingCalls) (survivingCard 2)) ≡ replicate 13 accepted
-unfolding running exampleCalls survivingCalls
+rest-2 : answers (drop 2 survivingCalls) (after (take 2 survivingCalls) (survivingCard 2)) ≡ drop 2 survivingAnswers
+unfolding running exampleCalls survivingCalls survivingAnswers
 rest-2 = refl
 
--- both rollbacks, and the start after the snap, in each layout
-pub surviving-forgotten-1 : Matched (survivingCard 1) survivingCalls 7 (without survivingCalls 2 6) 2 × Matched (survivingCard 1) survivingCalls 13 (without survivingCalls 2 12) 2
-surviving-forgotten-1 = (first-forgotten 1 can-surviving-1 said-1, again-forgotten 1 can-surviving-1 said-1)
+old-rest-1 : answers (drop 2 exampleCalls) (after (take 2 exampleCalls) (exampleCard 1)) ≡ replicate 7 accepted
+unfolding running exampleCalls
+old-rest-1 = refl
 
-pub surviving-forgotten-2 : Matched (survivingCard 2) survivingCalls 7 (without survivingCalls 2 6) 2 × Matched (survivingCard 2) survivingCalls 13 (without survivingCalls 2 12) 2
-surviving-forgotten-2 = (first-forgotten 2 can-surviving-2 said-2, again-forgotten 2 can-surviving-2 said-2)
+old-rest-2 : answers (drop 2 exampleCalls) (after (take 2 exampleCalls) (exampleCard 2)) ≡ replicate 7 accepted
+unfolding running exampleCalls
+old-rest-2 = refl
+
+module _ (layout : ℕ) (can : formattable (area 16) (formatOf layout 200 1 fs) ≡ true) (standing : Standing (survivingCard layout) survivingCalls)
+    (answered : answers (drop 2 survivingCalls) (after (take 2 survivingCalls) (survivingCard layout)) ≡ drop 2 survivingAnswers) where
+  surviving-start : Matched (after (take 2 survivingCalls) (survivingCard layout)) (drop 2 survivingCalls) 5 (drop 4 (drop 2 survivingCalls)) 1
+  unfolding running exampleCalls survivingCalls survivingAnswers latestBy isSnapOf
+  surviving-start =
+      start-matched (formatOf layout 200 1 fs) can survivingCalls standing (drop 2 survivingAnswers) answered
+      (reverted-by (drop 2 survivingCalls) (after (take 2 survivingCalls) (survivingCard layout)) (drop 2 survivingAnswers) answered 4 mon (omega arith) refl refl) refl
+
+module _ (layout : ℕ) (can : formattable (area 16) (formatOf layout 200 0 fs) ≡ true) (answered : answers (drop 2 exampleCalls) (after (take 2 exampleCalls) (exampleCard layout)) ≡ replicate 7 accepted) where
+  example-start : Matched (after (take 2 exampleCalls) (exampleCard layout)) (drop 2 exampleCalls) 5 (drop 4 (drop 2 exampleCalls)) 1
+  unfolding running exampleCalls latestBy isSnapOf
+  example-start =
+      start-matched (formatOf layout 200 0 fs) can exampleCalls (example-standing (exampleCard layout)) (replicate 7 accepted) answered
+      (reverted-by (drop 2 exampleCalls) (after (take 2 exampleCalls) (exampleCard layout)) (replicate 7 accepted) answered 4 mon (omega arith) refl refl) refl
+
+-- both rollbacks, and the start after the snap, in each layout
+pub surviving-forgotten-1 : Matched (survivingCard 1) survivingCalls 7 (without survivingCalls 2 6) 2 × Matched (survivingCard 1) survivingCalls 18 (without survivingCalls 2 17) 2
+surviving-forgotten-1 = (first-forgotten 1 can-surviving-1 standing-1 said-1, again-forgotten 1 can-surviving-1 standing-1 said-1)
+
+pub surviving-forgotten-2 : Matched (survivingCard 2) survivingCalls 7 (without survivingCalls 2 6) 2 × Matched (survivingCard 2) survivingCalls 18 (without survivingCalls 2 17) 2
+surviving-forgotten-2 = (first-forgotten 2 can-surviving-2 standing-2 said-2, again-forgotten 2 can-surviving-2 standing-2 said-2)
 
 pub surviving-start-1 : Matched (after (take 2 survivingCalls) (survivingCard 1)) (drop 2 survivingCalls) 5 (drop 4 (drop 2 survivingCalls)) 1
-surviving-start-1 = start-matched 1 can-surviving-1 said-1 rest-1
+surviving-start-1 = surviving-start 1 can-surviving-1 standing-1 rest-1
 
 pub surviving-start-2 : Matched (after (take 2 survivingCalls) (survivingCard 2)) (drop 2 survivingCalls) 5 (drop 4 (drop 2 survivingCalls)) 1
-surviving-start-2 = start-matched 2 can-surviving-2 said-2 rest-2
+surviving-start-2 = surviving-start 2 can-surviving-2 standing-2 rest-2
+
+pub example-start-1 : Matched (after (take 2 exampleCalls) (exampleCard 1)) (drop 2 exampleCalls) 5 (drop 4 (drop 2 exampleCalls)) 1
+example-start-1 = example-start 1 can-layout-1 old-rest-1
+
+pub example-start-2 : Matched (after (take 2 exampleCalls) (exampleCard 2)) (drop 2 exampleCalls) 5 (drop 4 (drop 2 exampleCalls)) 1
+example-start-2 = example-start 2 can-layout-2 old-rest-2

@@ -46,7 +46,8 @@ NameClaim = (a b : List ℕ) → (same a b ≡ true) ↔ (a ≡ b)
 
 -- Refusals, formats and room.
 
--- the blocks that a change takes on a card: a write's need, a snap's c; and those that a call takes
+-- the blocks that a change takes on a card: a write's need, a snap's c. A revert takes none: on revision 1 too its c blocks end at or below the active beta. And
+-- those that a call takes
 unfoldable pub blocksTaken : Kind → List ℕ → ℕ
 blocksTaken (Formats format) c = 0
 blocksTaken Leaves c = 0

@@ -1,15 +1,18 @@
 -- The visit that survives its rollback: document 02, W5. What stands in quotation marks is from there. The other claims hold of both revisions as they stand.
 use mathlib.Core.Path.{_≡_}
-use mathlib.Core.Logic.{_⊎_}
-use mathlib.Core.Bool.{true}
+use mathlib.Core.Logic.{_⊎_, _↔_}
+use mathlib.Core.Bool.{true, false}
 use mathlib.Core.List.{List}
 use Prim.Native.Nat.{ℕ, suc, _+_, _*_, _<_, _≤_}
 use lib.ListN.{take, getD}
 use Rattle.blocks.specs.Bytes.{blockSize, blockAt, blockCount}
 use Rattle.blocks.specs.Descriptor.{costOf, revisionOf}
 use Rattle.chains.specs.Chain.{chain, chainSound, indexOf, named, activeOf}
-use Rattle.calls.specs.Call.{Call, Revert}
-use Rattle.calls.specs.Parts.{descriptorsOf, snapshotsOf, withName}
+use Rattle.calls.specs.Call.{Call, Ream, Revert, answer, accepted}
+use Rattle.blocks.specs.Name.{isName}
+use Rattle.blocks.specs.declared.descriptor.Format.{Format}
+use Rattle.calls.specs.Parts.{areaBad, descriptorsOf, snapshotsOf, withName}
+use Rattle.calls.specs.Effect.{staying}
 use Rattle.calls.specs.Meaning.{answerOf}
 use Rattle.calls.specs.Step.{step, after, isAccepted}
 use Rattle.claims.specs.History.{Agree, AreBytes, Standing, At, latestSnap}
@@ -39,7 +42,8 @@ unfoldable pub SurvivesClaim : Type 0
 SurvivesClaim = (c name : List ℕ) → AreBytes c → revisionOf c ≡ 1 → isAccepted (answerOf (Revert name) c) ≡ true → Survives c name
 
 -- "neither 11 nor 13 can arise, and this is shown": on every sound chain, of either revision, there is room for c blocks at the beta of each snapshot, and
--- after those before it and itself one more is among the first 256; no revert is ever answered 11 or 13.
+-- after those before it and itself one more is among the first 256. So a revert asks for neither: it is accepted exactly where the area is a card, the name is
+-- one, the chain is sound and a snapshot has the name, and it is never answered 11 or 13.
 unfoldable pub RoomAtVisitClaim : Type 0
 RoomAtVisitClaim =
     (c name : List ℕ)
@@ -47,8 +51,21 @@ RoomAtVisitClaim =
     → let ss = snapshotsOf (descriptorsOf c) in
     let v = withName ss name in
     (v .beta .0 + costOf v ≤ blockCount c) × (indexOf ss name + 2 ≤ 256))
+    × ((answerOf (Revert name) c ≡ accepted)
+    ↔ ((areaBad c ≡ false) × (isName name ≡ true) × (chainSound (chain c) ≡ true) × (named (snapshotsOf (descriptorsOf c)) name ≡ true)))
     × (answerOf (Revert name) c .number ≡ 11 → ⊥)
     × (answerOf (Revert name) c .number ≡ 13 → ⊥)
+
+-- "17, revision not 0 or 1, after 3 in ream": given exactly where neither 1, 2 nor 3 is and the revision is another number, whatever the name and c.
+unfoldable pub RevisionClaim : Type 0
+RevisionClaim =
+    (c : List ℕ) (format : Format)
+    → (answerOf (Ream format) c ≡ answer 17 0)
+    ↔ ((areaBad c ≡ false) × ((format .layout ≡ 1) ⊎ (format .layout ≡ 2)) × (1 ≤ format .volume) × (format .volume ≤ 14336) × (2 ≤ format .revision))
+
+-- What stays of a list at a rollback to its item i, be it a list of snapshots or of calls: on revision 0 the i items before it, on revision 1 the item too.
+unfoldable pub StayingClaim : Type 0
+StayingClaim = (i : ℕ) → (staying 0 i ≡ i) × (staying 1 i ≡ suc i)
 
 -- "Below beta the card is then as it was just after the snap": over whole lists, from any card of revision 1 with a sound chain; the snap is the visit's latest
 -- accepted one before the rollback.

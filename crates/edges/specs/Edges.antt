@@ -1,4 +1,4 @@
--- Values at the edges of 01's rules, besides its bench values: areas, names and cards on which one number is off by one or one byte is set, what a refused
+-- Values at the edges of 01's rules, and of 02's for the revision (W5), besides 01's bench values: areas, names and cards on which one number is off by one or one byte is set, what a refused
 -- read leaves in the caller's block, room, and which refusal comes first. The cards are written out block by block.
 use mathlib.Core.Bool.{Bool}
 use mathlib.Core.Path.{_≡_}
@@ -275,6 +275,7 @@ revisionEdges =
     ∷ only (area 2) (Ream (formatOf 3 0 2 noName)) 2 0
     ∷ only (area 2) (Ream (formatOf 2 0 2 noName)) 3 0
     ∷ only (area 2) (Ream (formatOf 1 129 2 noName)) 17 0
+    ∷ only (area 2) (Ream (formatOf 2 1 3 noName)) 17 0
     ∷ only (area 2) (Ream (formatOf 1 129 2 fs)) 17 0
     ∷ only (area 2) (Ream (formatOf 1 129 1 noName)) 4 0
     ∷ only (area 2) (Ream (formatOf 1 129 1 fs)) 5 0
@@ -284,7 +285,7 @@ revisionEdges =
     ∷ only (revised 256) (Listing []) 6 0
     ∷ only (revised 65536) (Listing []) 6 0
     ∷ only (revised 4294967295) (Listing []) 6 0
-    -- in the second descriptor: block 0's, or another; in block 0 and in the second one such that is none
+    -- in the second descriptor: block 0's, or another; in both one that is no revision
     ∷ only (pairOf 1 1) (Listing []) 14 0
     ∷ only (pairOf 0 1) (Listing []) 6 1
     ∷ only (pairOf 1 0) (Listing []) 6 1
