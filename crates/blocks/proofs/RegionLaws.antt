@@ -1,12 +1,12 @@
 -- What the stores that open a region at a descriptor's beta leave: its tables are copies, then its descriptor; every other block is as it was.
 use mathlib.Core.Path.{_≡_, refl, sym, ap, _∙_}
-use mathlib.Core.Bool.{Bool, true, false, _||_}
-use mathlib.Core.List.{List, [], _∷_, _++_}
+use mathlib.Core.Bool.{Bool, true, false}
+use mathlib.Core.List.{List, [], _∷_}
 use Prim.Native.Nat.{ℕ, _+_, _*_, _-_, _≤_, _<_}
 use native.Mathlib.Omega.{arith}
 use lib.ListN.{length}
 use lib.Dec.{eqb}
-use borrow.Author.Tests.{eqb-true, eqb-false, eq-eqb}
+use borrow.Author.Tests.{eqb-false}
 use Rattle.blocks.specs.Bytes.{part, blockAt, Store, store, storeAll}
 use Rattle.blocks.specs.Descriptor.{costOf, tailAt, descriptorBlock, reopenedOf, copying, reopening}
 use Rattle.blocks.specs.declared.descriptor.Descriptor.{Descriptor}

@@ -9,17 +9,16 @@ use native.Mathlib.Omega.{arith}
 use lib.ListN.{length, take, length-append}
 use lib.Seq.{take-suc, append-snoc}
 use lib.Dec.{eqb}
-use borrow.Author.Tests.{eqb-true}
-use Rattle.blocks.specs.Pick.{pick, same}
+use Rattle.blocks.specs.Pick.{pick}
 use Rattle.blocks.specs.Bytes.{blockAt, store, storeAll, blockCount}
 use Rattle.blocks.specs.Name.{isName}
 use Rattle.blocks.specs.Descriptor.{costOf, noDescriptor, descriptorAt, revisionOf, tailAt, descriptorBlock, reopenedOf, reopening}
 use Rattle.chains.specs.Chain.{named, sound, Sound, chain, activeOf, indexOf}
 use Rattle.blocks.specs.declared.descriptor.Descriptor.{Descriptor}
 use Rattle.blocks.proofs.BoolLaws.{no}
-use Rattle.blocks.proofs.DescriptorLaws.{Fits, tail-length, fits-of, cost-least}
+use Rattle.blocks.proofs.DescriptorLaws.{Fits, tail-length, fits-of}
 use Rattle.blocks.proofs.NameLaws.{name-size}
-use Rattle.blocks.proofs.RegionLaws.{reopening-above, reopening-covers, reopening-kept, reopening-block, reopening-length}
+use Rattle.blocks.proofs.RegionLaws.{reopening-above, reopening-covers, reopening-kept, reopening-block}
 use Rattle.chains.proofs.NamedLaws.{named-left, index-below}
 use Rattle.calls.specs.Parts.{descriptorsOf, snapshotsOf, withName}
 use Rattle.calls.specs.Effect.{activatedOf, reverting, revertStores, staying}

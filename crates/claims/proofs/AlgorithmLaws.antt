@@ -45,7 +45,7 @@ use Rattle.calls.proofs.StepLaws.{accepted-card}
 use Rattle.links.proofs.StoredLaws.{form-name}
 use Rattle.blocks.proofs.StoreLists.{stored-append, copied-in, copied-out, stored-length, inside-copying}
 use Rattle.entries.proofs.TableLaws.{entry-in, phi-in}
-use Rattle.calls.proofs.ActiveLaws.{active-volume, active-name, active-through}
+use Rattle.calls.proofs.ActiveLaws.{active-volume, active-through}
 
 -- an accepted call: the card after it, and what was lent
 accepted-lent : (k : Call) (c : List ℕ) → isAccepted (answerOf k c) ≡ true → step k c .outcome .lent ≡ filledOf k c

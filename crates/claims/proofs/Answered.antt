@@ -4,7 +4,7 @@ use mathlib.Core.Bool.{true, _&&_}
 use mathlib.Core.List.{List, [], _∷_, _++_, map}
 use Prim.Native.Nat.{ℕ, zero, suc, _<_}
 use native.Mathlib.Omega.{arith}
-use lib.ListN.{length, take, getD}
+use lib.ListN.{length, take, drop, getD}
 use Rattle.blocks.specs.Pick.{pick}
 use Rattle.blocks.specs.Bytes.{storeAll}
 use Rattle.blocks.specs.declared.descriptor.Format.{Format}
@@ -30,6 +30,13 @@ unfolding outcomes after
 answer-at [] c i h = absurd (omega arith)
 answer-at (k ∷ ks) c zero h = step-answer k c
 answer-at (k ∷ ks) c (suc i) h = answer-at ks (step k c .card) i (omega arith)
+
+-- the answers from a position on are those of the calls from there on
+pub rest-answers : (n : ℕ) (ks : List Call) (c : List ℕ) → answers (drop n ks) (after (take n ks) c) ≡ drop n (answers ks c)
+unfolding outcomes after
+rest-answers zero ks c = refl
+rest-answers (suc n) [] c = refl
+rest-answers (suc n) (k ∷ ks) c = rest-answers n ks (step k c .card)
 
 -- a revert at a position whose answer is accepted
 pub reverted-by : (ks : List Call) (c : List ℕ) (said : List Answer) → answers ks c ≡ said → (k : ℕ) (v : List ℕ) → k < length ks → getD ks k Check ≡ Revert v → isAccepted (getD said k accepted) ≡ true → RevertedAt c ks k v

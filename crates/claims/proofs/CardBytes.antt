@@ -10,7 +10,7 @@ use borrow.Author.Tests.{eqb-true, leb-true}
 use Rattle.blocks.specs.Pick.{pick, allZero}
 use Rattle.blocks.specs.Bytes.{part, splice, le32, blockAt, blockCount, zeroBlock, Store, store, storeBlock, storeAll}
 use Rattle.blocks.specs.Name.{nameByte, nameLength, isName}
-use Rattle.blocks.specs.Descriptor.{physical, tableSize, mark, costOf, headBytes, tailAt, descriptorBlock, renamedOf, linkedOf, extendedOf, reopenedOf, firstOf, clearing, copying, opening, costIn, revisionOf, revisionOk, firstTail, reopening}
+use Rattle.blocks.specs.Descriptor.{tableSize, mark, costOf, headBytes, tailAt, descriptorBlock, renamedOf, linkedOf, extendedOf, reopenedOf, firstOf, clearing, copying, opening, costIn, revisionOf, revisionOk, firstTail, reopening}
 use Rattle.chains.specs.Chain.{chain, chainSound, activeOf}
 use Rattle.blocks.specs.declared.descriptor.Descriptor.{Descriptor}
 use Rattle.blocks.proofs.Tests.{and-left, and-right}

@@ -21,12 +21,10 @@ use Rattle.calls.specs.Effect.{activatedOf, revertStores, staying}
 use Rattle.links.proofs.ChainLaws.{active-snoc, descriptors-are}
 use Rattle.calls.proofs.Passed.{RevertPassed}
 use Rattle.claims.specs.Kinds.{Reverts}
-use Rattle.calls.proofs.CardLaws.{snapshots-snoc, chain-is}
+use Rattle.calls.proofs.CardLaws.{snapshots-snoc}
 use Rattle.calls.proofs.CellLaws.{cell-as}
 use Rattle.claims.proofs.LedgerLaws.{volume-named, volumes-kept, volumes-same, ledger-parts, cells-same}
-use Rattle.calls.proofs.ActiveLaws.{region-at}
 use Rattle.entries.specs.Rules.{entryOf, Rules}
-use Rattle.links.proofs.SoundLaws.{form-layout}
 use Rattle.calls.proofs.VisitLaws.{before}
 use Rattle.changes.proofs.RevertedChain.{reverted-1, reverted-revision}
 use Rattle.claims.proofs.LedgerRevert.{ledger-revert-0}

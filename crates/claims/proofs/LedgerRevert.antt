@@ -2,17 +2,15 @@
 use mathlib.Core.Path.{_≡_, refl, sym, ap, _∙_, subst}
 use mathlib.Core.Bool.{Bool, true, false, _||_}
 use mathlib.Core.List.{List, [], _∷_, _++_}
-use Prim.Native.Nat.{ℕ, suc, _≤_, _<_}
+use Prim.Native.Nat.{ℕ, suc, _<_}
 use native.Mathlib.Omega.{arith}
-use lib.ListN.{length, getD, take, length-append, List·getD-append}
-use lib.Seq.{take-suc, append-snoc}
+use lib.ListN.{length, getD, take}
 use lib.Dec.{eqb}
 use Rattle.blocks.specs.Pick.{pick}
 use Rattle.blocks.specs.Bytes.{storeAll}
-use Rattle.blocks.specs.Descriptor.{noDescriptor, revisionOf, reopenedOf}
+use Rattle.blocks.specs.Descriptor.{noDescriptor, revisionOf}
 use Rattle.blocks.specs.declared.descriptor.Descriptor.{Descriptor}
 use Rattle.chains.specs.Chain.{activeOf, chain, indexOf}
-use Rattle.chains.proofs.NamedLaws.{index-below}
 use Rattle.entries.specs.Entry.{find}
 use Rattle.calls.specs.Parts.{descriptorsOf, snapshotsOf, withName, foundThrough, blockFound}
 use Rattle.claims.specs.Ledger.{Volume, volumesKept, volumeNamed, cellsFrom, volumeOf, volumesOf, ledgerOf, ledgerChange}

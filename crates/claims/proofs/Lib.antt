@@ -32,7 +32,6 @@ pub mod Demand
 pub mod Surviving
 pub mod Answered
 pub mod NotEmpty
-pub mod SurvivingExample
 pub mod LedgerAnswers
 pub mod LedgerSnap
 pub mod LedgerWrite

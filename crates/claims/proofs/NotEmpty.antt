@@ -69,11 +69,11 @@ unfolding running formattable
 can-layout-2 = refl
 
 -- every call is accepted
-answers-layout-1 : answers exampleCalls (exampleCard 1) ≡ replicate 9 accepted
+pub answers-layout-1 : answers exampleCalls (exampleCard 1) ≡ replicate 9 accepted
 unfolding exampleOutcomes
 answers-layout-1 = ap (λ (os : List Outcome). map (λ (o : Outcome). o .answer) os) example-layout-1
 
-answers-layout-2 : answers exampleCalls (exampleCard 2) ≡ replicate 9 accepted
+pub answers-layout-2 : answers exampleCalls (exampleCard 2) ≡ replicate 9 accepted
 unfolding exampleOutcomes
 answers-layout-2 = ap (λ (os : List Outcome). map (λ (o : Outcome). o .answer) os) example-layout-2
 

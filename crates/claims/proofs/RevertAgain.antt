@@ -4,7 +4,7 @@ use mathlib.Core.Bool.{Bool, true, false}
 use mathlib.Core.List.{List, []}
 use Prim.Native.Nat.{ℕ, _+_, _*_, _-_, _≤_, _<_}
 use native.Mathlib.Omega.{arith}
-use lib.ListN.{length, take}
+use lib.ListN.{length}
 use lib.Seq.{take-all}
 use lib.Dec.{eqb, ltb}
 use borrow.Author.Tests.{eqb-true, eqb-false, ltb-true, ltb-false}
@@ -21,8 +21,8 @@ use Rattle.claims.specs.History.{Agree}
 use Rattle.claims.proofs.Agreement.{blocks-agree, agree-back}
 use Rattle.changes.proofs.RevertedChain.{stores-open, visit-below, visit-bytes, called-long}
 
--- the snapshot is v, and w is v under the active name and with a nil next
-module _ (x name : List ℕ) (e : RevertPassed x name) (one : eqb (revisionOf x) 1 ≡ true) (v w : Descriptor) (v-is : withName (snapshotsOf (descriptorsOf x)) name ≡ v)
+-- w is the snapshot under the active name and with a nil next
+module _ (x name : List ℕ) (e : RevertPassed x name) (one : eqb (revisionOf x) 1 ≡ true) (w : Descriptor)
     (w-is : activatedOf (withName (snapshotsOf (descriptorsOf x)) name) (activeOf (descriptorsOf x) .name) ≡ w)
     (opened : blockAt x (w .beta .0) ≡ descriptorBlock (reopenedOf w) (tailAt x (w .alpha .0)))
     (copied : (t : ℕ) → t + 1 < costOf w → blockAt x (w .beta .0 + 1 + t) ≡ blockAt x (w .alpha .0 + 1 + t)) where

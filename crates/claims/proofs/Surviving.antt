@@ -9,11 +9,11 @@ use lib.ListN.{length, take, getD}
 use lib.Seq.{append-snoc, getD-take, getD-append-add}
 use lib.Dec.{eqb, ltb}
 use borrow.Author.Tests.{ne-eqb, le-ltb, eqb-true, eqb-false, ltb-true, ltb-false}
-use Rattle.blocks.specs.Pick.{pick, same}
+use Rattle.blocks.specs.Pick.{same}
 use Rattle.blocks.specs.Bytes.{le32, blockCount, blockAt, storeAll}
 use Rattle.blocks.specs.Descriptor.{costOf, costIn, revisionOf, revisionOk, headBytes, tailAt, descriptorBlock, reopenedOf, reopening}
 use Rattle.blocks.specs.declared.descriptor.Descriptor.{Descriptor}
-use Rattle.chains.specs.Chain.{Sound, chain, chainSound, indexOf, named, activeOf}
+use Rattle.chains.specs.Chain.{Sound, chain, named, activeOf}
 use Rattle.blocks.proofs.BoolLaws.{no, or-true}
 use Rattle.blocks.proofs.ListLaws.{same-self}
 use Rattle.blocks.proofs.ByteLaws.{part-at}
@@ -25,7 +25,7 @@ use Rattle.links.proofs.MemberLaws.{member-is, member-form, member-inside, memb
 use Rattle.links.proofs.SoundLaws.{form-mark}
 use Rattle.blocks.proofs.NameLaws.{name-size}
 use Rattle.calls.specs.declared.answer.Answer.{Answer}
-use Rattle.calls.specs.Call.{Call, Ream, Revert, answer}
+use Rattle.calls.specs.Call.{Revert, answer}
 use Rattle.calls.specs.Parts.{areaBad, descriptorsOf, snapshotsOf, withName}
 use Rattle.blocks.specs.Name.{isName}
 use Rattle.calls.specs.Ladder.{row, firstRow, admission, reamRows, revertRows}
@@ -36,8 +36,7 @@ use Rattle.calls.proofs.ActiveLaws.{snapshots-few}
 use Rattle.calls.proofs.CardLaws.{chain-is, area-kept, snapshots-snoc, card-even}
 use Rattle.calls.proofs.Passed.{RevertPassed, revert-passed, revert-accepted}
 use Rattle.calls.proofs.VisitLaws.{before, behind, visit-end}
-use Rattle.claims.specs.History.{Agree, AreBytes, Standing, At, latestSnap}
-use Rattle.claims.specs.Claims.{RevertedAt}
+use Rattle.claims.specs.History.{Agree, AreBytes}
 use Rattle.claims.specs.Surviving.{Survives, SurvivesClaim, RoomAtVisitClaim, RevisionClaim, StayingClaim, AsAfterSnapClaim}
 use Rattle.changes.proofs.RevertedChain.{revert-split, same-long, visit-below, visit-bytes, called-long, stores-open, below-visit, new-block, reverted-1, reverted-revision}
 use Rattle.claims.proofs.CardBytes.{bytes-run}
@@ -184,7 +183,7 @@ module _ (c name : List ℕ) (bytes : AreBytes c) (revision : revisionOf c ≡ 1
 
   again-card : storeAll t (revertStores t name) ≡ t
   again-card =
-      again-same t name passed-again (ap (λ (r : ℕ). eqb r 1) (reverted-revision c name e) ∙ one) v w visit-is
+      again-same t name passed-again (ap (λ (r : ℕ). eqb r 1) (reverted-revision c name e) ∙ one) w
       (ap (λ (d : Descriptor). activatedOf d (activeOf (descriptorsOf t) .name)) visit-is ∙ ap (λ (d : Descriptor). activatedOf v (d .name)) active-is)
       (new-block c name e one ∙ ap (descriptorBlock (reopenedOf w)) (sym tail-is))
       (λ i h. table-block i h ∙ sym (kept-block (v .alpha .0 + 1 + i) (omega (arith, long))))

@@ -165,7 +165,7 @@ module _ (c name : List ℕ) (e : SnapPassed c name) where
 
   agree-after : eqb (revisionOf c) 1 ≡ true → Agree u t
   agree-after one =
-      again-agree t name there-then (ap (λ (n : ℕ). eqb n 1) (snapped-revision c name e) ∙ one) old d visit-is made-is still-opened still-copied
+      again-agree t name there-then (ap (λ (n : ℕ). eqb n 1) (snapped-revision c name e) ∙ one) d made-is still-opened still-copied
 
   -- on revision 0 the active descriptor is again where it was
   module _ (zero : eqb (revisionOf c) 1 ≡ false) where

@@ -9,4 +9,3 @@ pub mod OnePass
 pub mod Bench
 pub mod Example
 pub mod SecondExample
-pub mod SurvivingExample

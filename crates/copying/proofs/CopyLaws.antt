@@ -12,11 +12,10 @@ use lib.Dec.{ltb}
 use borrow.Author.Tests.{ltb-true, ltb-false}
 use Rattle.blocks.specs.Pick.{pick}
 use Rattle.blocks.specs.Bytes.{Store, store, part, splice, blockAt, storeBlock, storeAll, storeUpto}
-use Rattle.blocks.specs.Descriptor.{costOf, headBytes, tailAt, descriptorBlock, reopenedOf, copying, reopening}
+use Rattle.blocks.specs.Descriptor.{headBytes, tailAt, descriptorBlock, copying}
 use Rattle.blocks.specs.declared.descriptor.Descriptor.{Descriptor}
-use Rattle.blocks.proofs.ByteLaws.{outside, copied, copied-more, copied-all, copied-splice, copied-other, length-part, part-at, part-part, part-ext, part-join, splice-other, splice-join, splice-whole, length-splice, upto-whole}
-use Rattle.blocks.proofs.DescriptorLaws.{tail-length, tail-block, block-whole}
-use Rattle.blocks.proofs.StoreLists.{stored-append, stored-one, stored-length, inside-copying, copied-out}
+use Rattle.blocks.proofs.ByteLaws.{outside, copied, copied-more, copied-all, copied-splice, copied-other, length-part, part-at, part-part, part-ext, part-join, splice-other, splice-join, splice-whole, length-splice}
+use Rattle.blocks.proofs.StoreLists.{stored-append, stored-one, copied-out}
 
 -- bytes s to e of block p copied to block q, one by one: the byte that comes next is as it was
 module _ (c : List ℕ) (p q s e : ℕ) (rise : s ≤ e) (few : e ≤ 512) (inside-p : 512 * p + 512 ≤ length c) (inside-q : 512 * q + 512 ≤ length c) where
@@ -161,28 +160,3 @@ module _ (c : List ℕ) (p q k : ℕ) (d : Descriptor) (few : k ≤ 512) (inside
       ∙ ap (λ (z : List ℕ). splice z (512 * q + e) (part x (512 * p + e) (k - e))) first
       ∙ splice-join c (512 * q) (take e head) (512 * q + e) (part x (512 * p + e) (k - e)) at (omega arith)
       ∙ ap (splice c (512 * q)) (rw h (by-end e x (ltb k 40) refl g (rw (← h) first)))
-
--- a region's opening: its tables copied, then the pass for its descriptor, which finds bytes 40 to 511 of d's block as they were
-module _ (c c₁ : List ℕ) (d : Descriptor) (k : ℕ) (some : 1 ≤ k) (below : d .alpha .0 + k ≤ d .beta .0) (inside : 512 * (d .beta .0 + k) ≤ length c)
-    (done : c₁ ≡ storeAll c (copying c (d .alpha .0 + 1) (d .beta .0 + 1) (k - 1))) where
-  abbrev a : ℕ
-  a = d .alpha .0
-
-  length-is : length c₁ ≡ length c
-  length-is = ap length done ∙ stored-length (length c) c refl (inside-copying c (a + 1) (d .beta .0 + 1) (k - 1) (omega arith) (omega arith))
-
-  tail-found : tailAt c₁ a ≡ tailAt c a
-  tail-found =
-      sym (tail-block c₁ a (omega (arith, length-is)))
-      ∙ ap (λ (x : List ℕ). part (blockAt x a) 40 472) done
-      ∙ ap (λ (x : List ℕ). part x 40 472) (copied-out c c refl (a + 1) (d .beta .0 + 1) (k - 1) (omega arith) (omega arith) a (λ j l. omega arith))
-      ∙ tail-block c a (omega arith)
-
-  pub region-opened : (c₂ : List ℕ) (o : Descriptor) → length (d .name) ≡ 16 → k ≡ costOf d → o ≡ reopenedOf d → c₂ ≡ storeUpto c₁ (d .beta .0) (descriptorBlock o (tailAt c₁ (d .alpha .0))) 512
-      → c₂ ≡ storeAll c (reopening c d [])
-  region-opened c₂ o n k-is o-is s =
-      let long : length (descriptorBlock o (tailAt c₁ a)) ≡ 512 = block-whole o (tailAt c₁ a) (ap (λ (x : Descriptor). length (x .name)) o-is ∙ n) (tail-length c₁ a (omega (arith, length-is))) in
-      s
-      ∙ upto-whole c₁ (d .beta .0) (descriptorBlock o (tailAt c₁ a)) long (omega (arith, length-is))
-      ∙ rw (tail-found, o-is, done, k-is)
-      (sym (stored-append c (copying c (a + 1) (d .beta .0 + 1) (costOf d - 1)) (store (d .beta .0) (descriptorBlock (reopenedOf d) (tailAt c a)) ∷ []) ∙ stored-one (storeAll c (copying c (a + 1) (d .beta .0 + 1) (costOf d - 1))) (d .beta .0) (descriptorBlock (reopenedOf d) (tailAt c a))))

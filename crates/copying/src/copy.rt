@@ -6,13 +6,12 @@ use blocks::sizes::BLOCK_SIZE;
 use blocks::sizes::HEAD_SIZE;
 use blocks::sizes::PHI_START;
 ghost use mathlib.Core.Path.{_≡_};
-ghost use mathlib.Core.List.{[]};
 ghost use Prim.Native.Nat.{_+_, _*_, _-_, _≤_, _<_};
 ghost use lib.ListN.{length};
 ghost use lib.Dec.{ltb};
 ghost use Rattle.blocks.specs.Pick.{pick};
 ghost use Rattle.blocks.specs.Bytes.{blockSize, part, splice, blockAt, storeBlock, storeAll, storeUpto};
-ghost use Rattle.blocks.specs.Descriptor.{costOf, phiStart, copying, descriptorBlock, tailAt, reopening};
+ghost use Rattle.blocks.specs.Descriptor.{phiStart, copying, descriptorBlock, tailAt};
 
 // The bytes of block `to` from `start` up to `end` are now those of block `from`.
 fn copy_part(card: &mut [u8], from: Physical, to: Physical, start: usize, end: usize)
@@ -87,18 +86,4 @@ pub fn store_descriptor_upto(card: &mut [u8], from: Physical, to: Physical, d: D
         i += 1;
     }
     copy_rest(card, from, to, split, k);
-}
-
-// Opens a region at the descriptor's beta: its tables first and rising, then its descriptor.
-pub fn open_region(card: &mut [u8], d: Descriptor, cost: u32)
-    requires { ⌜ (cost ≡ costOf d) × (d .alpha .0 + cost ≤ d .beta .0) × (blockSize * (d .beta .0 + cost) ≤ length (now card)) × (d .beta .0 + cost < 4294967296) × (1 ≤ cost) ⌝ }
-    ensures { λ _. ⌜ now (card .exit) ≡ storeAll (now (card .entry)) (reopening (now (card .entry)) d []) ⌝ }
-{
-    let alpha = d.alpha;
-    let beta = d.beta;
-    let opened = d.reopened();
-    let from = Physical(alpha.0 + 1);
-    let to = Physical(beta.0 + 1);
-    copy_blocks(card, from, to, cost - 1);
-    store_descriptor_upto(card, alpha, beta, opened, BLOCK_SIZE);
 }

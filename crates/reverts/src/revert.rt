@@ -6,9 +6,9 @@ use blocks::numbers::Physical;
 use blocks::sizes::NAME_SIZE;
 use calls::answer;
 use calls::answer::Answer;
-use copying::copy;
 use indexing::index;
 use names::name;
+use regions::region;
 use walking::chain;
 ghost use mathlib.Core.Path.{_≡_};
 ghost use mathlib.Core.List.{[]};
@@ -34,7 +34,7 @@ fn open_active(card: &mut [u8], d: Descriptor, name: [u8; NAME_SIZE])
     ensures { λ _. ⌜ now (card .exit) ≡ storeAll (now (card .entry)) (reopening (now (card .entry)) (activatedOf d name) []) ⌝ }
 {
     let cost = descriptor::opening_cost(d.layout, d.volume);
-    copy::open_region(card, d.renamed(name).linked(Physical(0)), cost);
+    region::open_region(card, d.renamed(name).linked(Physical(0)), cost);
 }
 
 // Rolls the card back to the snapshot that has the name.

@@ -7,9 +7,9 @@ use blocks::sizes::MOST_SNAPSHOTS;
 use blocks::sizes::NAME_SIZE;
 use calls::answer;
 use calls::answer::Answer;
-use copying::copy;
 use indexing::index;
 use names::name;
+use regions::region;
 use walking::chain;
 ghost use mathlib.Core.Path.{_≡_};
 ghost use Prim.Native.Nat.{_+_, _*_, _≤_, _<_};
@@ -28,7 +28,7 @@ fn take_snapshot(card: &mut [u8], d: Descriptor, cost: u32, name: [u8; NAME_SIZE
     let alpha = d.alpha;
     let beta = d.beta;
     let closed = d.renamed(name).linked(beta);
-    copy::open_region(card, d, cost);
+    region::open_region(card, d, cost);
     descriptor::put_descriptor(card, alpha, closed);
 }
 

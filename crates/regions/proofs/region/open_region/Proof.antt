@@ -2,9 +2,9 @@
 use mathlib.Core.Path.{_≡_}
 use lib.ListN.{length}
 use borrow.Author.Needs.{needs}
-use Rattle.copying.proofs.CopyLaws.{region-opened}
-use Rattle.copying.proofs.copy.open_region.Statement.{statement}
-use Rattle.copying.proofs.copy.open_region.Tie as tie
+use Rattle.regions.proofs.OpenedLaws.{region-opened}
+use Rattle.regions.proofs.region.open_region.Statement.{statement}
+use Rattle.regions.proofs.region.open_region.Tie as tie
 
 reopened-requires : tie.Need-reopened-requires
 reopened-requires c κs = search needs

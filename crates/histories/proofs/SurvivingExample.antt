@@ -13,18 +13,18 @@ use Rattle.calls.specs.declared.answer.Answer.{Answer}
 use Rattle.calls.specs.Call.{Call, Outcome, accepted}
 use Rattle.calls.specs.Effect.{staying}
 use Rattle.calls.specs.Step.{after, outcomes}
 use Rattle.claims.specs.History.{Standing, none, more, isReam, isFormat, writtenBy, formattable, formatted, isSnapOf, Position, Nowhere, At, latestSnap, without}
 use Rattle.claims.specs.Claims.{Matched, RevertedAt, Forgets, RollbackClaim, FormatLedgerClaim}
 use Rattle.claims.specs.Bench.{area, fs, mon}
 use Rattle.claims.specs.Example.{exampleCard, exampleCalls, exampleOutcomes}
-use Rattle.claims.specs.SurvivingExample.{survivingCard, survivingCalls, survivingOutcomes, survivingAnswers}
+use Rattle.histories.specs.SurvivingExample.{survivingCard, survivingCalls, survivingOutcomes, survivingAnswers}
 use Rattle.claims.proofs.Running.{running}
 use Rattle.claims.proofs.Runs.{standing-take, standing-drop, standing-length, after-length}
 use Rattle.claims.proofs.CardBytes.{bytes-run, bytes-format}
 use Rattle.claims.proofs.LedgerRun.{format-ledger-claim}
 use Rattle.claims.proofs.Demand.{rollback-claim}
-use Rattle.claims.proofs.Answered.{answers, reverted-by, latestBy, latest-by}
-use Rattle.claims.proofs.NotEmpty.{matched, area-bytes, block-bytes, nil-bytes, example-standing, can-layout-1, can-layout-2}
+use Rattle.claims.proofs.Answered.{answers, rest-answers, reverted-by, latestBy, latest-by}
+use Rattle.claims.proofs.NotEmpty.{matched, area-bytes, block-bytes, nil-bytes, example-standing, can-layout-1, can-layout-2, answers-layout-1, answers-layout-2}
 
 pub surviving-layout-2 : outcomes survivingCalls (survivingCard 2) ≡ survivingOutcomes 3 6 4 7
 unfolding running exampleCalls exampleOutcomes survivingCalls survivingOutcomes
@@ -109,36 +109,26 @@ module _ (format : Format) (can : formattable (area 16) format ≡ true) (calls 
       let forgets = rollback-claim start rest bytes (run .1 .sound) here 4 mon reverted in
       subst (λ (p : Position). Forgets start mon rest 4 p) (latest-by mon 4 rest start said answered ∙ none-there) forgets .3
 
-rest-1 : answers (drop 2 survivingCalls) (after (take 2 survivingCalls) (survivingCard 1)) ≡ drop 2 survivingAnswers
-unfolding running exampleCalls survivingCalls survivingAnswers
-rest-1 = refl
-
-rest-2 : answers (drop 2 survivingCalls) (after (take 2 survivingCalls) (survivingCard 2)) ≡ drop 2 survivingAnswers
-unfolding running exampleCalls survivingCalls survivingAnswers
-rest-2 = refl
-
-old-rest-1 : answers (drop 2 exampleCalls) (after (take 2 exampleCalls) (exampleCard 1)) ≡ replicate 7 accepted
-unfolding running exampleCalls
-old-rest-1 = refl
-
-old-rest-2 : answers (drop 2 exampleCalls) (after (take 2 exampleCalls) (exampleCard 2)) ≡ replicate 7 accepted
-unfolding running exampleCalls
-old-rest-2 = refl
-
 module _ (layout : ℕ) (can : formattable (area 16) (formatOf layout 200 1 fs) ≡ true) (standing : Standing (survivingCard layout) survivingCalls)
-    (answered : answers (drop 2 survivingCalls) (after (take 2 survivingCalls) (survivingCard layout)) ≡ drop 2 survivingAnswers) where
+    (said : answers survivingCalls (survivingCard layout) ≡ survivingAnswers) where
+  answered : answers (drop 2 survivingCalls) (after (take 2 survivingCalls) (survivingCard layout)) ≡ drop 2 survivingAnswers
+  answered = rest-answers 2 survivingCalls (survivingCard layout) ∙ ap (λ (given : List Answer). drop 2 given) said
+
   surviving-start : Matched (after (take 2 survivingCalls) (survivingCard layout)) (drop 2 survivingCalls) 5 (drop 4 (drop 2 survivingCalls)) 1
   unfolding running exampleCalls survivingCalls survivingAnswers latestBy isSnapOf
   surviving-start =
       start-matched (formatOf layout 200 1 fs) can survivingCalls standing (drop 2 survivingAnswers) answered
       (reverted-by (drop 2 survivingCalls) (after (take 2 survivingCalls) (survivingCard layout)) (drop 2 survivingAnswers) answered 4 mon (omega arith) refl refl) refl
 
-module _ (layout : ℕ) (can : formattable (area 16) (formatOf layout 200 0 fs) ≡ true) (answered : answers (drop 2 exampleCalls) (after (take 2 exampleCalls) (exampleCard layout)) ≡ replicate 7 accepted) where
+module _ (layout : ℕ) (can : formattable (area 16) (formatOf layout 200 0 fs) ≡ true) (said : answers exampleCalls (exampleCard layout) ≡ replicate 9 accepted) where
+  answered-then : answers (drop 2 exampleCalls) (after (take 2 exampleCalls) (exampleCard layout)) ≡ replicate 7 accepted
+  answered-then = rest-answers 2 exampleCalls (exampleCard layout) ∙ ap (λ (given : List Answer). drop 2 given) said
+
   example-start : Matched (after (take 2 exampleCalls) (exampleCard layout)) (drop 2 exampleCalls) 5 (drop 4 (drop 2 exampleCalls)) 1
   unfolding running exampleCalls latestBy isSnapOf
   example-start =
-      start-matched (formatOf layout 200 0 fs) can exampleCalls (example-standing (exampleCard layout)) (replicate 7 accepted) answered
-      (reverted-by (drop 2 exampleCalls) (after (take 2 exampleCalls) (exampleCard layout)) (replicate 7 accepted) answered 4 mon (omega arith) refl refl) refl
+      start-matched (formatOf layout 200 0 fs) can exampleCalls (example-standing (exampleCard layout)) (replicate 7 accepted) answered-then
+      (reverted-by (drop 2 exampleCalls) (after (take 2 exampleCalls) (exampleCard layout)) (replicate 7 accepted) answered-then 4 mon (omega arith) refl refl) refl
 
 -- both rollbacks, and the start after the snap, in each layout
 pub surviving-forgotten-1 : Matched (survivingCard 1) survivingCalls 7 (without survivingCalls 2 6) 2 × Matched (survivingCard 1) survivingCalls 18 (without survivingCalls 2 17) 2
@@ -148,13 +138,13 @@ pub surviving-forgotten-2 : Matched (survivingCard 2) survivingCalls 7 (without 
 surviving-forgotten-2 = (first-forgotten 2 can-surviving-2 standing-2 said-2, again-forgotten 2 can-surviving-2 standing-2 said-2)
 
 pub surviving-start-1 : Matched (after (take 2 survivingCalls) (survivingCard 1)) (drop 2 survivingCalls) 5 (drop 4 (drop 2 survivingCalls)) 1
-surviving-start-1 = surviving-start 1 can-surviving-1 standing-1 rest-1
+surviving-start-1 = surviving-start 1 can-surviving-1 standing-1 said-1
 
 pub surviving-start-2 : Matched (after (take 2 survivingCalls) (survivingCard 2)) (drop 2 survivingCalls) 5 (drop 4 (drop 2 survivingCalls)) 1
-surviving-start-2 = surviving-start 2 can-surviving-2 standing-2 rest-2
+surviving-start-2 = surviving-start 2 can-surviving-2 standing-2 said-2
 
 pub example-start-1 : Matched (after (take 2 exampleCalls) (exampleCard 1)) (drop 2 exampleCalls) 5 (drop 4 (drop 2 exampleCalls)) 1
-example-start-1 = example-start 1 can-layout-1 old-rest-1
+example-start-1 = example-start 1 can-layout-1 answers-layout-1
 
 pub example-start-2 : Matched (after (take 2 exampleCalls) (exampleCard 2)) (drop 2 exampleCalls) 5 (drop 4 (drop 2 exampleCalls)) 1
-example-start-2 = example-start 2 can-layout-2 old-rest-2
+example-start-2 = example-start 2 can-layout-2 answers-layout-2

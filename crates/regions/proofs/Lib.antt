@@ -1,0 +1,2 @@
+-- The law of a region's opening.
+pub mod OpenedLaws
