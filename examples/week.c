@@ -1,6 +1,6 @@
 /*
- * The week of examples/week.sheet on a card of revision 1, with two rollbacks to one visit. On Monday the depot formats the card
- * and the clinic's prescription follows on Tuesday; the machine at home adds its sessions. On Friday the desk rolls the card back
+ * The week of examples/week.sheet on a card of revision 1, with two rollbacks to one visit. On Monday the depot formats the card,
+ * on Tuesday the clinic writes the prescription, and the machine at home adds its sessions. On Friday the desk rolls the card back
  * to Tuesday's visit, tries another setting, and rolls back to the same visit again.
  * Ends with status 1 where an answer is not the expected one.
  *

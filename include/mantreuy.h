@@ -184,8 +184,10 @@ enum {
  * made as writes need them, and a read or a write follows up to two entries.
  * `revision` is MANTREUY_REVISION_0 or MANTREUY_REVISION_1; the calls on the card
  * go by it from then on, and nothing but another format changes it.
- * `revision` is new in this interface. A caller that was written without it gives
- * MANTREUY_REVISION_0 there, and its cards are the same as before, byte for byte.
+ * The interface changed: `revision`, after `volume`, is new, and so is answer 17.
+ * A caller that was written without it gives MANTREUY_REVISION_0 there, and its
+ * cards are the same as before, byte for byte. Objects that were compiled with the
+ * older header must be compiled anew, since the linker does not see the difference.
  *
  * Refusals, in this order: 1, 2, 3, 17, 4, 5 (c > N).
  */
@@ -210,9 +212,9 @@ uint32_t mantreuy_read(const uint8_t *card, size_t card_length, uint32_t snapsho
 /*
  * Writes `bytes`, which must be 512 bytes long, as logical block `block` of the
  * active volume. No snapshot changes. On a card that these calls have made it
- * takes 0, 1 or 2 new blocks: none where the content that it replaces was written since
- * the newest snapshot, or since the format where there is none; in layout 2 two
- * where it is the first write to its group of 128 logical blocks since then;
+ * takes 0, 1 or 2 new blocks: none where the content that it replaces was written
+ * since the newest snapshot, or since the format where there is none; in layout 2
+ * two where it is the first write to its group of 128 logical blocks since then;
  * otherwise one. Writes that a revert has taken back do not count. Zeros are
  * written like any other bytes.
  *

@@ -365,8 +365,8 @@ impl<A: AsRef<[u8]> + AsMut<[u8]>> Card<A> {
     /// logical blocks, or part of 128, in layout 1.
     ///
     /// The revision is [`REVISION_0`] or [`REVISION_1`], and says what [`Card::revert`] does with the snapshot that it
-    /// goes back to. It is new here: a caller that was written without it gives [`REVISION_0`], and its cards are the
-    /// same as before, byte for byte.
+    /// goes back to. The interface changed with it: a caller that was written without it gives [`REVISION_0`], and
+    /// its cards are the same as before, byte for byte.
     ///
     /// # Errors
     ///

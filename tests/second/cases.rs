@@ -214,8 +214,9 @@ pub fn all() -> Vec<Case> {
     case("three visits, layout 1", 32, three_1());
     case("three visits, layout 2", 32, three_2());
     case("names of every length", 8, names());
-    case("255 visits, N 256", 256, most());
-    case("255 visits, N 300", 300, most());
+    case("255 visits, layout 1, N 512", 512, most(1, 2));
+    case("255 visits, layout 2, N 256", 256, most(2, 1));
+    case("255 visits, layout 2, N 300", 300, most(2, 1));
     cases
 }
 
@@ -554,26 +555,27 @@ fn names() -> Vec<Step> {
     steps
 }
 
-/// 255 visits of one block each, the active descriptor at 255: 13 comes before 11, and a rollback
+/// 255 visits of c blocks each, the active descriptor after them: 13 comes before 11, and a rollback
 /// is accepted although there are 256 descriptors, to the last visit and to an earlier one.
-fn most() -> Vec<Step> {
+fn most(layout: u64, c: usize) -> Vec<Step> {
+    let cost = c as u64;
     let names: Vec<String> = (0..255).map(|k| format!("s{k}")).collect();
     let listed = |count: u64| {
         let mut given: Vec<(&str, u64, u64, u64)> = Vec::new();
         for (name, k) in names.iter().zip(0..count) {
-            given.push((name, k, k + 1, k + 1));
+            given.push((name, k * cost, (k + 1) * cost, (k + 1) * cost));
         }
-        given.push(("fs", count, count + 1, 0));
+        given.push(("fs", count * cost, (count + 1) * cost, 0));
         list(&given)
     };
-    let mut steps = vec![ream(2, 9, 1, "fs")];
+    let mut steps = vec![ream(layout, 9, 1, "fs")];
     steps.extend(names.iter().map(|name| snap(name)));
     steps.extend([listed(255), snap("more").refused(13)]);
-    steps.extend([revert("s254").keeps(256), listed(255)]);
-    steps.extend([revert("s254").keeps(256), listed(255), check()]);
+    steps.extend([revert("s254").keeps(256 * c), listed(255)]);
+    steps.extend([revert("s254").keeps(256 * c), listed(255), check()]);
     steps.push(snap("more").refused(13));
-    steps.extend([revert("s7").keeps(8), listed(8), read("*", 0, 0)]);
-    steps.extend([revert("s8").refused(7), revert("s7").keeps(9), listed(8)]);
+    steps.extend([revert("s7").keeps(8 * c), listed(8), read("*", 0, 0)]);
+    steps.extend([revert("s8").refused(7), revert("s7").keeps(9 * c), listed(8)]);
     steps.extend([snap("s8"), listed(9), snap("s7").refused(12), check()]);
     steps
 }

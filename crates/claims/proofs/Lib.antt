@@ -1,7 +1,6 @@
 -- The theorems, and the laws that they rest on.
 pub mod Running
 pub mod Bench
-pub mod Example
 pub mod Areas
 pub mod Rows
 pub mod Agreement
@@ -30,8 +29,6 @@ pub mod CardBytes
 pub mod Rollback
 pub mod Demand
 pub mod Surviving
-pub mod Answered
-pub mod NotEmpty
 pub mod LedgerAnswers
 pub mod LedgerSnap
 pub mod LedgerWrite

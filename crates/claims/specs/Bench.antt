@@ -6,11 +6,12 @@ use lib.ListN.{replicate, set}
 use Rattle.blocks.specs.Bytes.{blockSize, zeroBlock}
 use Rattle.blocks.specs.Name.{padded, noName}
 use Rattle.calls.specs.declared.answer.Answer.{Answer}
+use Rattle.calls.specs.declared.answer.Record.{Record}
 use Rattle.calls.specs.declared.answer.Target.the-variants.{Active}
 use Rattle.calls.specs.Call.{Call, Ream, Read, Write, Snap, Revert, Listing, Lent, None, Block, Records, answer}
 use Rattle.calls.specs.Step.{Done, step}
 use Rattle.claims.specs.History.{betaOf, formatted}
-use Rattle.blocks.specs.Descriptor.{asFormat}
+use Rattle.blocks.specs.Descriptor.{physical, asFormat}
 
 -- what a value says besides number and place: nothing, the card's beta after the call, or the block that was read
 pub data Shown : Type 0 where
@@ -75,6 +76,10 @@ snapped2 = step (Snap mon) small2 .card
 -- a block lent to a read
 abbrev pub lent : List ℕ
 lent = replicate blockSize 9
+
+-- a record lent to a list
+abbrev pub blank : Record
+blank = record { name = noName; alpha = physical 1; beta = physical 2; next = physical 3 }
 
 -- a text of n letters `a`
 abbrev pub letters : ℕ → List ℕ

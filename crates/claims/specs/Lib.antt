@@ -7,5 +7,3 @@ pub mod Claims
 pub mod Surviving
 pub mod OnePass
 pub mod Bench
-pub mod Example
-pub mod SecondExample

@@ -42,7 +42,7 @@ unfoldable pub SurvivesClaim : Type 0
 SurvivesClaim = (c name : List ℕ) → AreBytes c → revisionOf c ≡ 1 → isAccepted (answerOf (Revert name) c) ≡ true → Survives c name
 
 -- "neither 11 nor 13 can arise, and this is shown": on every sound chain, of either revision, there is room for c blocks at the beta of each snapshot, and
--- after those before it and itself one more is among the first 256. So a revert asks for neither: it is accepted exactly where the area is a card, the name is
+-- after those before it and itself one more is among the first 256. And a revert asks for neither: it is accepted exactly where the area is a card, the name is
 -- one, the chain is sound and a snapshot has the name, and it is never answered 11 or 13.
 unfoldable pub RoomAtVisitClaim : Type 0
 RoomAtVisitClaim =

@@ -1,170 +1,13 @@
-// A line of the work sheet: what it asks for, and where the next one starts.
-use blocks::bytes;
-use blocks::numbers::Logical;
-use blocks::sizes::NAME_SIZE;
-use calls::answer::Target;
+// A line of the work sheet, and where the next one starts.
 use cutter::line::Cut;
 use cutter::line::Line;
 use cutter::line::MOST_LINE;
-use cutter::line::SHEET_BLOCKS;
-use cutter::line::SheetCall;
-use cutter::number;
-use cutter::number::Number;
 use cutter::word;
-use names::name;
+use forms::form;
 ghost use mathlib.Core.Path.{_≡_};
 ghost use Prim.Native.Nat.{_≤_, _<_};
 ghost use lib.ListN.{length};
-ghost use Rattle.cutter.specs.Grammar.{malformed, lineOfOne, lineOfTwo, lineOfWrite, lineOfRead, lineOfThree, lineOfFive, lineOf, readFrom, cutAt};
-
-// The largest byte, which a write may fill a block with.
-const MOST_FILL: u32 = 255;
-
-// The line that is not of the form.
-fn not_formed() -> Line
-    ensures { λ r. ⌜ r ≡ malformed ⌝ }
-{
-    Line {
-        call: SheetCall::Malformed,
-        name: [0u8; NAME_SIZE],
-    }
-}
-
-// `op=list`, `op=check`
-fn cut_one(op: &[u8]) -> Line
-    ensures { λ r. ⌜ r ≡ lineOfOne (now (op .entry)) ⌝ }
-{
-    if bytes::same_bytes(op, b"op=list") {
-        return Line {
-            call: SheetCall::List,
-            name: [0u8; NAME_SIZE],
-        };
-    }
-    if bytes::same_bytes(op, b"op=check") {
-        return Line {
-            call: SheetCall::Check,
-            name: [0u8; NAME_SIZE],
-        };
-    }
-    not_formed()
-}
-
-// `op=snap name=`, `op=revert name=`
-fn cut_two(op: &[u8], a: &[u8]) -> Line
-    ensures { λ r. ⌜ r ≡ lineOfTwo (now (op .entry)) (now (a .entry)) ⌝ }
-{
-    if !word::has_key(a, b"name=") {
-        return not_formed();
-    }
-    let name = name::pad_name(&a[5..]);
-    if bytes::same_bytes(op, b"op=snap") {
-        return Line {
-            call: SheetCall::Snap,
-            name,
-        };
-    }
-    if bytes::same_bytes(op, b"op=revert") {
-        return Line {
-            call: SheetCall::Revert,
-            name,
-        };
-    }
-    not_formed()
-}
-
-// `op=write block= fill=`, the two words after the first
-fn cut_write(a: &[u8], b: &[u8]) -> Line
-    ensures { λ r. ⌜ r ≡ lineOfWrite (now (a .entry)) (now (b .entry)) ⌝ }
-{
-    let block = match number::read_pair(a, b"block=") {
-        Number::Is(n) => n,
-        Number::Not => return not_formed(),
-    };
-    let fill = match number::read_pair(b, b"fill=") {
-        Number::Is(n) => n,
-        Number::Not => return not_formed(),
-    };
-    if MOST_FILL < fill {
-        return not_formed();
-    }
-    Line {
-        call: SheetCall::Write(Logical(block), fill as u8),
-        name: [0u8; NAME_SIZE],
-    }
-}
-
-// A read of block `l` from what the text names.
-fn read_from(from: &[u8], l: Logical) -> Line
-    ensures { λ r. ⌜ r ≡ readFrom (now (from .entry)) (l .0) ⌝ }
-{
-    if bytes::same_bytes(from, b"*") {
-        return Line {
-            call: SheetCall::Read(Target::Active, l),
-            name: [0u8; NAME_SIZE],
-        };
-    }
-    Line {
-        call: SheetCall::Read(Target::Snapshot, l),
-        name: name::pad_name(from),
-    }
-}
-
-// `op=read from= block=`, the two words after the first
-fn cut_read(a: &[u8], b: &[u8]) -> Line
-    ensures { λ r. ⌜ r ≡ lineOfRead (now (a .entry)) (now (b .entry)) ⌝ }
-{
-    if !word::has_key(a, b"from=") {
-        return not_formed();
-    }
-    match number::read_pair(b, b"block=") {
-        Number::Is(n) => read_from(&a[5..], Logical(n)),
-        Number::Not => not_formed(),
-    }
-}
-
-// `op=write block= fill=`, `op=read from= block=`
-fn cut_three(op: &[u8], a: &[u8], b: &[u8]) -> Line
-    ensures { λ r. ⌜ r ≡ lineOfThree (now (op .entry)) (now (a .entry)) (now (b .entry)) ⌝ }
-{
-    if bytes::same_bytes(op, b"op=write") {
-        return cut_write(a, b);
-    }
-    if bytes::same_bytes(op, b"op=read") {
-        return cut_read(a, b);
-    }
-    not_formed()
-}
-
-// `op=ream layout= blocks= volume= name=`
-fn cut_five(op: &[u8], a: &[u8], b: &[u8], c: &[u8], d: &[u8]) -> Line
-    ensures { λ r. ⌜ r ≡ lineOfFive (now (op .entry)) (now (a .entry)) (now (b .entry)) (now (c .entry)) (now (d .entry)) ⌝ }
-{
-    if !bytes::same_bytes(op, b"op=ream") {
-        return not_formed();
-    }
-    let layout = match number::read_pair(a, b"layout=") {
-        Number::Is(n) => n,
-        Number::Not => return not_formed(),
-    };
-    let blocks = match number::read_pair(b, b"blocks=") {
-        Number::Is(n) => n,
-        Number::Not => return not_formed(),
-    };
-    if SHEET_BLOCKS < blocks {
-        return not_formed();
-    }
-    let volume = match number::read_pair(c, b"volume=") {
-        Number::Is(n) => n,
-        Number::Not => return not_formed(),
-    };
-    if !word::has_key(d, b"name=") {
-        return not_formed();
-    }
-    Line {
-        call: SheetCall::Ream(layout, blocks, volume),
-        name: name::pad_name(&d[5..]),
-    }
-}
+ghost use Rattle.cutter.specs.Grammar.{lineOf, cutAt};
 
 // Cuts one line: its bytes without the line feed.
 fn cut_line(line: &[u8]) -> Line
@@ -172,27 +15,27 @@ fn cut_line(line: &[u8]) -> Line
 {
     let n = line.len();
     if MOST_LINE < n {
-        return not_formed();
+        return form::not_formed();
     }
     let a = word::find_byte(line, 0, 32);
     if a == n {
-        return cut_one(line);
+        return form::cut_one(line);
     }
     let b = word::find_byte(line, a + 1, 32);
     if b == n {
-        return cut_two(&line[0..a], &line[a + 1..n]);
+        return form::cut_two(&line[0..a], &line[a + 1..n]);
     }
     let c = word::find_byte(line, b + 1, 32);
     if c == n {
-        return cut_three(&line[0..a], &line[a + 1..b], &line[b + 1..n]);
+        return form::cut_three(&line[0..a], &line[a + 1..b], &line[b + 1..n]);
     }
     let d = word::find_byte(line, c + 1, 32);
     if d == n {
-        return not_formed();
+        return form::not_formed();
     }
     let e = word::find_byte(line, d + 1, 32);
     if e == n {
-        return cut_five(
+        return form::cut_five(
             &line[0..a],
             &line[a + 1..b],
             &line[b + 1..c],
@@ -200,7 +43,7 @@ fn cut_line(line: &[u8]) -> Line
             &line[d + 1..n],
         );
     }
-    not_formed()
+    form::not_formed()
 }
 
 // The line of the sheet that starts at `at`, and where the next one starts.
@@ -212,7 +55,7 @@ pub fn cut_next(sheet: &[u8], at: usize) -> Cut
     let end = word::find_byte(sheet, at, 10);
     if end == sheet.len() {
         return Cut {
-            line: not_formed(),
+            line: form::not_formed(),
             next: end,
         };
     }

@@ -13,9 +13,8 @@ use Rattle.calls.specs.declared.answer.Target.the-variants.{Active, Snapshot}
 use Rattle.calls.specs.Call.{Call, Ream, Read, Write, Snap, Revert, Listing, Check, answer}
 use Rattle.calls.specs.Meaning.{answerOf}
 use Rattle.calls.specs.Step.{step}
-use Rattle.claims.specs.Bench.{Value, Differs, area, ones, fs, mon, tue, lent}
-use Rattle.claims.specs.Example.{blank}
-use Rattle.samples.specs.Samples.{descriptor, bare, withTailByte, table, literal, snapText, oneByte, long, wed, revised, pairOf, pairOf1, visits, oneBlock, first, one, two, twoNames, second1, second2, apart1, apart2, later, tabled, three, four, empty, threeSnapshots, reading, readingFrom, only, showingBeta, showingBlock, refusing}
+use Rattle.claims.specs.Bench.{Value, Differs, area, ones, fs, mon, tue, lent, blank}
+use Rattle.samples.specs.Samples.{descriptor, bare, withTailByte, table, literal, snapText, oneByte, long, wed, revised, pairOf, pairOf1, visits, visits1, oneBlock, first, one, two, twoNames, second1, second2, apart1, apart2, later, tabled, three, four, empty, threeSnapshots, reading, readingFrom, only, showingBeta, showingBlock, refusing}
 
 unfoldable pub areaEdges : List Value
 areaEdges =
@@ -289,11 +288,15 @@ revisionEdges =
     ∷ only (pairOf 1 1) (Listing []) 14 0
     ∷ only (pairOf 0 1) (Listing []) 6 1
     ∷ only (pairOf 1 0) (Listing []) 6 1
+    ∷ only (pairOf 0 2) (Listing []) 6 1
     ∷ only (pairOf 1 257) (Listing []) 6 1
+    ∷ only (pairOf 1 4294967295) (Listing []) 6 1
     ∷ only (pairOf 2 2) (Listing []) 6 0
     ∷ only (pairOf1 1 1) (Listing []) 14 0
     ∷ only (pairOf1 0 1) (Listing []) 6 2
     ∷ only (pairOf1 1 0) (Listing []) 6 2
+    ∷ only (pairOf1 0 256) (Listing []) 6 2
+    ∷ only (pairOf1 2 2) (Listing []) 6 0
     -- beta = N, and the active descriptor stands at the visit's beta: no room for a snap, and a revert needs none; on revision 0 it gives blocks back
     ∷ only (pairOf 1 1) (Snap tue) 11 0
     ∷ showingBeta (pairOf 1 1) (Revert mon) 2
@@ -317,6 +320,9 @@ revisionEdges =
     ∷ showingBeta (visits 1) (Revert tue) 3
     ∷ showingBeta (back (visits 1) tue) (Revert mon) 2
     ∷ only (back (visits 1) tue) (Revert wed) 7 0
+    ∷ showingBeta (visits1 1) (Revert mon) 4
+    ∷ showingBeta (back (visits1 1) mon) (Revert mon) 4
+    ∷ only (back (visits1 1) mon) (Revert tue) 7 0
     -- the ladder of a revert is the same: 4, 6 and 7
     ∷ only (visits 1) (Revert noName) 4 0
     ∷ only (pairOf 1 0) (Revert mon) 6 1

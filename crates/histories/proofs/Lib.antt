@@ -1,2 +1,5 @@
--- What its calls answer, and what demand 3 says of it.
+-- What their calls answer, and what demand 3 says of them.
+pub mod Answered
+pub mod Example
+pub mod NotEmpty
 pub mod SurvivingExample

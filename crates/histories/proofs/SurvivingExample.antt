@@ -16,15 +16,15 @@ use Rattle.calls.specs.Step.{after, outcomes}
 use Rattle.claims.specs.History.{Standing, none, more, isReam, isFormat, writtenBy, formattable, formatted, isSnapOf, Position, Nowhere, At, latestSnap, without}
 use Rattle.claims.specs.Claims.{Matched, RevertedAt, Forgets, RollbackClaim, FormatLedgerClaim}
 use Rattle.claims.specs.Bench.{area, fs, mon}
-use Rattle.claims.specs.Example.{exampleCard, exampleCalls, exampleOutcomes}
+use Rattle.histories.specs.Example.{exampleCard, exampleCalls, exampleOutcomes}
 use Rattle.histories.specs.SurvivingExample.{survivingCard, survivingCalls, survivingOutcomes, survivingAnswers}
 use Rattle.claims.proofs.Running.{running}
 use Rattle.claims.proofs.Runs.{standing-take, standing-drop, standing-length, after-length}
 use Rattle.claims.proofs.CardBytes.{bytes-run, bytes-format}
 use Rattle.claims.proofs.LedgerRun.{format-ledger-claim}
 use Rattle.claims.proofs.Demand.{rollback-claim}
-use Rattle.claims.proofs.Answered.{answers, rest-answers, reverted-by, latestBy, latest-by}
-use Rattle.claims.proofs.NotEmpty.{matched, area-bytes, block-bytes, nil-bytes, example-standing, can-layout-1, can-layout-2, answers-layout-1, answers-layout-2}
+use Rattle.histories.proofs.Answered.{answers, rest-answers, reverted-by, latestBy, latest-by}
+use Rattle.histories.proofs.NotEmpty.{matched, area-bytes, block-bytes, nil-bytes, example-standing, can-layout-1, can-layout-2, answers-layout-1, answers-layout-2}
 
 pub surviving-layout-2 : outcomes survivingCalls (survivingCard 2) ≡ survivingOutcomes 3 6 4 7
 unfolding running exampleCalls exampleOutcomes survivingCalls survivingOutcomes

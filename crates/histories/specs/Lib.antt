@@ -1,2 +1,4 @@
--- A list of calls on a card of revision 1.
+-- Lists of calls: 01's worked example, a second list, and the example on a card of revision 1.
+pub mod Example
+pub mod SecondExample
 pub mod SurvivingExample

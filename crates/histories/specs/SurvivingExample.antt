@@ -7,9 +7,9 @@ use Rattle.blocks.specs.Descriptor.{formatOf}
 use Rattle.calls.specs.declared.answer.Target.the-variants.{Active, Snapshot}
 use Rattle.calls.specs.Call.{Call, Ream, Read, Write, Snap, Revert, Listing, None, Block, Records, Outcome, answer, accepted}
 use Rattle.claims.specs.History.{formatted}
-use Rattle.claims.specs.Bench.{area, fs, mon, tue, lent}
-use Rattle.claims.specs.Example.{exampleCalls, exampleOutcomes, filledBlock, blank, lentRecords, listedAs, yields}
-use Rattle.claims.specs.SecondExample.{refuses}
+use Rattle.claims.specs.Bench.{area, fs, mon, tue, lent, blank}
+use Rattle.histories.specs.Example.{exampleCalls, exampleOutcomes, filledBlock, lentRecords, listedAs, yields}
+use Rattle.histories.specs.SecondExample.{refuses}
 use Rattle.calls.specs.declared.answer.Answer.{Answer}
 
 -- blocks=16 volume=200 name=fs, in a layout, of revision 1

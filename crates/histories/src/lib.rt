@@ -1,1 +1,1 @@
-// A list of calls on a card of revision 1, computed, and what demand 3 says of it. It has no code.
+// Lists of calls, computed, and what demand 3 says of them. It has no code.

@@ -75,6 +75,14 @@ visits revision =
     ++ ofRevision revision (descriptor 2 1 2 3 3 wed)
     ++ ofRevision revision (descriptor 2 1 3 4 0 fs)
 
+-- eight blocks, the same in layout 1
+abbrev pub visits1 : ℕ → List ℕ
+visits1 revision =
+    ofRevision revision (descriptor 1 1 0 2 2 mon) ++ zeroBlock
+    ++ ofRevision revision (descriptor 1 1 2 4 4 tue) ++ zeroBlock
+    ++ ofRevision revision (descriptor 1 1 4 6 6 wed) ++ zeroBlock
+    ++ ofRevision revision (descriptor 1 1 6 8 0 fs) ++ zeroBlock
+
 -- one block: a descriptor that would be sound
 abbrev pub oneBlock : List ℕ
 oneBlock = bare (descriptor 2 1 0 1 0 fs)

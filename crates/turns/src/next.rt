@@ -1,5 +1,5 @@
 // One turn of the sheet program: the next line, cut, run and printed.
-use crate::print;
+use answers::print;
 use blocks::numbers::Physical;
 use blocks::sizes::NAME_SIZE;
 use calls::answer::Record;

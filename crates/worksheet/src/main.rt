@@ -1,7 +1,7 @@
 // The sheet program: it reads a work sheet on standard input and prints what each line answers.
+use answers::print;
 use cutter::line::SHEET_BLOCKS;
 use turns::next;
-use turns::print;
 
 // The most bytes of a sheet; one more is read, which tells a longer one.
 const MOST_SHEET: usize = 16384;

@@ -1,0 +1,50 @@
+-- `cut_three` meets its contract, by its tests.
+use Rattle.cutter.proofs.FormLaws.{three-write, three-read, three-other}
+use borrow.Author.Needs.{needs}
+use Rattle.forms.proofs.form.cut_three.Statement.{statement}
+use Rattle.forms.proofs.form.cut_three.Tie as tie
+
+slice-aggregate-same-bytes : tie.Need-slice-aggregate-same-bytes
+slice-aggregate-same-bytes c = search needs
+
+same-bytes-requires : tie.Need-same-bytes-requires
+same-bytes-requires c κs = search needs
+
+cut-write-requires : tie.Need-cut-write-requires
+cut-write-requires c κs = search needs
+
+returns : tie.Need-returns
+returns c = search three-write
+
+slice-aggregate-same-bytes-2 : tie.Need-slice-aggregate-same-bytes-2
+slice-aggregate-same-bytes-2 c = search needs
+
+same-bytes-requires-2 : tie.Need-same-bytes-requires-2
+same-bytes-requires-2 c κs = search needs
+
+cut-read-requires : tie.Need-cut-read-requires
+cut-read-requires c κs = search needs
+
+returns-2 : tie.Need-returns-2
+returns-2 c = search three-read
+
+not-formed-requires : tie.Need-not-formed-requires
+not-formed-requires c κs = search needs
+
+returns-3 : tie.Need-returns-3
+returns-3 c = search three-other
+
+pub cut-three-spec : {M : Type 1} → statement M
+cut-three-spec =
+    tie.close
+    (tie.spec
+    slice-aggregate-same-bytes
+    same-bytes-requires
+    cut-write-requires
+    returns
+    slice-aggregate-same-bytes-2
+    same-bytes-requires-2
+    cut-read-requires
+    returns-2
+    not-formed-requires
+    returns-3)
