@@ -189,6 +189,13 @@ reams =
     (firstTwenty 1 1 0 0 2 ++ replicate 4 0 ++ (102 ∷ 115 ∷ []) ++ replicate 14 0 ++ (1 ∷ replicate 471 0) ++ replicate 512 0 ++ counted 7)
     ∷ []
 
+-- cards of revision 1 before a revert in layouts 1 and 2, with two snapshots
+abbrev pub visited1 : List ℕ
+visited1 = ofRevision 1 (descriptor 1 130 0 4 4 mon) ++ counted 1 ++ counted 2 ++ counted 3 ++ ofRevision 1 (descriptor 1 130 4 8 8 tue) ++ counted 5 ++ counted 6 ++ counted 7 ++ ofRevision 1 (descriptor 1 130 8 12 0 fs) ++ counted 9 ++ counted 10 ++ lent
+
+abbrev pub visited2 : List ℕ
+visited2 = fullPhiOf 1 (descriptor 2 130 0 3 3 mon) 1 0 10 ++ table 2 0 ++ counted 2 ++ fullPhiOf 1 (descriptor 2 130 3 5 5 tue) 1 0 20 ++ counted 4 ++ fullPhiOf 1 (descriptor 2 130 5 7 0 fs) 1 0 30 ++ lent
+
 -- A revert on revision 1 leaves the snapshot's descriptor as it is; at its beta stands a copy of it, in layout 1 with its tables, under the active name, with alpha,
 -- beta and a nil next of its own. The blocks after these stay.
 unfoldable pub reverts1 : List Change
@@ -199,19 +206,17 @@ reverts1 =
     (Revert mon)
     (ofRevision 1 (descriptor 1 130 0 5 5 mon) ++ counted 1 ++ counted 2 ++ counted 3 ++ counted 4 ++ ofRevision 1 (descriptor 1 130 5 8 0 letters16) ++ counted 1 ++ counted 2 ++ counted 8)
     -- layout 1, to the first snapshot of two, and to the second
-    ∷ change
-    (ofRevision 1 (descriptor 1 130 0 4 4 mon) ++ counted 1 ++ counted 2 ++ counted 3 ++ ofRevision 1 (descriptor 1 130 4 8 8 tue) ++ counted 5 ++ counted 6 ++ counted 7 ++ ofRevision 1 (descriptor 1 130 8 12 0 fs) ++ counted 9 ++ counted 10 ++ lent)
+    ∷ change visited1
     (Revert mon)
     (ofRevision 1 (descriptor 1 130 0 4 4 mon) ++ counted 1 ++ counted 2 ++ counted 3 ++ ofRevision 1 (descriptor 1 130 4 7 0 fs) ++ counted 1 ++ counted 2 ++ counted 7 ++ ofRevision 1 (descriptor 1 130 8 12 0 fs) ++ counted 9 ++ counted 10 ++ lent)
-    ∷ change
-    (ofRevision 1 (descriptor 1 130 0 4 4 mon) ++ counted 1 ++ counted 2 ++ counted 3 ++ ofRevision 1 (descriptor 1 130 4 8 8 tue) ++ counted 5 ++ counted 6 ++ counted 7 ++ ofRevision 1 (descriptor 1 130 8 12 0 fs) ++ counted 9 ++ counted 10 ++ lent)
+    ∷ change visited1
     (Revert tue)
     (ofRevision 1 (descriptor 1 130 0 4 4 mon) ++ counted 1 ++ counted 2 ++ counted 3 ++ ofRevision 1 (descriptor 1 130 4 8 8 tue) ++ counted 5 ++ counted 6 ++ counted 7 ++ ofRevision 1 (descriptor 1 130 8 11 0 fs) ++ counted 5 ++ counted 6 ++ lent)
     -- layout 2, to the first snapshot and to the second: Phi is the snapshot's
-    ∷ change (fullPhiOf 1 (descriptor 2 130 0 3 3 mon) 1 0 10 ++ table 2 0 ++ counted 2 ++ fullPhiOf 1 (descriptor 2 130 3 5 5 tue) 1 0 20 ++ counted 4 ++ fullPhiOf 1 (descriptor 2 130 5 7 0 fs) 1 0 30 ++ lent)
+    ∷ change visited2
     (Revert mon)
     (fullPhiOf 1 (descriptor 2 130 0 3 3 mon) 1 0 10 ++ table 2 0 ++ counted 2 ++ fullPhiOf 1 (descriptor 2 130 3 4 0 fs) 1 0 10 ++ counted 4 ++ fullPhiOf 1 (descriptor 2 130 5 7 0 fs) 1 0 30 ++ lent)
-    ∷ change (fullPhiOf 1 (descriptor 2 130 0 3 3 mon) 1 0 10 ++ table 2 0 ++ counted 2 ++ fullPhiOf 1 (descriptor 2 130 3 5 5 tue) 1 0 20 ++ counted 4 ++ fullPhiOf 1 (descriptor 2 130 5 7 0 fs) 1 0 30 ++ lent)
+    ∷ change visited2
     (Revert tue)
     (fullPhiOf 1 (descriptor 2 130 0 3 3 mon) 1 0 10 ++ table 2 0 ++ counted 2 ++ fullPhiOf 1 (descriptor 2 130 3 5 5 tue) 1 0 20 ++ counted 4 ++ fullPhiOf 1 (descriptor 2 130 5 6 0 fs) 1 0 20 ++ lent)
     ∷ []

@@ -30,7 +30,7 @@ use Rattle.links.proofs.RelinkedLaws.{relinked, linked-head}
 use Rattle.links.proofs.SharedLaws.{Below, linked-chain, below-descriptor, below-revision, below-sound}
 use Rattle.links.proofs.StoredLaws.{block-long}
 use Rattle.links.proofs.ChainLaws.{region-layout, region-volume}
-use Rattle.links.proofs.ChangedLaws.{changed-last, changed-revision, opened-is, opened-ok}
+use Rattle.links.proofs.ChangedLaws.{changed-last, opened-is, opened-ok}
 use Rattle.blocks.proofs.StoreLists.{Whole, none, isStored, stored-length, stored-other, stored-last, count-kept, none-stored, one-stored}
 use Rattle.links.proofs.MemberLaws.{member-from, member-is, member-region, member-inside, member-long, member-end, member-rise, member-layout, member-volume, member-phi, member-upto}
 use Rattle.calls.proofs.ActiveLaws.{active-name, active-fresh, snapshots-few}
@@ -131,8 +131,8 @@ module _ (c name : List ℕ) (e : RevertPassed c name) where
     kept : (q : ℕ) → q < v .alpha .0 → blockAt c q ≡ blockAt t q
     kept q h = sym (stored-other (length c) c refl whole q (rw stores-are (one-stored (v .alpha .0) (descriptorBlock w (tailAt c (v .alpha .0))) q (λ k. omega arith))))
 
-    pub reverted-0 : chain t ≡ Sound (before ss name ++ (w ∷ []))
-    reverted-0 =
+    changed-0 : (chain t ≡ Sound (before ss name ++ (w ∷ []))) × (revisionOf t ≡ revisionOf c)
+    changed-0 =
         let n = count-kept c t same-long in
         changed-last c ds xs v ys sound-c revert-split t same-long kept w (tailAt c (v .alpha .0)) block fits tail refl refl refl called
         refl (member-phi c ds xs v ys sound-c revert-split)
@@ -140,13 +140,11 @@ module _ (c name : List ℕ) (e : RevertPassed c name) where
         (named-left xs (v ∷ []) (activeOf ds .name) others)
         refl (omega (arith, few))
 
+    pub reverted-0 : chain t ≡ Sound (before ss name ++ (w ∷ []))
+    reverted-0 = changed-0 .0
+
     revision-0 : revisionOf t ≡ revisionOf c
-    revision-0 =
-        let n = count-kept c t same-long in
-        changed-revision c ds xs v ys sound-c revert-split t same-long kept w (tailAt c (v .alpha .0)) block fits tail refl refl refl called
-        refl (member-phi c ds xs v ys sound-c revert-split)
-        (member-long c ds xs v ys sound-c revert-split) (omega (arith, end)) (inl refl)
-        (named-left xs (v ∷ []) (activeOf ds .name) others)
+    revision-0 = changed-0 .1
 
   -- on revision 1 it stays as it is, and a region opens at its beta
   module _ (one : eqb (revisionOf c) 1 ≡ true) where

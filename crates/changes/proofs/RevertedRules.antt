@@ -9,7 +9,7 @@ use lib.Seq.{getD-append-seam}
 use lib.Dec.{eqb, ltb}
 use borrow.Author.Tests.{ltb-true, ltb-false}
 use Rattle.blocks.specs.Bytes.{blockAt, storeAll}
-use Rattle.blocks.specs.Descriptor.{physical, tableCount, noDescriptor, revisionOf, tailAt, descriptorBlock, renamedOf, linkedOf}
+use Rattle.blocks.specs.Descriptor.{physical, tableCount, noDescriptor, revisionOf, tailAt, descriptorBlock}
 use Rattle.chains.specs.Chain.{activeOf, chain, Sound}
 use Rattle.blocks.specs.declared.descriptor.Descriptor.{Descriptor}
 use Rattle.links.proofs.SoundLaws.{form-most, form-layout}
@@ -21,7 +21,7 @@ use Rattle.entries.specs.Entry.{entryAt, phiAt}
 use Rattle.entries.specs.Rules.{Rules, entryOf}
 use Rattle.calls.specs.Parts.{descriptorsOf, snapshotsOf, withName}
 use Rattle.calls.specs.Check.{Passes}
-use Rattle.calls.specs.Effect.{revertStores}
+use Rattle.calls.specs.Effect.{activatedOf, revertStores}
 use Rattle.blocks.proofs.StoreLists.{stored-other, one-stored}
 use Rattle.entries.proofs.TableLaws.{fewer-placed, placed-apart, own-inside, few-tables, block-entry, phi-stored}
 use Rattle.calls.proofs.Passed.{RevertPassed}
@@ -51,7 +51,7 @@ module _ (c name : List ℕ) (pass : Passes c) (e : RevertPassed c name) (zero :
   ys = behind (snapshotsOf ds) name ++ (activeOf ds ∷ [])
 
   abbrev made : Descriptor
-  made = linkedOf (renamedOf old (activeOf ds .name)) (physical 0)
+  made = activatedOf old (activeOf ds .name)
 
   abbrev es : List Descriptor
   es = xs ++ (made ∷ [])

@@ -28,7 +28,7 @@ use Rattle.calls.specs.Effect.{writeStores}
 use Rattle.calls.proofs.CardLaws.{card-most, chain-is}
 use Rattle.links.proofs.SharedLaws.{linked-chain, shared-descriptor, shared-revision, shared-sound}
 use Rattle.links.proofs.RelinkedLaws.{linked-head, relinked}
-use Rattle.links.proofs.ChangedLaws.{changed-last, changed-revision}
+use Rattle.links.proofs.ChangedLaws.{changed-last}
 use Rattle.blocks.proofs.StoreLists.{Whole, isStored, stored-length, stored-other, none-stored, not-stored, stored-among}
 use Rattle.entries.proofs.FoundLaws.{found-own, found-placed}
 use Rattle.calls.proofs.Passed.{WritePassed}
@@ -106,12 +106,9 @@ module _ (c : List ℕ) (ds : List Descriptor) (sound-c : chain c ≡ Sound ds) 
       end = subst (λ (n : ℕ). d .beta .0 + k ≤ n / 512) long room
 
       extended-chain : (chain t ≡ Sound (xs ++ (extendedOf d k ∷ []))) × (revisionOf t ≡ revisionOf c)
-      extended-chain = (
-        changed-last c ds xs d [] sound-c (active-last c ds sound-c) t long kept (extendedOf d k) tail is extended-fits tail-whole refl refl refl (active-name c ds sound-c) reserved phi
-            (omega (arith, (active-long c ds sound-c))) end (inl (active-next c ds sound-c)) (active-fresh c ds sound-c) (active-next c ds sound-c) (snapshots-few c ds sound-c),
-        changed-revision c ds xs d [] sound-c (active-last c ds sound-c) t long kept (extendedOf d k) tail is extended-fits tail-whole refl refl refl (active-name c ds sound-c) reserved phi
-            (omega (arith, (active-long c ds sound-c))) end (inl (active-next c ds sound-c)) (active-fresh c ds sound-c),
-      )
+      extended-chain =
+          changed-last c ds xs d [] sound-c (active-last c ds sound-c) t long kept (extendedOf d k) tail is extended-fits tail-whole refl refl refl (active-name c ds sound-c) reserved phi
+          (omega (arith, (active-long c ds sound-c))) end (inl (active-next c ds sound-c)) (active-fresh c ds sound-c) (active-next c ds sound-c) (snapshots-few c ds sound-c)
 
 -- a write through an entry that was found
 module _ (c : List ℕ) (ds : List Descriptor) (sound-c : chain c ≡ Sound ds) (small : blockCount c ≤ 65536) (l : ℕ) (block : List ℕ) (m p : Physical)

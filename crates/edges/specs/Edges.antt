@@ -1,5 +1,5 @@
 -- Values at the edges of 01's rules, and of 02's for the revision (W5), besides 01's bench values: areas, names and cards on which one number is off by one or one byte is set, what a refused
--- read leaves in the caller's block, room, and which refusal comes first. The cards are written out block by block.
+-- read leaves in the caller's block, room, and which refusal comes first. The cards are written out block by block; those after a revert are computed.
 use mathlib.Core.Bool.{Bool}
 use mathlib.Core.Path.{_≡_}
 use mathlib.Core.List.{List, [], _∷_, _++_}

@@ -85,12 +85,14 @@ module _ (s : List ℕ) (ds xs : List Descriptor) (d : Descriptor) (ys : List De
           fresh,
         )
 
-    -- e ends the chain
-    pub changed-last : e .next .0 ≡ 0 → length xs < 256 → chain t ≡ Sound (xs ++ (e ∷ []))
-    changed-last z few =
-        linked-chain t (xs ++ (e ∷ []))
-        (relinked s t long d ys (e ∷ []) (omega (arith, inside)) kept (chain-linked s ds sound-s) xs split (last (sym changed-is) changed-ok z))
-        (omega (arith, length-append xs (e ∷ [])))
+    -- e ends the chain, and the card keeps its revision
+    pub changed-last : e .next .0 ≡ 0 → length xs < 256 → (chain t ≡ Sound (xs ++ (e ∷ []))) × (revisionOf t ≡ revisionOf s)
+    changed-last z few = (
+      linked-chain t (xs ++ (e ∷ []))
+          (relinked s t long d ys (e ∷ []) (omega (arith, inside)) kept (chain-linked s ds sound-s) xs split (last (sym changed-is) changed-ok z))
+          (omega (arith, length-append xs (e ∷ []))),
+      changed-revision,
+    )
 
   -- a region opened at the beta of d: the card t has there the descriptor of w's region, where w is d under a name and with a nil next, and the tail of d's block
   module _ (t : List ℕ) (long : length s ≡ length t) (revision : revisionOf t ≡ revisionOf s) (first : (d .layout ≡ descriptorAt t 0 .layout) × (d .volume ≡ descriptorAt t 0 .volume))
