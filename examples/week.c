@@ -35,10 +35,13 @@ static void write_block(uint32_t l, uint8_t fill)
 	expect("write", mantreuy_write(card, sizeof card, l, block, sizeof block, &place), MANTREUY_ACCEPTED);
 }
 
-/* the visit's own block where it has a name, else the active one */
+/* prints the first byte of a block of the visit, or of the active volume where visit is NULL */
 static void show_block(const char *visit, uint32_t l)
 {
-	expect("read", mantreuy_read(card, sizeof card, visit != NULL, named(visit ? visit : "none"), sizeof name, l, block, sizeof block, &place), MANTREUY_ACCEPTED);
+	uint32_t number = mantreuy_read(card, sizeof card, visit != NULL, named(visit ? visit : "none"), sizeof name, l,
+	                                block, sizeof block, &place);
+
+	expect("read", number, MANTREUY_ACCEPTED);
 	printf("  %s block %u: %u\n", visit ? visit : "active", (unsigned)l, (unsigned)block[0]);
 }
 

@@ -402,9 +402,10 @@ impl<A: AsRef<[u8]> + AsMut<[u8]>> Card<A> {
         answer(|place| unsafe { mantreuy_snap(card, n, name.0.as_ptr(), NAME_SIZE, place) })
     }
 
-    /// Makes the content of the snapshot that of the active volume. All later snapshots are gone, and the blocks that
-    /// came after are free again; their bytes are not wiped. On a card of [`REVISION_0`] the snapshot itself is gone
-    /// too; on a card of [`REVISION_1`] it stays, and can be gone back to any number of times.
+    /// Makes the content of the snapshot that of the active volume. All later snapshots are gone. On a card of
+    /// [`REVISION_0`] the snapshot itself is gone too; on a card of [`REVISION_1`] it stays, can be gone back to any
+    /// number of times, and the active volume goes on in a region right after it. The blocks after the active region
+    /// are free again; their bytes are not wiped.
     ///
     /// # Errors
     ///

@@ -575,7 +575,11 @@ fn most(layout: u64, c: usize) -> Vec<Step> {
     steps.extend([revert("s254").keeps(256 * c), listed(255), check()]);
     steps.push(snap("more").refused(13));
     steps.extend([revert("s7").keeps(8 * c), listed(8), read("*", 0, 0)]);
-    steps.extend([revert("s8").refused(7), revert("s7").keeps(9 * c), listed(8)]);
+    steps.extend([
+        revert("s8").refused(7),
+        revert("s7").keeps(9 * c),
+        listed(8),
+    ]);
     steps.extend([snap("s8"), listed(9), snap("s7").refused(12), check()]);
     steps
 }

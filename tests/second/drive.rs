@@ -31,6 +31,7 @@ mod table;
 #[path = "drive/values.rs"]
 mod values;
 
+use counts::{all_met, ENOUGH};
 use std::process::ExitCode;
 use table::Table;
 
@@ -45,36 +46,62 @@ drive values SEED COUNT      the bench value of 255 snaps and one more, and revi
 /// One list: it counts its answers in the table, or says what differed.
 type List = fn(u64, &mut Table) -> Result<(), String>;
 
-/// Runs the lists of `count` seeds.
-fn run(list: List, expected: table::Expected, seed: u64, count: u64) -> ExitCode {
+/// A command: its lists, what can arise in them, and from how many lists on all of it must have.
+struct Command {
+    list: List,
+    expected: table::Expected,
+    enough: u64,
+    /// Whether it counts accepted reverts.
+    reverts: bool,
+}
+
+fn command(name: &str) -> Option<Command> {
+    let (list, expected, enough): (List, table::Expected, u64) = match name {
+        "calls" => (calls::one, table::CALLS, ENOUGH),
+        "damaged" => (damaged::one, table::DAMAGED, ENOUGH),
+        "rollback" => (rollback::one, table::ROLLBACK, ENOUGH),
+        "names" => (names::one, table::NAMES, ENOUGH),
+        "values" => (values::one, table::VALUES, 1),
+        _ => return None,
+    };
+    Some(Command {
+        list,
+        expected,
+        enough,
+        reverts: name == "rollback",
+    })
+}
+
+/// Runs the lists of `count` seeds. That all that can arise did is one more case.
+fn run(command: &Command, seed: u64, count: u64) -> ExitCode {
     let mut table = Table::default();
     let mut failed = 0;
+    let mut case = |result: Result<(), String>, name: &str| {
+        if let Err(reason) = result {
+            failed += 1;
+            println!("failed: {name}: {reason}");
+        }
+    };
     for k in 0..count {
         let this = seed.wrapping_add(k);
-        if let Err(reason) = list(this, &mut table) {
-            failed += 1;
-            println!("failed: seed {this}: {reason}");
-        }
+        case((command.list)(this, &mut table), &format!("seed {this}"));
     }
-    table.print(expected);
-    println!("{} passed, {failed} failed", count - failed);
+    table.print(command.expected);
+    let mut missing = table.missing(command.expected);
+    if command.reverts {
+        missing.extend(table.reverts.missing());
+    }
+    let met = all_met(&missing, count, command.enough);
+    case(met, "what can arise");
+    println!("{} passed, {failed} failed", count + 1 - failed);
     ExitCode::from(u8::from(failed > 0))
 }
 
 fn main() -> ExitCode {
     let words: Vec<String> = std::env::args().skip(1).collect();
-    if let [command, seed, count] = &words[..] {
-        let chosen: Option<(List, table::Expected)> = match command.as_str() {
-            "calls" => Some((calls::one, table::CALLS)),
-            "damaged" => Some((damaged::one, table::DAMAGED)),
-            "rollback" => Some((rollback::one, table::ROLLBACK)),
-            "names" => Some((names::one, table::NAMES)),
-            "values" => Some((values::one, table::VALUES)),
-            _ => None,
-        };
-        if let (Some((list, expected)), Ok(seed), Ok(count)) = (chosen, seed.parse(), count.parse())
-        {
-            return run(list, expected, seed, count);
+    if let [name, seed, count] = &words[..] {
+        if let (Some(command), Ok(seed), Ok(count)) = (command(name), seed.parse(), count.parse()) {
+            return run(&command, seed, count);
         }
     }
     eprint!("{USAGE}");

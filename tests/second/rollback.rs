@@ -5,7 +5,7 @@
 //! and some lists start from a card in use.
 
 use crate::call::{carry_out, Call, Said, KINDS};
-use crate::counts::{Counts, Reverts};
+use crate::counts::{all_met, Counts, Reverts, ENOUGH};
 use crate::ledger::{Ledger, Word};
 use crate::numbers::*;
 use crate::rng::Rng;
@@ -34,6 +34,8 @@ pub fn run(seed: u64, count: u64) -> Count {
     }
     summary.answers.print("call", &KINDS, &ANSWERS);
     summary.reverts.print(summary.compared);
+    let met = all_met(&summary.reverts.missing(), count, ENOUGH);
+    sum.case("reverts of each kind", met);
     sum
 }
 

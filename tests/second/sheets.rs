@@ -1,5 +1,6 @@
 //! Random sheets: another program against the own reader, byte for byte.
 
+use crate::counts::{all_met, ENOUGH};
 use crate::tally::Tally;
 use crate::{make, program, sheet, Count};
 use std::sync::atomic::{AtomicU64, Ordering};
@@ -30,13 +31,15 @@ pub fn run(program: &str, seed: u64, count: u64) -> Count {
             });
         }
     });
-    let (tally, mut count) = sum.into_inner().unwrap();
+    let (tally, mut sum) = sum.into_inner().unwrap();
     tally.print();
+    let met = all_met(&tally.missing(), count, ENOUGH);
+    sum.case("answers of each kind", met);
     if tally.impossible() > 0 {
-        count.case(
+        sum.case(
             "answers that cannot arise",
             Err(format!("{} of them", tally.impossible())),
         );
     }
-    count
+    sum
 }

@@ -1,6 +1,6 @@
 //! Counts of the answers that sheets give, by op and number.
 
-use crate::counts::{print_missing, Counts};
+use crate::counts::Counts;
 use crate::numbers::ANSWERS;
 use crate::sheet::ILL_FORMED;
 
@@ -47,12 +47,16 @@ impl Tally {
         }
     }
 
-    /// Prints the table, then what can arise and did not.
+    /// Prints the table.
     pub fn print(&self) {
         let mut numbers = [&ANSWERS[..], &[ILL_FORMED]].concat();
         numbers.sort();
         self.counts.print("op", &OPS, &numbers);
-        print_missing(&self.counts.missing(&OPS, &CAN_ARISE));
+    }
+
+    /// What can arise on a sheet and did not.
+    pub fn missing(&self) -> Vec<String> {
+        self.counts.missing(&OPS, &CAN_ARISE)
     }
 
     /// How many answers there were that cannot arise on a sheet.

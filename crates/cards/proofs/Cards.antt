@@ -54,4 +54,6 @@ wrong-cards = (
   apart (λ (d : Done). d .outcome .answer .number) 11 0 (λ e. omega arith) _ _ refl refl,
   apart (λ (d : Done). getD (d .card) 528 0) 2 3 (λ e. omega arith) _ _ refl refl,
   apart (λ (c : List ℕ). getD c 1548 0) 3 0 (λ e. omega arith) _ _ refl refl,
+  apart (λ (d : Done). getD (d .card) 40 0) 1 0 (λ e. omega arith) _ _ refl refl,
+  apart (λ (d : Done). getD (d .card) 528 0) 2 3 (λ e. omega arith) _ _ refl refl,
 )

@@ -298,7 +298,12 @@ during s = duringPass (s .entry) (s .count)
 unfoldable pub stopped : Stop → List ℕ
 stopped s = s .card
 
--- The tables tell wrong from right: a call that is refused, and a card with one wrong byte, are not what is left; nor are, after 20 bytes of the pass, the old block's alpha and beta.
+-- revision 1: the snapshot mon in one block, then the active store in two
+abbrev taken : List ℕ
+taken = ofRevision 1 (descriptor 2 1 0 1 1 mon) ++ ofRevision 1 (descriptor 2 1 1 3 0 fs) ++ counted 2
+
+-- The tables tell wrong from right: a call that is refused, and a card with one wrong byte, are not what is left; nor are, after 20 bytes of the pass, the old
+-- block's alpha and beta; nor, after a format of revision 1, revision 0, and after a revert on revision 1, the old beta.
 unfoldable pub WrongCards : Type 0
 WrongCards =
     (left (change (bare (descriptor 2 1 0 2 0 fs) ++ counted 1) (Snap mon) (bare (descriptor 2 1 0 2 0 fs) ++ counted 1))
@@ -306,3 +311,6 @@ WrongCards =
     × (left (change (bare (descriptor 2 1 0 1 0 fs) ++ counted 1) (Snap mon) (bare (descriptor 2 1 0 1 1 mon) ++ bare (descriptor 2 1 1 3 0 fs)))
     ≡ said (change (bare (descriptor 2 1 0 1 0 fs) ++ counted 1) (Snap mon) (bare (descriptor 2 1 0 1 1 mon) ++ bare (descriptor 2 1 1 3 0 fs))) → ⊥)
     × (during (stop2 20 (firstTwenty 2 130 0 0 3)) ≡ stopped (stop2 20 (firstTwenty 2 130 0 0 3)) → ⊥)
+    × (left (change (counted 0 ++ counted 1) (Ream (formatOf 2 1 1 fs)) (bare (descriptor 2 1 0 1 0 fs) ++ counted 1))
+    ≡ said (change (counted 0 ++ counted 1) (Ream (formatOf 2 1 1 fs)) (bare (descriptor 2 1 0 1 0 fs) ++ counted 1)) → ⊥)
+    × (left (change taken (Revert mon) taken) ≡ said (change taken (Revert mon) taken) → ⊥)

@@ -66,6 +66,6 @@ pub record SoundRules (c : List ℕ) (earlier : List Descriptor) (p : ℕ) : Typ
 unfoldable pub NameRulesClaim : Type 0
 NameRulesClaim = (bytes : List ℕ) → (isName bytes ≡ true) ↔ NameRules bytes
 
--- A descriptor is sound, and among the first 256, exactly where it keeps 01's rules.
+-- A descriptor is sound, and among the first 256, exactly where it keeps 01's rules, and 02's on the revision.
 unfoldable pub SoundRulesClaim : Type 0
 SoundRulesClaim = (c : List ℕ) (earlier : List Descriptor) (p : ℕ) → ((sound c earlier p ≡ true) × (length earlier < 256)) ↔ SoundRules c earlier p

@@ -5,12 +5,13 @@ use mathlib.Core.List.{List}
 use Prim.Native.Nat.{ℕ, _-_}
 use lib.ListN.{length}
 use Rattle.blocks.specs.Bytes.{storeAll}
+use Rattle.blocks.specs.declared.descriptor.Format.{Format}
 use Rattle.blocks.proofs.BoolLaws.{no}
 use Rattle.calls.specs.Call.{Call, Ream, Read, Write, Snap, Revert, Listing, Check}
 use Rattle.calls.specs.Meaning.{answerOf}
 use Rattle.calls.specs.Step.{step, isAccepted}
 use Rattle.claims.specs.Claims.{lentAtEntry, leaves, storesNothing, fills, blocksTaken, blocksNeeded, FrameClaim, ByNameClaim}
-use Rattle.claims.specs.History.{formats, isReam, bytesOf, writtenBy, snapsAs, isSnapOf}
+use Rattle.claims.specs.History.{formats, isReam, isFormat, bytesOf, writtenBy, snapsAs, isSnapOf}
 use Rattle.claims.specs.Kinds.{Kind, Formats, Leaves, Writes, Snaps, Reverts, kindOf}
 use Rattle.blocks.proofs.StoreLists.{stored-length}
 use Rattle.entries.proofs.EntryLaws.{need-most}
@@ -50,16 +51,21 @@ frame-claim k c = (
   λ q. lent-kept k c q (isAccepted (answerOf k c)) refl,
 )
 
+-- a ream is a format exactly where it is accepted
+ream-formats : (format : Format) (c : List ℕ) → isFormat (Ream format) c ≡ isAccepted (answerOf (Ream format) c)
+unfolding isFormat isReam formats
+ream-formats format c = refl
+
 -- the same of each call by its name
 pub by-name-claim : ByNameClaim
-unfolding ByNameClaim FrameClaim storesNothing leaves fills lentAtEntry blocksNeeded blocksTaken writtenBy bytesOf isReam formats isSnapOf snapsAs
+unfolding ByNameClaim FrameClaim storesNothing leaves fills lentAtEntry blocksNeeded blocksTaken writtenBy bytesOf isReam formats isFormat isSnapOf snapsAs
 by-name-claim c v =
     record {
-      ream = λ format. (frame-claim (Ream format) c .2 refl, refl, refl, refl, refl);
-      read = λ target name l block. (frame-claim (Read target name l block) c .1 refl, refl, refl, refl, refl);
-      write = λ l block. (frame-claim (Write l block) c .2 refl, need-most _ _, refl, refl, refl);
-      snap = λ name. (frame-claim (Snap name) c .2 refl, refl, refl, refl, refl);
-      revert = λ name. (frame-claim (Revert name) c .2 refl, refl, refl, refl, refl);
-      list = λ records. (frame-claim (Listing records) c .1 refl, refl, refl, refl, refl);
-      check = (frame-claim Check c .1 refl, frame-claim Check c .2 refl, refl, refl, refl, refl);
+      ream = λ format. (frame-claim (Ream format) c .2 refl, refl, refl, refl, ream-formats format c, refl);
+      read = λ target name l block. (frame-claim (Read target name l block) c .1 refl, refl, refl, refl, refl, refl);
+      write = λ l block. (frame-claim (Write l block) c .2 refl, need-most _ _, refl, refl, refl, refl);
+      snap = λ name. (frame-claim (Snap name) c .2 refl, refl, refl, refl, refl, refl);
+      revert = λ name. (frame-claim (Revert name) c .2 refl, refl, refl, refl, refl, refl);
+      list = λ records. (frame-claim (Listing records) c .1 refl, refl, refl, refl, refl, refl);
+      check = (frame-claim Check c .1 refl, frame-claim Check c .2 refl, refl, refl, refl, refl, refl);
     }

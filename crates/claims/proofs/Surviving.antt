@@ -32,11 +32,11 @@ use Rattle.calls.specs.Ladder.{row, firstRow, admission, reamRows, revertRows}
 use Rattle.calls.specs.Effect.{activatedOf, revertStores, staying}
 use Rattle.calls.specs.Meaning.{rowsOf, answerOf}
 use Rattle.calls.specs.Step.{step, after, isAccepted}
-use Rattle.calls.proofs.ActiveLaws.{snapshots-few}
+use Rattle.calls.proofs.ActiveLaws.{active-end, snapshots-few}
 use Rattle.calls.proofs.CardLaws.{chain-is, area-kept, snapshots-snoc, card-even}
 use Rattle.calls.proofs.Passed.{RevertPassed, revert-passed, revert-accepted}
-use Rattle.calls.proofs.VisitLaws.{before, behind, visit-end}
-use Rattle.claims.specs.History.{Agree, AreBytes}
+use Rattle.calls.proofs.VisitLaws.{before, behind, visit-room}
+use Rattle.claims.specs.History.{betaOf, Agree, AreBytes}
 use Rattle.claims.specs.Surviving.{Survives, SurvivesClaim, RoomAtVisitClaim, RevisionClaim, StayingClaim, AsAfterSnapClaim}
 use Rattle.changes.proofs.RevertedChain.{revert-split, same-long, visit-below, visit-bytes, called-long, stores-open, below-visit, new-block, reverted-1, reverted-revision}
 use Rattle.claims.proofs.CardBytes.{bytes-run}
@@ -248,9 +248,12 @@ unfolding answerOf rowsOf admission revertRows
 number-small c name = number-by _ _ _ _ _
 
 pub room-at-visit-claim : RoomAtVisitClaim
-unfolding RoomAtVisitClaim
+unfolding RoomAtVisitClaim betaOf
 room-at-visit-claim c name = (
-  λ ok there. let ds = descriptorsOf c in let is = chain-is (chain c) ok in (visit-end c ds is name there, omega (arith, index-below (snapshotsOf ds) name there, snapshots-few c ds is)),
+  λ ok there.
+      let ds = descriptorsOf c in
+      let is = chain-is (chain c) ok in
+      (visit-room c ds is name there, active-end c ds is, omega (arith, index-below (snapshotsOf ds) name there, snapshots-few c ds is)),
   (
     λ e. let p = revert-passed c name (ap isAccepted e) in (p .area, p .called, p .sound, p .there),
     λ h. revert-accepted c name (record { area = h .0; called = h .1; sound = h .2; there = h .3 }),

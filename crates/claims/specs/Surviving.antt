@@ -15,7 +15,7 @@ use Rattle.calls.specs.Parts.{areaBad, descriptorsOf, snapshotsOf, withName}
 use Rattle.calls.specs.Effect.{staying}
 use Rattle.calls.specs.Meaning.{answerOf}
 use Rattle.calls.specs.Step.{step, after, isAccepted}
-use Rattle.claims.specs.History.{Agree, AreBytes, Standing, At, latestSnap}
+use Rattle.claims.specs.History.{betaOf, Agree, AreBytes, Standing, At, latestSnap}
 use Rattle.claims.specs.Claims.{RevertedAt}
 
 -- What an accepted revert on revision 1 comes to, to the snapshot v of the name on a card c: "revert leaves the snapshot's descriptor as it is and opens a
@@ -41,16 +41,16 @@ pub record Survives (c name : List ℕ) : Type 0 where
 unfoldable pub SurvivesClaim : Type 0
 SurvivesClaim = (c name : List ℕ) → AreBytes c → revisionOf c ≡ 1 → isAccepted (answerOf (Revert name) c) ≡ true → Survives c name
 
--- "neither 11 nor 13 can arise, and this is shown": on every sound chain, of either revision, there is room for c blocks at the beta of each snapshot, and
--- after those before it and itself one more is among the first 256. And a revert asks for neither: it is accepted exactly where the area is a card, the name is
--- one, the chain is sound and a snapshot has the name, and it is never answered 11 or 13.
+-- "neither 11 nor 13 can arise, and this is shown": on every sound chain, of either revision, there is room for c blocks at the beta of each snapshot, none of
+-- them a free one, and after those before it and itself one more is among the first 256. And a revert asks for neither: it is accepted exactly where the area is a
+-- card, the name is one, the chain is sound and a snapshot has the name, and it is never answered 11 or 13.
 unfoldable pub RoomAtVisitClaim : Type 0
 RoomAtVisitClaim =
     (c name : List ℕ)
     → (chainSound (chain c) ≡ true → named (snapshotsOf (descriptorsOf c)) name ≡ true
     → let ss = snapshotsOf (descriptorsOf c) in
     let v = withName ss name in
-    (v .beta .0 + costOf v ≤ blockCount c) × (indexOf ss name + 2 ≤ 256))
+    (v .beta .0 + costOf v ≤ betaOf c) × (betaOf c ≤ blockCount c) × (indexOf ss name + 2 ≤ 256))
     × ((answerOf (Revert name) c ≡ accepted)
     ↔ ((areaBad c ≡ false) × (isName name ≡ true) × (chainSound (chain c) ≡ true) × (named (snapshotsOf (descriptorsOf c)) name ≡ true)))
     × (answerOf (Revert name) c .number ≡ 11 → ⊥)

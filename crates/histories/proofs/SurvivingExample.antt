@@ -1,20 +1,23 @@
 -- 01's worked example on a card of revision 1, in both layouts, with a second rollback to the same visit: what the calls answer, and what demand 3 says of
 -- each rollback. The snap, at position 1, stays in the shorter lists: of the first rollback these are the write and the snap, then all that comes after position 6.
--- And from the card just after the snap, where the visit stands on the starting card, on either revision.
+-- And from the card just after the snap, where the visit stands on the starting card, on either revision. And what W5's own claims say of the two rollbacks.
 use mathlib.Core.Path.{_≡_, refl, sym, ap, _∙_, subst}
 use mathlib.Core.Bool.{true}
 use mathlib.Core.List.{List, map}
-use Prim.Native.Nat.{ℕ}
+use Prim.Native.Nat.{ℕ, _+_, _≤_}
 use native.Mathlib.Omega.{arith}
 use lib.ListN.{length, take, drop, replicate}
-use Rattle.blocks.specs.Descriptor.{formatOf}
+use Rattle.blocks.specs.Descriptor.{costOf, formatOf, revisionOf}
+use Rattle.chains.specs.Chain.{chain, chainSound}
 use Rattle.blocks.specs.declared.descriptor.Format.{Format}
 use Rattle.calls.specs.declared.answer.Answer.{Answer}
 use Rattle.calls.specs.Call.{Call, Outcome, accepted}
+use Rattle.calls.specs.Parts.{descriptorsOf, snapshotsOf, withName}
 use Rattle.calls.specs.Effect.{staying}
 use Rattle.calls.specs.Step.{after, outcomes}
-use Rattle.claims.specs.History.{Standing, none, more, isReam, isFormat, writtenBy, formattable, formatted, isSnapOf, Position, Nowhere, At, latestSnap, without}
-use Rattle.claims.specs.Claims.{Matched, RevertedAt, Forgets, RollbackClaim, FormatLedgerClaim}
+use Rattle.claims.specs.History.{betaOf, Agree, AreBytes, Standing, none, more, isReam, isFormat, writtenBy, formattable, formatted, isSnapOf, Position, Nowhere, At, latestSnap, without}
+use Rattle.claims.specs.Claims.{Matched, RevertedAt, Forgets, RollbackClaim, FormatClaim, FormatLedgerClaim}
+use Rattle.claims.specs.Surviving.{Survives, SurvivesClaim, RoomAtVisitClaim, AsAfterSnapClaim}
 use Rattle.claims.specs.Bench.{area, fs, mon}
 use Rattle.histories.specs.Example.{exampleCard, exampleCalls, exampleOutcomes}
 use Rattle.histories.specs.SurvivingExample.{survivingCard, survivingCalls, survivingOutcomes, survivingAnswers}
@@ -22,6 +25,10 @@ use Rattle.claims.proofs.Running.{running}
 use Rattle.claims.proofs.Runs.{standing-take, standing-drop, standing-length, after-length}
 use Rattle.claims.proofs.CardBytes.{bytes-run, bytes-format}
 use Rattle.claims.proofs.LedgerRun.{format-ledger-claim}
+use Rattle.claims.proofs.Format.{format-claim}
+use Rattle.claims.proofs.SoundStep.{revision-run}
+use Rattle.claims.proofs.Surviving.{survives-claim, room-at-visit-claim, as-after-snap-claim}
+use Rattle.calls.proofs.Passed.{revert-passed}
 use Rattle.claims.proofs.Demand.{rollback-claim}
 use Rattle.histories.proofs.Answered.{answers, rest-answers, reverted-by, latestBy, latest-by}
 use Rattle.histories.proofs.NotEmpty.{matched, area-bytes, block-bytes, nil-bytes, example-standing, can-layout-1, can-layout-2, answers-layout-1, answers-layout-2}
@@ -86,6 +93,41 @@ module _ (layout : ℕ) (can : formattable (area 16) (formatOf layout 200 1 fs) 
   unfolding staying
   first-forgotten = matched 16 (formatOf layout 200 1 fs) can survivingCalls standing 6 mon first-reverted 1 first-latest
 
+  bytes : AreBytes (survivingCard layout)
+  bytes = bytes-format (area 16) (formatOf layout 200 1 fs) (area-bytes 16) can
+
+  sound : chainSound (chain (survivingCard layout)) ≡ true
+  unfolding FormatClaim
+  sound = format-claim (area 16) (formatOf layout 200 1 fs) can .0 .sound
+
+  revision : revisionOf (survivingCard layout) ≡ 1
+  unfolding FormatClaim
+  revision = format-claim (area 16) (formatOf layout 200 1 fs) can .4
+
+  -- below beta the card after each rollback is as just after the snap
+  as-snapped : Agree (after (take 7 survivingCalls) (survivingCard layout)) (after (take 2 survivingCalls) (survivingCard layout))
+      × Agree (after (take 18 survivingCalls) (survivingCard layout)) (after (take 2 survivingCalls) (survivingCard layout))
+  unfolding AsAfterSnapClaim
+  as-snapped =
+      let as-after = as-after-snap-claim (survivingCard layout) survivingCalls bytes sound revision standing in
+      (as-after 6 mon first-reverted 1 first-latest, as-after 17 mon again-reverted 1 again-latest)
+
+  -- the card before the second rollback, on which another visit is listed after mon
+  abbrev later : List ℕ
+  later = after (take 17 survivingCalls) (survivingCard layout)
+
+  -- what survives the second rollback, and the room that it finds
+  survives : Survives later mon
+  unfolding SurvivesClaim
+  survives =
+      let earlier = standing-take (survivingCard layout) survivingCalls 17 standing in
+      survives-claim later mon (bytes-run (take 17 survivingCalls) (survivingCard layout) bytes earlier)
+      (revision-run (take 17 survivingCalls) (survivingCard layout) sound earlier ∙ revision) (again-reverted .accepted-there)
+
+  pub room : withName (snapshotsOf (descriptorsOf later)) mon .beta .0 + costOf (withName (snapshotsOf (descriptorsOf later)) mon) ≤ betaOf later
+  unfolding RoomAtVisitClaim
+  room = let p = revert-passed later mon (again-reverted .accepted-there) in room-at-visit-claim later mon .0 (p .sound) (p .there) .0
+
   again-forgotten : Matched (survivingCard layout) survivingCalls 18 (without survivingCalls 2 17) 2
   unfolding staying
   again-forgotten = matched 16 (formatOf layout 200 1 fs) can survivingCalls standing 17 mon again-reverted 1 again-latest
@@ -148,3 +190,18 @@ example-start-1 = example-start 1 can-layout-1 answers-layout-1
 
 pub example-start-2 : Matched (after (take 2 exampleCalls) (exampleCard 2)) (drop 2 exampleCalls) 5 (drop 4 (drop 2 exampleCalls)) 1
 example-start-2 = example-start 2 can-layout-2 answers-layout-2
+
+-- W5's claims on the two rollbacks, in each layout
+pub surviving-as-snapped-1 : Agree (after (take 7 survivingCalls) (survivingCard 1)) (after (take 2 survivingCalls) (survivingCard 1))
+    × Agree (after (take 18 survivingCalls) (survivingCard 1)) (after (take 2 survivingCalls) (survivingCard 1))
+surviving-as-snapped-1 = as-snapped 1 can-surviving-1 standing-1 said-1
+
+pub surviving-as-snapped-2 : Agree (after (take 7 survivingCalls) (survivingCard 2)) (after (take 2 survivingCalls) (survivingCard 2))
+    × Agree (after (take 18 survivingCalls) (survivingCard 2)) (after (take 2 survivingCalls) (survivingCard 2))
+surviving-as-snapped-2 = as-snapped 2 can-surviving-2 standing-2 said-2
+
+pub surviving-survives-1 : Survives (after (take 17 survivingCalls) (survivingCard 1)) mon
+surviving-survives-1 = survives 1 can-surviving-1 standing-1 said-1
+
+pub surviving-survives-2 : Survives (after (take 17 survivingCalls) (survivingCard 2)) mon
+surviving-survives-2 = survives 2 can-surviving-2 standing-2 said-2

@@ -1,7 +1,7 @@
 //! Counts of the answers by call and number.
 
 use crate::call::KINDS;
-use crate::counts::{print_missing, Counts, Reverts};
+use crate::counts::{Counts, Reverts};
 use crate::numbers::ANSWERS;
 
 /// The row of mantreuy_pad_name, after those of the calls.
@@ -80,9 +80,9 @@ impl Table {
         Ok(())
     }
 
-    /// Prints the table, then what can arise and did not, and the reverse.
+    /// Prints the table, and what arose and was not to be expected.
     pub fn print(&self, expected: Expected) {
-        let titles: Vec<&str> = KINDS.into_iter().chain(["pad"]).collect();
+        let titles = titles();
         let used = |row: usize| !expected[row].is_empty();
         let rows = (0..ROWS).map(|row| if used(row) { titles[row] } else { "" });
         self.counts
@@ -90,7 +90,6 @@ impl Table {
         let sum: u64 = self.counts.given().map(|(_, _, times)| times).sum();
         println!("{sum} calls");
         self.reverts.print(self.compared);
-        print_missing(&self.counts.missing(&titles, &expected));
         let strange: Vec<String> = self
             .counts
             .strange(&expected)
@@ -100,4 +99,13 @@ impl Table {
             println!("not to be expected: {}", strange.join(", "));
         }
     }
+
+    /// What can arise and did not.
+    pub fn missing(&self, expected: Expected) -> Vec<String> {
+        self.counts.missing(&titles(), &expected)
+    }
+}
+
+fn titles() -> Vec<&'static str> {
+    KINDS.into_iter().chain(["pad"]).collect()
 }
