@@ -121,7 +121,7 @@ pub fn all_met(missing: &[String], lists: u64, enough: u64) -> Result<(), String
         println!("all that can arise did");
         return Ok(());
     }
-    let words = format!("not met: {}", missing.join(", "));
+    let words = format!("not met: {}", missing.join("; "));
     if lists >= enough {
         return Err(words);
     }

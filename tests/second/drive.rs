@@ -56,19 +56,19 @@ struct Command {
 }
 
 fn command(name: &str) -> Option<Command> {
-    let (list, expected, enough): (List, table::Expected, u64) = match name {
-        "calls" => (calls::one, table::CALLS, ENOUGH),
-        "damaged" => (damaged::one, table::DAMAGED, ENOUGH),
-        "rollback" => (rollback::one, table::ROLLBACK, ENOUGH),
-        "names" => (names::one, table::NAMES, ENOUGH),
-        "values" => (values::one, table::VALUES, 1),
+    let (list, expected, enough, reverts): (List, table::Expected, u64, bool) = match name {
+        "calls" => (calls::one, table::CALLS, ENOUGH, false),
+        "damaged" => (damaged::one, table::DAMAGED, ENOUGH, false),
+        "rollback" => (rollback::one, table::ROLLBACK, ENOUGH, true),
+        "names" => (names::one, table::NAMES, ENOUGH, false),
+        "values" => (values::one, table::VALUES, 1, false),
         _ => return None,
     };
     Some(Command {
         list,
         expected,
         enough,
-        reverts: name == "rollback",
+        reverts,
     })
 }
 

@@ -56,7 +56,7 @@ ream-formats : (format : Format) (c : List ℕ) → isFormat (Ream format) c ≡
 unfolding isFormat isReam formats
 ream-formats format c = refl
 
--- the same of each call by its name
+-- what calls leave alone, and what the definitions by kind say, of each call by its name
 pub by-name-claim : ByNameClaim
 unfolding ByNameClaim FrameClaim storesNothing leaves fills lentAtEntry blocksNeeded blocksTaken writtenBy bytesOf isReam formats isFormat isSnapOf snapsAs
 by-name-claim c v =

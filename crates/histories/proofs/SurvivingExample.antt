@@ -72,6 +72,10 @@ said-2 : answers survivingCalls (survivingCard 2) ≡ survivingAnswers
 unfolding exampleOutcomes survivingOutcomes survivingAnswers
 said-2 = ap (λ (os : List Outcome). map (λ (o : Outcome). o .answer) os) surviving-layout-2
 
+-- c blocks at the beta of the snapshot of the name end at or below the active beta
+abbrev RoomFor : List ℕ → List ℕ → Type 0
+RoomFor name c = let v = withName (snapshotsOf (descriptorsOf c)) name in v .beta .0 + costOf v ≤ betaOf c
+
 module _ (layout : ℕ) (can : formattable (area 16) (formatOf layout 200 1 fs) ≡ true) (standing : Standing (survivingCard layout) survivingCalls) (said : answers survivingCalls (survivingCard layout) ≡ survivingAnswers) where
   first-reverted : RevertedAt (survivingCard layout) survivingCalls 6 mon
   unfolding exampleCalls survivingCalls survivingAnswers
@@ -124,7 +128,7 @@ module _ (layout : ℕ) (can : formattable (area 16) (formatOf layout 200 1 fs) 
       survives-claim later mon (bytes-run (take 17 survivingCalls) (survivingCard layout) bytes earlier)
       (revision-run (take 17 survivingCalls) (survivingCard layout) sound earlier ∙ revision) (again-reverted .accepted-there)
 
-  pub room : withName (snapshotsOf (descriptorsOf later)) mon .beta .0 + costOf (withName (snapshotsOf (descriptorsOf later)) mon) ≤ betaOf later
+  room : RoomFor mon later
   unfolding RoomAtVisitClaim
   room = let p = revert-passed later mon (again-reverted .accepted-there) in room-at-visit-claim later mon .0 (p .sound) (p .there) .0
 
@@ -200,8 +204,8 @@ pub surviving-as-snapped-2 : Agree (after (take 7 survivingCalls) (survivingCard
     × Agree (after (take 18 survivingCalls) (survivingCard 2)) (after (take 2 survivingCalls) (survivingCard 2))
 surviving-as-snapped-2 = as-snapped 2 can-surviving-2 standing-2 said-2
 
-pub surviving-survives-1 : Survives (after (take 17 survivingCalls) (survivingCard 1)) mon
-surviving-survives-1 = survives 1 can-surviving-1 standing-1 said-1
+pub surviving-survives-1 : Survives (after (take 17 survivingCalls) (survivingCard 1)) mon × RoomFor mon (after (take 17 survivingCalls) (survivingCard 1))
+surviving-survives-1 = (survives 1 can-surviving-1 standing-1 said-1, room 1 can-surviving-1 standing-1 said-1)
 
-pub surviving-survives-2 : Survives (after (take 17 survivingCalls) (survivingCard 2)) mon
-surviving-survives-2 = survives 2 can-surviving-2 standing-2 said-2
+pub surviving-survives-2 : Survives (after (take 17 survivingCalls) (survivingCard 2)) mon × RoomFor mon (after (take 17 survivingCalls) (survivingCard 2))
+surviving-survives-2 = (survives 2 can-surviving-2 standing-2 said-2, room 2 can-surviving-2 standing-2 said-2)
