@@ -238,9 +238,9 @@ uint32_t mantreuy_snap(uint8_t *card, size_t card_length,
  * revision 0 this snapshot is gone too: its descriptor becomes the active one. On
  * a card of revision 1 it stays, listed under its name and as it is byte for
  * byte, and can be gone back to any number of times; the active volume goes on in
- * a region of its own right after it, which opens with c blocks, and for which
- * there is always room. The blocks after the active region are free again; their
- * bytes are not wiped. The active name stays.
+ * a region of its own right after it, which opens with c blocks, for which there
+ * is always room. The blocks after the active region are free again; their bytes
+ * are not wiped. The active name stays.
  *
  * Refusals, in this order: 1; 4; 6; 7.
  */

@@ -102,8 +102,14 @@ impl Reverts {
     /// rolled back to, so there none is rolled back to once more.
     pub fn missing(&self) -> Vec<String> {
         let counts = [
-            ("revision 0", self.all[0]),
-            ("revision 1", self.all[1]),
+            (
+                "revision 0, a visit of the list",
+                self.all[0] - self.found[0],
+            ),
+            (
+                "revision 1, a visit of the list",
+                self.all[1] - self.found[1],
+            ),
             ("revision 1, a visit once more", self.again[1]),
             ("revision 0, a visit of the starting card", self.found[0]),
             ("revision 1, a visit of the starting card", self.found[1]),
@@ -114,14 +120,14 @@ impl Reverts {
     }
 }
 
-/// Prints whether all that can arise did. That it did not is a fault where there were enough
-/// lists.
-pub fn all_met(missing: &[String], lists: u64, enough: u64) -> Result<(), String> {
+/// Prints whether all of these that can arise did. That one did not is a fault where there were
+/// enough lists.
+pub fn all_met(what: &str, missing: &[String], lists: u64, enough: u64) -> Result<(), String> {
     if missing.is_empty() {
-        println!("all that can arise did");
+        println!("{what}: all that can arise did");
         return Ok(());
     }
-    let words = format!("not met: {}", missing.join("; "));
+    let words = format!("{what} not met: {}", missing.join("; "));
     if lists >= enough {
         return Err(words);
     }

@@ -72,7 +72,8 @@ fn command(name: &str) -> Option<Command> {
     })
 }
 
-/// Runs the lists of `count` seeds. That all that can arise did is one more case.
+/// Runs the lists of `count` seeds. That all that can arise did, and nothing else, are two more
+/// cases.
 fn run(command: &Command, seed: u64, count: u64) -> ExitCode {
     let mut table = Table::default();
     let mut failed = 0;
@@ -91,9 +92,17 @@ fn run(command: &Command, seed: u64, count: u64) -> ExitCode {
     if command.reverts {
         missing.extend(table.reverts.missing());
     }
-    let met = all_met(&missing, count, command.enough);
-    case(met, "what can arise");
-    println!("{} passed, {failed} failed", count + 1 - failed);
+    case(
+        all_met("answers", &missing, count, command.enough),
+        "what can arise",
+    );
+    let strange = table.strange(command.expected);
+    let met = match strange.is_empty() {
+        true => Ok(()),
+        false => Err(strange.join("; ")),
+    };
+    case(met, "what cannot arise");
+    println!("{} passed, {failed} failed", count + 2 - failed);
     ExitCode::from(u8::from(failed > 0))
 }
 

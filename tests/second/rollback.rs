@@ -34,7 +34,7 @@ pub fn run(seed: u64, count: u64) -> Count {
     }
     summary.answers.print("call", &KINDS, &ANSWERS);
     summary.reverts.print(summary.compared);
-    let met = all_met(&summary.reverts.missing(), count, ENOUGH);
+    let met = all_met("reverts", &summary.reverts.missing(), count, ENOUGH);
     sum.case("reverts of each kind", met);
     sum
 }

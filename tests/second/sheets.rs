@@ -33,7 +33,7 @@ pub fn run(program: &str, seed: u64, count: u64) -> Count {
     });
     let (tally, mut sum) = sum.into_inner().unwrap();
     tally.print();
-    let met = all_met(&tally.missing(), count, ENOUGH);
+    let met = all_met("answers", &tally.missing(), count, ENOUGH);
     sum.case("answers of each kind", met);
     if tally.impossible() > 0 {
         sum.case(

@@ -298,7 +298,7 @@ during s = duringPass (s .entry) (s .count)
 unfoldable pub stopped : Stop → List ℕ
 stopped s = s .card
 
--- revision 1: the snapshot mon in one block, then the active store in two
+-- revision 1: the region of the snapshot mon, one block, then the active one, two blocks
 abbrev taken : List ℕ
 taken = ofRevision 1 (descriptor 2 1 0 1 1 mon) ++ ofRevision 1 (descriptor 2 1 1 3 0 fs) ++ counted 2
 

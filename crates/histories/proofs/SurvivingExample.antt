@@ -1,6 +1,6 @@
 -- 01's worked example on a card of revision 1, in both layouts, with a second rollback to the same visit: what the calls answer, and what demand 3 says of
 -- each rollback. The snap, at position 1, stays in the shorter lists: of the first rollback these are the write and the snap, then all that comes after position 6.
--- And from the card just after the snap, where the visit stands on the starting card, on either revision. And what W5's own claims say of the two rollbacks.
+-- And from the card just after the snap, where the visit stands on the starting card, on either revision. And what three of W5's own claims say of the rollbacks.
 use mathlib.Core.Path.{_≡_, refl, sym, ap, _∙_, subst}
 use mathlib.Core.Bool.{true}
 use mathlib.Core.List.{List, map}
@@ -195,7 +195,7 @@ example-start-1 = example-start 1 can-layout-1 answers-layout-1
 pub example-start-2 : Matched (after (take 2 exampleCalls) (exampleCard 2)) (drop 2 exampleCalls) 5 (drop 4 (drop 2 exampleCalls)) 1
 example-start-2 = example-start 2 can-layout-2 answers-layout-2
 
--- W5's claims on the two rollbacks, in each layout
+-- W5's claims, in each layout: as just after the snap, of both rollbacks; what survives, and the room, of the second
 pub surviving-as-snapped-1 : Agree (after (take 7 survivingCalls) (survivingCard 1)) (after (take 2 survivingCalls) (survivingCard 1))
     × Agree (after (take 18 survivingCalls) (survivingCard 1)) (after (take 2 survivingCalls) (survivingCard 1))
 surviving-as-snapped-1 = as-snapped 1 can-surviving-1 standing-1 said-1

@@ -80,7 +80,7 @@ impl Table {
         Ok(())
     }
 
-    /// Prints the table, and what arose and was not to be expected.
+    /// Prints the table.
     pub fn print(&self, expected: Expected) {
         let titles = titles();
         let used = |row: usize| !expected[row].is_empty();
@@ -90,14 +90,15 @@ impl Table {
         let sum: u64 = self.counts.given().map(|(_, _, times)| times).sum();
         println!("{sum} calls");
         self.reverts.print(self.compared);
-        let strange: Vec<String> = self
-            .counts
+    }
+
+    /// What cannot arise and did.
+    pub fn strange(&self, expected: Expected) -> Vec<String> {
+        let titles = titles();
+        self.counts
             .strange(&expected)
             .map(|(row, number, _)| format!("{} {number}", titles[row]))
-            .collect();
-        if !strange.is_empty() {
-            println!("not to be expected: {}", strange.join(", "));
-        }
+            .collect()
     }
 
     /// What can arise and did not.
