@@ -7,7 +7,8 @@ use Rattle.blocks.specs.Pick.{pick}
 use Rattle.blocks.specs.Bytes.{blockSize, u32At, le32, splice, blockAt, zeroBlock, Store, store}
 use Rattle.blocks.specs.Descriptor.{physical, tableSize, phiStart, headSize, extendedOf, tailAt, descriptorBlock}
 use Rattle.blocks.specs.declared.descriptor.Descriptor.{Descriptor}
-use Rattle.entries.specs.InPlace.{inPlace}
+use Rattle.entries.specs.InPlace.{inPlace, ownerIndex}
+use Rattle.entries.specs.declared.find.Located.{Located}
 use Rattle.entries.specs.declared.find.Found.{Found}
 use Rattle.entries.specs.declared.find.Found.the-variants.{Misplaced, Entry}
 
@@ -38,6 +39,19 @@ find c ds d l =
     (pick (eqb m 0) (Entry (physical 0) (physical 0)) through)
     (Misplaced (d .alpha)))
 
+-- the block that was found, nil where the entry is nil or not in place
+unfoldable pub blockOf : Found → ℕ
+blockOf (Misplaced h) = 0
+blockOf (Entry m p) = p .0
+
+-- what was found and, beside it, the descriptor whose region contains the block, by its index in the chain: 0 where there is no block
+unfoldable pub locatedIn : List Descriptor → Found → Located
+locatedIn ds found = record { found = found; owner = pick (eqb (blockOf found) 0) 0 (ownerIndex ds (blockOf found)) }
+
+-- finding an entry (02, W2): "beside the block, the descriptor whose region from alpha up to beta contains it"
+unfoldable pub locate : List ℕ → List Descriptor → Descriptor → ℕ → Located
+locate c ds d l = locatedIn ds (find c ds d l)
+
 -- whether an entry that was found stands in a table block that is nil or below alpha, so that a write makes a new one
 unfoldable pub tableIsNew : ℕ → ℕ → Bool
 tableIsNew alpha m = eqb m 0 || ltb m alpha
@@ -46,6 +60,12 @@ tableIsNew alpha m = eqb m 0 || ltb m alpha
 unfoldable pub need : ℕ → Found → ℕ
 need alpha (Misplaced h) = 0
 need alpha (Entry m p) = pick (not (eqb (p .0) 0) && leb alpha (p .0)) 0 (pick (tableIsNew alpha (m .0)) 2 1)
+
+-- the same by the owner of the block, given that the active descriptor is number k of the chain: none where the entry is set and that region contains it (the
+-- law `need-owner`)
+unfoldable pub needBy : ℕ → ℕ → Found → ℕ → ℕ
+needBy k alpha (Misplaced h) owner = 0
+needBy k alpha (Entry m p) owner = pick (not (eqb (p .0) 0) && eqb owner k) 0 (pick (tableIsNew alpha (m .0)) 2 1)
 
 -- a table block with entry j set to q
 unfoldable pub tableWith : List ℕ → ℕ → ℕ → List ℕ

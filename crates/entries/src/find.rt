@@ -8,3 +8,10 @@ pub enum Found {
     // The block that holds the entry, nil where the table block itself is nil, and the entry, nil or in place.
     Entry(Physical, Physical),
 }
+
+// What finding gives beside the entry: the descriptor of the region that contains the block, by its index in the chain. It is 0 where the entry is nil or not in
+// place.
+pub struct Located {
+    pub found: Found,
+    pub owner: usize,
+}
