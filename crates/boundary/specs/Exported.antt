@@ -8,6 +8,7 @@ use Rattle.blocks.specs.Pick.{pick}
 use Rattle.blocks.specs.Name.{nameSize, noName, isText, padded}
 use Rattle.calls.specs.declared.answer.Target.{Target}
 use Rattle.calls.specs.declared.answer.Target.the-variants.{Active, Snapshot}
+use Rattle.calls.specs.declared.answer.Visited.{Visited}
 use Rattle.calls.specs.Call.{Lent, answer}
 use Rattle.calls.specs.Step.{Done, done}
 
@@ -15,11 +16,15 @@ use Rattle.calls.specs.Step.{Done, done}
 abbrev pub exported : ℕ → ℕ → Lent → List ℕ → Done
 exported number place lent card = done (answer number place) lent card
 
+-- what a visit gives, given the number that is returned, and the place and the sixteen bytes that are stored
+abbrev pub exportedVisit : ℕ → ℕ → List ℕ → Visited
+exportedVisit number place name = record { answer = answer number place; name = name }
+
 -- the name in lent bytes: bytes that are not sixteen are no name
 unfoldable pub nameIn : List ℕ → List ℕ
 nameIn bytes = pick (eqb (length bytes) nameSize) bytes noName
 
--- the target of a read: the active store at 0, else the snapshot of the name
+-- the target of a read or a visit: the active store at 0, else the snapshot of the name
 unfoldable pub targetIn : ℕ → Target
 targetIn snapshot = pick (eqb snapshot 0) Active Snapshot
 

@@ -13,10 +13,10 @@ use Rattle.chains.specs.Chain.{chain, chainSound, named, activeOf}
 use Rattle.entries.specs.Entry.{need}
 use Rattle.calls.specs.declared.answer.Target.{Target}
 use Rattle.calls.specs.declared.answer.Record.{Record}
-use Rattle.calls.specs.Call.{Ream, Read, Write, Snap, Revert, Listing, Check, accepted}
+use Rattle.calls.specs.Call.{Ream, Read, Write, Snap, Revert, Listing, Check, Visit, accepted}
 use Rattle.calls.specs.Parts.{areaBad, descriptorsOf, snapshotsOf, mostSnapshots, isSnapshot, targetOf, foundThrough, isMisplaced}
 use Rattle.calls.specs.Check.{checkCard, isFault}
-use Rattle.calls.specs.Ladder.{firstRow, admission, reamRows, readRows, writeRows, snapRows, revertRows, listRows, checkRows}
+use Rattle.calls.specs.Ladder.{firstRow, admission, reamRows, readRows, writeRows, snapRows, revertRows, listRows, checkRows, visitRows}
 use Rattle.calls.specs.Meaning.{rowsOf, answerOf}
 use Rattle.calls.specs.Step.{isAccepted}
 use Rattle.calls.proofs.RowLaws.{holdsOf, rows-passed}
@@ -29,7 +29,7 @@ pub record ReamPassed (c : List ℕ) (format : Format) : Type 0 where
   pub called : isName (format .name) ≡ true
   pub room : costIn format ≤ blockCount c
 
--- a read: a snapshot that is named is there, the number is below L, and what is followed is in place
+-- a read, and a visit: a snapshot that is named is there, the number is below L, and what is followed is in place
 pub record ReadPassed (c : List ℕ) (target : Target) (name : List ℕ) (l : ℕ) : Type 0 where
   pub area : areaBad c ≡ false
   pub sound : chainSound (chain c) ≡ true
@@ -84,6 +84,12 @@ pub read-passed : (c : List ℕ) (target : Target) (name : List ℕ) (l : ℕ) (
 unfolding rowsOf admission readRows holdsOf
 read-passed c target name l block e =
     let row = rows-passed (Read target name l block) c e in
+    record { area = row 1; sound = not-false _ (row 6); there = row 7; below = leb-false _ _ (row 8); in-place = row 10 }
+
+pub visit-passed : (c : List ℕ) (target : Target) (name : List ℕ) (l : ℕ) → isAccepted (answerOf (Visit target name l) c) ≡ true → ReadPassed c target name l
+unfolding rowsOf admission visitRows holdsOf
+visit-passed c target name l e =
+    let row = rows-passed (Visit target name l) c e in
     record { area = row 1; sound = not-false _ (row 6); there = row 7; below = leb-false _ _ (row 8); in-place = row 10 }
 
 pub write-passed : (c : List ℕ) (l : ℕ) (block : List ℕ) → isAccepted (answerOf (Write l block) c) ≡ true → WritePassed c l block

@@ -1,7 +1,7 @@
--- Laws of the read, as the code asks them.
+-- Laws of the read and of the visit, as the code asks them.
 use mathlib.Core.Path.{_≡_, refl, sym, ap, _∙_}
 use mathlib.Core.Bool.{Bool, true, false, not, _&&_}
-use mathlib.Core.List.{List}
+use mathlib.Core.List.{List, _∷_}
 use Prim.Native.Nat.{ℕ, _+_, _-_, _≤_, _<_}
 use native.Mathlib.Omega.{arith}
 use lib.ListN.{length, take, drop, getD}
@@ -9,8 +9,8 @@ use lib.Dec.{eqb}
 use borrow.Author.Tests.{eq-eqb, ne-eqb, lt-ltb, le-ltb, eqb-true, eqb-false}
 use Rattle.blocks.specs.Pick.{pick}
 use Rattle.blocks.specs.Bytes.{blockCount, blockAt, zeroBlock, splice, storeAll}
-use Rattle.blocks.specs.Name.{isName}
-use Rattle.blocks.specs.Descriptor.{descriptorAt}
+use Rattle.blocks.specs.Name.{isName, noName}
+use Rattle.blocks.specs.Descriptor.{descriptorAt, noDescriptor}
 use Rattle.chains.specs.Chain.{chain, descriptors, named, descriptorsAt, regionsOf, indexOf}
 use Rattle.blocks.specs.declared.numbers.Physical.{Physical}
 use Rattle.blocks.specs.declared.descriptor.Descriptor.{Descriptor}
@@ -18,20 +18,22 @@ use Rattle.chains.specs.declared.chain.Regions.{Regions}
 use Rattle.blocks.proofs.ByteLaws.{splice-whole}
 use Rattle.chains.proofs.NamedLaws.{index-le}
 use Rattle.links.proofs.ChainLaws.{region-volume}
-use Rattle.entries.specs.Entry.{find}
+use Rattle.entries.specs.Entry.{find, foundBlock, locatedIn, locate}
 use Rattle.entries.proofs.RegionLaws.{through-region}
 use Rattle.entries.specs.declared.find.Found.{Found}
+use Rattle.entries.specs.declared.find.Located.{Located}
 use Rattle.entries.specs.declared.find.Found.the-variants.{Misplaced, Entry}
 use Rattle.calls.specs.declared.answer.Answer.{Answer}
 use Rattle.calls.specs.declared.answer.Target.{Target}
 use Rattle.calls.specs.declared.answer.Target.the-variants.{Active, Snapshot}
-use Rattle.calls.specs.Call.{Call, Read, Block, answer, accepted}
+use Rattle.calls.specs.declared.answer.Visited.{Visited}
+use Rattle.calls.specs.Call.{Call, Read, Visit, Block, answer, accepted}
 use Rattle.calls.specs.Parts.{areaBad, snapshotsOf, isSnapshot, targetOf, targetIndex, isMisplaced, holderOf, blockFound}
-use Rattle.calls.specs.Ladder.{admission, firstRow, readRows}
-use Rattle.calls.specs.Effect.{Delivered, delivered}
+use Rattle.calls.specs.Ladder.{admission, firstRow, blockRow, entryRows, readRows, visitRows}
+use Rattle.calls.specs.Effect.{Delivered, delivered, visitOf, visitGiven, nameGiven, visitedOf, visited}
 use Rattle.calls.specs.Meaning.{rowsOf, answerOf, lentOf, filledOf, storesOf, givenOf}
 use Rattle.calls.specs.Step.{Done, step, done}
-use Rattle.calls.proofs.StepLaws.{step-refused, step-accepted}
+use Rattle.calls.proofs.StepLaws.{step-refused, step-accepted, outcome-refused, outcome-barred, outcome-accepted}
 use Rattle.calls.proofs.CardLaws.{card-some, card-snapshots, card-snapshot-count, card-snapshot, card-found, card-active, card-through}
 use Rattle.calls.proofs.RowLaws.{admitted, row-given, row-passed, admitted, block-given, block-passed, chain-given, volume-given, volume-passed, Reached, reached}
 
@@ -86,6 +88,25 @@ module _ (c : List ℕ) (f : Found) (out : List ℕ) where
 pub filled-nil : (c out out′ zeros : List ℕ) (p : ℕ) → p ≡ 0 → length out ≡ 512 → zeros ≡ zeroBlock → out′ ≡ splice out 0 zeros → out′ ≡ pick (eqb p 0) zeroBlock (blockAt c p)
 filled-nil c out out′ zeros p e l z s = s ∙ splice-whole out zeros (ap length z ∙ sym l) ∙ rw (eq-eqb p 0 e) z
 
+-- what a visit gives once its entry was looked for, case by case
+module _ (c : List ℕ) (d : Descriptor) (l : ℕ) where
+  abbrev all : List Descriptor
+  all = descriptors (chain c)
+
+  module _ (at : Located) (is : at ≡ locate c all d l) where
+    pub visit-misplaced : (h : Physical) → at .found ≡ Misplaced h → _≡_ {A = Visited} (record { answer = answer 10 (h .0); name = noName }) (visited all (locate c all d l))
+    unfolding visited isMisplaced holderOf
+    visit-misplaced h e = rw (← is, e)
+
+    pub visit-nil : (m p : Physical) → at .found ≡ Entry m p → p .0 ≡ 0 → _≡_ {A = Visited} (record { answer = accepted; name = noName }) (visited all (locate c all d l))
+    unfolding visited isMisplaced visitOf foundBlock nameGiven
+    visit-nil m p e z = rw (← is, e, eq-eqb (p .0) 0 z)
+
+    pub visit-named : (m p : Physical) → at .found ≡ Entry m p → (p .0 ≡ 0 → ⊥) → (name : List ℕ) → name ≡ getD all (at .owner) noDescriptor .name
+        → _≡_ {A = Visited} (record { answer = accepted; name = name }) (visited all (locate c all d l))
+    unfolding visited isMisplaced visitOf foundBlock nameGiven
+    visit-named m p e n name q = rw (← is, e, ne-eqb (p .0) 0 n, q)
+
 -- the rows of a read that follow admission, in the order of the code
 module _ (c : List ℕ) (target : Target) (name : List ℕ) (l : ℕ) (block : List ℕ) (a : Answer) (asked : a ≡ firstRow (admission c)) (card : a .number ≡ 0) (u : Bool) (unnamed : u ≡ (isSnapshot target && not (isName name))) where
   abbrev call : Call
@@ -96,29 +117,46 @@ module _ (c : List ℕ) (target : Target) (name : List ℕ) (l : ℕ) (block : L
   read-4 e = admitted c a asked _ card ∙ row-given _ _ (sym unnamed ∙ e)
 
   module _ (called : u ≡ false) where
-    to-block : answerOf call c ≡ firstRow (drop 1 (readRows c target name l block))
+    to-block : answerOf call c ≡ firstRow (blockRow block ∷ entryRows c target name l)
     unfolding answerOf rowsOf readRows
     to-block = admitted c a asked _ card ∙ row-passed _ _ (sym unnamed ∙ called)
 
     pub read-9 : (length block ≡ 512 → ⊥) → answerOf call c ≡ answer 9 0
-    unfolding readRows
     read-9 h = to-block ∙ block-given _ block h
 
     module _ (long : length block ≡ 512) (r : Regions) (walked : r ≡ regionsOf (chain c)) where
-      to-chain : answerOf call c ≡ firstRow (drop 2 (readRows c target name l block))
-      unfolding readRows
+      to-chain : answerOf call c ≡ firstRow (entryRows c target name l)
       to-chain = to-block ∙ block-passed _ block long
 
       pub read-6 : not (r .sound) ≡ true → answerOf call c ≡ answer 6 (r .place .0)
-      unfolding readRows
+      unfolding entryRows
       read-6 h = to-chain ∙ chain-given _ c r walked h
 
-      pub read-reached : not (r .sound) ≡ false → Reached call c (drop 3 (readRows c target name l block)) r
-      unfolding readRows
+      pub read-reached : not (r .sound) ≡ false → Reached call c (drop 1 (entryRows c target name l)) r
+      unfolding entryRows
       read-reached whole = reached call c _ a asked card r walked whole to-chain
 
--- the rows that follow that of the chain
-module _ (c : List ℕ) (target : Target) (name : List ℕ) (l : ℕ) (block : List ℕ) (r : Regions) (h : Reached (Read target name l block) c (drop 3 (readRows c target name l block)) r) where
+-- those of a visit
+module _ (c : List ℕ) (target : Target) (name : List ℕ) (l : ℕ) (a : Answer) (asked : a ≡ firstRow (admission c)) (card : a .number ≡ 0) (u : Bool) (unnamed : u ≡ (isSnapshot target && not (isName name))) where
+  pub visit-4 : u ≡ true → answerOf (Visit target name l) c ≡ answer 4 0
+  unfolding answerOf rowsOf visitRows
+  visit-4 e = admitted c a asked _ card ∙ row-given _ _ (sym unnamed ∙ e)
+
+  module _ (called : u ≡ false) (r : Regions) (walked : r ≡ regionsOf (chain c)) where
+    visit-chain : answerOf (Visit target name l) c ≡ firstRow (entryRows c target name l)
+    unfolding answerOf rowsOf visitRows
+    visit-chain = admitted c a asked _ card ∙ row-passed _ _ (sym unnamed ∙ called)
+
+    pub visit-6 : not (r .sound) ≡ true → answerOf (Visit target name l) c ≡ answer 6 (r .place .0)
+    unfolding entryRows
+    visit-6 h = visit-chain ∙ chain-given _ c r walked h
+
+    pub visit-reached : not (r .sound) ≡ false → Reached (Visit target name l) c (drop 1 (entryRows c target name l)) r
+    unfolding entryRows
+    visit-reached whole = reached (Visit target name l) c _ a asked card r walked whole visit-chain
+
+-- the rows that follow that of the chain, of a call that follows an entry through its target
+module _ (call : Call) (c : List ℕ) (target : Target) (name : List ℕ) (l : ℕ) (r : Regions) (h : Reached call c (drop 1 (entryRows c target name l)) r) where
   walked : r ≡ regionsOf (chain c)
   walked = h .walked
 
@@ -141,9 +179,9 @@ module _ (c : List ℕ) (target : Target) (name : List ℕ) (l : ℕ) (block : L
     missing : (isSnapshot target && not (named (snapshotsOf ds) name)) ≡ eqb k (r .count)
     missing = missing-is (snapshotsOf ds) name target ∙ rw (← index-is, count-is)
 
-    pub read-7 : k ≡ r .count → answerOf (Read target name l block) c ≡ answer 7 0
-    unfolding readRows
-    read-7 e = h .rest ∙ row-given _ _ (missing ∙ eq-eqb k (r .count) e)
+    pub entry-7 : k ≡ r .count → answerOf call c ≡ answer 7 0
+    unfolding entryRows
+    entry-7 e = h .rest ∙ row-given _ _ (missing ∙ eq-eqb k (r .count) e)
 
     -- which descriptor is read
     place-of : (t : Target) → k ≡ targetIndex (snapshotsOf ds) t name → (k ≡ r .count → ⊥) → (k < r .count) × (targetOf ds t name ≡ descriptorAt c (getD (r .starts) k 0))
@@ -161,20 +199,20 @@ module _ (c : List ℕ) (target : Target) (name : List ℕ) (l : ℕ) (block : L
     index-inside n = place-of target index-is n .0
 
     module _ (some : k ≡ r .count → ⊥) where
-      to-volume : answerOf (Read target name l block) c ≡ firstRow (drop 4 (readRows c target name l block))
-      unfolding readRows
+      to-volume : answerOf call c ≡ firstRow (drop 2 (entryRows c target name l))
+      unfolding entryRows
       to-volume = h .rest ∙ row-passed _ _ (missing ∙ ne-eqb k (r .count) some)
 
-      pub read-8 : r .active .volume ≤ l → answerOf (Read target name l block) c ≡ answer 8 0
-      unfolding readRows
-      read-8 e = to-volume ∙ volume-given _ c r walked good ok l e
+      pub entry-8 : r .active .volume ≤ l → answerOf call c ≡ answer 8 0
+      unfolding entryRows
+      entry-8 e = to-volume ∙ volume-given _ c r walked good ok l e
 
       module _ (below : l < r .active .volume) (d : Descriptor) (d-is : d ≡ descriptorAt c (getD (r .starts) k 0)) where
-        target-is : targetOf ds target name ≡ d
+        pub target-is : targetOf ds target name ≡ d
         target-is = place-of target index-is some .1 ∙ sym d-is
 
-        pub read-below : l < d .volume
-        read-below =
+        pub entry-below : l < d .volume
+        entry-below =
             let one = through-region c (r .starts) (r .count) d (card-through c r walked good ok k (index-inside some) d d-is) in
             let other = through-region c (r .starts) (r .count) (r .active) (card-through c r walked good ok (r .count - 1) (omega (arith, card-some c r walked good ok)) (r .active) (card-active c r walked good ok)) in
             omega (arith, region-volume (descriptorAt c 0) (blockCount c) _ d (one .region), region-volume (descriptorAt c 0) (blockCount c) _ (r .active) (other .region))
@@ -182,28 +220,62 @@ module _ (c : List ℕ) (target : Target) (name : List ℕ) (l : ℕ) (block : L
         abbrev found : Found
         found = find c ds d l
 
-        to-found : answerOf (Read target name l block) c ≡ firstRow (drop 5 (readRows c target name l block))
-        unfolding readRows
+        to-found : answerOf call c ≡ firstRow (drop 3 (entryRows c target name l))
+        unfolding entryRows
         to-found = to-volume ∙ volume-passed _ c r walked good ok l below
 
-        rest : answerOf (Read target name l block) c ≡ pick (isMisplaced found) (answer 10 (holderOf found)) accepted
-        unfolding readRows firstRow
-        rest = to-found ∙ rw target-is
+        pub entry-rest : answerOf call c ≡ pick (isMisplaced found) (answer 10 (holderOf found)) accepted
+        unfolding entryRows firstRow
+        entry-rest = to-found ∙ rw target-is
 
-        done-by : (t : Bool) → isMisplaced found ≡ t → (a : Answer) (out : List ℕ)
-            → _≡_ {A = Delivered} (record { answer = a; block = out }) (pick t (record { answer = answer 10 (holderOf found); block = block }) (record { answer = accepted; block = blockFound c found }))
-            → _≡_ {A = Done} (done a (Block out) c) (step (Read target name l block) c)
-        unfolding lentOf filledOf storesOf givenOf storeAll
-        done-by true e a out h =
-            let a-is : a ≡ answer 10 (holderOf found) = ap (λ (x : Delivered). x .answer) h in
-            let out-is : out ≡ block = ap (λ (x : Delivered). x .block) h in
-            rw (a-is, out-is) (step-refused (Read target name l block) c 10 (holderOf found) (rest ∙ rw e) refl)
-        done-by false e a out h =
-            let a-is : a ≡ accepted = ap (λ (x : Delivered). x .answer) h in
-            let out-is : out ≡ blockFound c found = ap (λ (x : Delivered). x .block) h in
-            rw (a-is, out-is) (step-accepted (Read target name l block) c (rest ∙ rw e) (Block (blockFound c found)) (rw target-is) c refl refl)
+-- what a read does, by the block that was found through the target's descriptor
+module _ (c : List ℕ) (target : Target) (name : List ℕ) (l : ℕ) (block : List ℕ) (d : Descriptor) (target-is : targetOf (descriptors (chain c)) target name ≡ d)
+    (rest : let f = find c (descriptors (chain c)) d l in answerOf (Read target name l block) c ≡ pick (isMisplaced f) (answer 10 (holderOf f)) accepted) where
+  abbrev block-at : Found
+  block-at = find c (descriptors (chain c)) d l
 
-        pub read-done : (a : Answer) (out : List ℕ) → _≡_ {A = Delivered} (record { answer = a; block = out }) (delivered c found block)
-            → _≡_ {A = Done} (done a (Block out) c) (step (Read target name l block) c)
-        unfolding delivered
-        read-done a out h = done-by (isMisplaced found) refl a out h
+  done-by : (t : Bool) → isMisplaced block-at ≡ t → (a : Answer) (out : List ℕ)
+      → _≡_ {A = Delivered} (record { answer = a; block = out }) (pick t (record { answer = answer 10 (holderOf block-at); block = block }) (record { answer = accepted; block = blockFound c block-at }))
+      → _≡_ {A = Done} (done a (Block out) c) (step (Read target name l block) c)
+  unfolding lentOf filledOf storesOf givenOf storeAll
+  done-by true e a out h =
+      let a-is : a ≡ answer 10 (holderOf block-at) = ap (λ (x : Delivered). x .answer) h in
+      let out-is : out ≡ block = ap (λ (x : Delivered). x .block) h in
+      rw (a-is, out-is) (step-refused (Read target name l block) c 10 (holderOf block-at) (rest ∙ rw e) refl)
+  done-by false e a out h =
+      let a-is : a ≡ accepted = ap (λ (x : Delivered). x .answer) h in
+      let out-is : out ≡ blockFound c block-at = ap (λ (x : Delivered). x .block) h in
+      rw (a-is, out-is) (step-accepted (Read target name l block) c (rest ∙ rw e) (Block (blockFound c block-at)) (rw target-is) c refl refl)
+
+  pub read-done : (a : Answer) (out : List ℕ) → _≡_ {A = Delivered} (record { answer = a; block = out }) (delivered c block-at block)
+      → _≡_ {A = Done} (done a (Block out) c) (step (Read target name l block) c)
+  unfolding delivered
+  read-done a out h = done-by (isMisplaced block-at) refl a out h
+
+-- and what a visit gives
+module _ (c : List ℕ) (target : Target) (name : List ℕ) (l : ℕ) (d : Descriptor) (target-is : targetOf (descriptors (chain c)) target name ≡ d)
+    (rest : let f = find c (descriptors (chain c)) d l in answerOf (Visit target name l) c ≡ pick (isMisplaced f) (answer 10 (holderOf f)) accepted) where
+  abbrev at : Located
+  at = locate c (descriptors (chain c)) d l
+
+  given-by : (t : Bool) → isMisplaced (find c (descriptors (chain c)) d l) ≡ t
+      → pick t (record { answer = answer 10 (holderOf (find c (descriptors (chain c)) d l)); name = noName }) (record { answer = accepted; name = nameGiven (visitOf (descriptors (chain c)) at) })
+      ≡ visitedOf (step (Visit target name l) c .outcome)
+  unfolding visitedOf nameGiven givenOf visitGiven
+  given-by true e = rw (outcome-refused (Visit target name l) c 10 (holderOf (find c (descriptors (chain c)) d l)) (rest ∙ rw e) refl)
+  given-by false e = rw (outcome-accepted (Visit target name l) c (rest ∙ rw e), target-is)
+
+  pub visit-done : (v : Visited) → v ≡ visited (descriptors (chain c)) at → v ≡ visitedOf (step (Visit target name l) c .outcome)
+  unfolding visited locate locatedIn
+  visit-done v h = h ∙ given-by (isMisplaced (find c (descriptors (chain c)) d l)) refl
+
+-- a visit that is refused gives no name
+pub visit-refused : (c : List ℕ) (target : Target) (name : List ℕ) (l n p : ℕ) → answerOf (Visit target name l) c ≡ answer n p → eqb n 0 ≡ false
+    → _≡_ {A = Visited} (record { answer = answer n p; name = noName }) (visitedOf (step (Visit target name l) c .outcome))
+unfolding visitedOf nameGiven
+visit-refused c target name l n p e z = rw (outcome-refused (Visit target name l) c n p e z)
+
+pub visit-barred : (c : List ℕ) (target : Target) (name : List ℕ) (l : ℕ) (a : Answer) → a ≡ firstRow (admission c) → (a .number ≡ 0 → ⊥)
+    → _≡_ {A = Visited} (record { answer = a; name = noName }) (visitedOf (step (Visit target name l) c .outcome))
+unfolding visitedOf nameGiven
+visit-barred c target name l a asked h = rw (outcome-barred (Visit target name l) c a asked h)

@@ -36,6 +36,17 @@ module _ (k : Call) (c : List ℕ) where
   unfolding step
   step-accepted e l f card g h = rw (e, f, g, h)
 
+  -- the outcome alone, of a call that is refused, not admitted, or accepted
+  pub outcome-refused : (n p : ℕ) → answerOf k c ≡ answer n p → eqb n 0 ≡ false → step k c .outcome ≡ record { answer = answer n p; lent = lentOf k; given = NoneGiven }
+  outcome-refused n p e z = ap (λ (d : Done). d .outcome) (sym (step-refused n p e z))
+
+  pub outcome-barred : (a : Answer) → a ≡ firstRow (admission c) → (a .number ≡ 0 → ⊥) → step k c .outcome ≡ record { answer = a; lent = lentOf k; given = NoneGiven }
+  outcome-barred a asked h = ap (λ (d : Done). d .outcome) (sym (step-barred a asked h))
+
+  pub outcome-accepted : answerOf k c ≡ accepted → step k c .outcome ≡ record { answer = accepted; lent = filledOf k c; given = givenOf k c }
+  unfolding step
+  outcome-accepted e = rw e
+
   -- the answer is that of the rows, and what was lent is filled where it is accepted
   abbrev by-test : Bool → Done
   by-test t = pick t (record { outcome = record { answer = answerOf k c; lent = filledOf k c; given = givenOf k c }; card = storeAll c (storesOf k c) }) (done (answerOf k c) (lentOf k) c)

@@ -7,7 +7,8 @@ use Rattle.calls.specs.declared.answer.Record.{Record}
 use Rattle.blocks.specs.declared.descriptor.Format.{Format}
 
 -- Each call stands with its arguments and the content, at its entry, of what is lent besides the card: a read's block, a write's block, a list.
--- A name is any sixteen bytes; a block and a list have any length. The name beside a read of the active store is not looked at.
+-- A name is any sixteen bytes; a block and a list have any length. The name beside a read of the active store is not looked at, nor is a visit's.
+-- Visit is document 02's new call, W2: which visit's region holds what a read of this target gives.
 pub data Call : Type 0 where
   Ream : (format : Format) → Call
   Read : (target : Target) → (name : List ℕ) → (l : ℕ) → (block : List ℕ) → Call
@@ -16,6 +17,7 @@ pub data Call : Type 0 where
   Revert : (name : List ℕ) → Call
   Listing : (records : List Record) → Call
   Check : Call
+  Visit : (target : Target) → (name : List ℕ) → (l : ℕ) → Call
 
 -- what is lent to a call besides the card
 pub data Lent : Type 0 where
@@ -23,9 +25,10 @@ pub data Lent : Type 0 where
   Block : List ℕ → Lent
   Records : List Record → Lent
 
--- what a call returns besides number and place: no call returns anything more
+-- what a call returns besides number and place: none, or a name. Only a visit gives a name
 pub data Given : Type 0 where
   NoneGiven : Given
+  NameGiven : List ℕ → Given
 
 -- what a call answers: number and place, the content at exit of what was lent besides the card, and whatever else the call returns
 pub record Outcome : Type 0 where

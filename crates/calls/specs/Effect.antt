@@ -1,19 +1,23 @@
--- The stores of a write, a snap and a revert, in order and computed from the card at entry; what stays of a list at a rollback; the records of a listing; what a read and a write do once the entry is found.
+-- The stores of a write, a snap and a revert, in order and computed from the card at entry; what stays of a list at a rollback; the records of a listing; what a read, a visit and a write do once the entry is found.
 use mathlib.Core.List.{List, [], _∷_}
 use Prim.Native.Nat.{ℕ, suc, _+_}
+use lib.ListN.{getD}
 use Rattle.blocks.specs.Pick.{pick}
 use lib.Dec.{eqb, ltb}
 use Rattle.blocks.specs.Bytes.{Store, store, blockCount, storeAll}
 use Rattle.blocks.specs.Name.{noName}
-use Rattle.blocks.specs.Descriptor.{physical, revisionOf, tailAt, descriptorBlock, renamedOf, linkedOf, reopening}
+use Rattle.blocks.specs.Descriptor.{physical, noDescriptor, revisionOf, tailAt, descriptorBlock, renamedOf, linkedOf, reopening}
 use Rattle.blocks.specs.declared.descriptor.Descriptor.{Descriptor}
 use Rattle.chains.specs.Chain.{activeOf}
-use Rattle.entries.specs.Entry.{need, writing}
+use Rattle.entries.specs.Entry.{need, writing, foundBlock, locate}
 use Rattle.entries.specs.declared.find.Found.{Found}
+use Rattle.entries.specs.declared.find.Located.{Located}
 use Rattle.calls.specs.declared.answer.Answer.{Answer}
 use Rattle.calls.specs.declared.answer.Record.{Record}
-use Rattle.calls.specs.Call.{answer, accepted}
-use Rattle.calls.specs.Parts.{descriptorsOf, snapshotsOf, withName, foundThrough, isMisplaced, holderOf, blockFound}
+use Rattle.calls.specs.declared.answer.Target.{Target}
+use Rattle.calls.specs.declared.answer.Visited.{Visited}
+use Rattle.calls.specs.Call.{Outcome, Given, NoneGiven, NameGiven, answer, accepted}
+use Rattle.calls.specs.Parts.{descriptorsOf, snapshotsOf, withName, targetOf, foundThrough, isMisplaced, holderOf, blockFound}
 
 -- a snapshot of the active descriptor d: the copy at beta, tables first and rising, then the old descriptor under the visit's name, linked to the copy
 unfoldable pub snapping : List ℕ → Descriptor → List ℕ → List Store
@@ -63,6 +67,25 @@ pub record Delivered : Type 0 where
 
 unfoldable pub delivered : List ℕ → Found → List ℕ → Delivered
 delivered c found block = pick (isMisplaced found) (record { answer = answer 10 (holderOf found); block = block }) (record { answer = accepted; block = blockFound c found })
+
+-- what a visit gives once its entry was found: the name of the descriptor whose region contains the block, none for nil
+unfoldable pub visitOf : List Descriptor → Located → Given
+visitOf ds at = pick (eqb (foundBlock (at .found)) 0) NoneGiven (NameGiven (getD ds (at .owner) noDescriptor .name))
+
+unfoldable pub visitGiven : List ℕ → Target → List ℕ → ℕ → Given
+visitGiven c target name l = let ds = descriptorsOf c in visitOf ds (locate c ds (targetOf ds target name) l)
+
+-- what is given as sixteen bytes: zeros, which are no name, for none
+unfoldable pub nameGiven : Given → List ℕ
+nameGiven NoneGiven = noName
+nameGiven (NameGiven name) = name
+
+-- the outcome of a visit as its code gives it; and, once the entry was looked for, the refusal of one that is not in place, or what is given
+unfoldable pub visitedOf : Outcome → Visited
+visitedOf o = record { answer = o .answer; name = nameGiven (o .given) }
+
+unfoldable pub visited : List Descriptor → Located → Visited
+visited ds at = pick (isMisplaced (at .found)) (record { answer = answer 10 (holderOf (at .found)); name = noName }) (record { answer = accepted; name = nameGiven (visitOf ds at) })
 
 -- what a write does once its entry was found: the refusal for want of room, or its stores
 pub record Written : Type 0 where

@@ -39,6 +39,10 @@ areaRow c = row (areaBad c) 1 0
 abbrev pub nameRow : List ℕ → Row
 nameRow name = row (not (isName name)) 4 0
 
+-- a name is given where the target is a snapshot
+abbrev pub targetRow : Target → List ℕ → Row
+targetRow target name = row (isSnapshot target && not (isName name)) 4 0
+
 abbrev pub blockRow : List ℕ → Row
 blockRow block = row (not (eqb (length block) blockSize)) 9 0
 
@@ -63,17 +67,25 @@ reamRows c format =
     ∷ row (ltb (blockCount c) (costIn format)) 5 0
     ∷ []
 
-unfoldable pub readRows : List ℕ → Target → List ℕ → ℕ → List ℕ → List Row
-readRows c target name l block =
+-- the rows from that of the chain on, of a call that follows the entry of a logical block through its target
+unfoldable pub entryRows : List ℕ → Target → List ℕ → ℕ → List Row
+entryRows c target name l =
     let ds = descriptorsOf c in
     let found = foundThrough c (targetOf ds target name) l in
-    row (isSnapshot target && not (isName name)) 4 0
-    ∷ blockRow block
-    ∷ chainRow c
+    chainRow c
     ∷ row (isSnapshot target && not (named (snapshotsOf ds) name)) 7 0
     ∷ volumeRow c l
     ∷ row (isMisplaced found) 10 (holderOf found)
     ∷ []
+
+unfoldable pub readRows : List ℕ → Target → List ℕ → ℕ → List ℕ → List Row
+unfolding entryRows
+readRows c target name l block = targetRow target name ∷ blockRow block ∷ entryRows c target name l
+
+-- "a read's refusals but 9" (02, W2)
+unfoldable pub visitRows : List ℕ → Target → List ℕ → ℕ → List Row
+unfolding entryRows
+visitRows c target name l = targetRow target name ∷ entryRows c target name l
 
 unfoldable pub writeRows : List ℕ → ℕ → List ℕ → List Row
 writeRows c l block =

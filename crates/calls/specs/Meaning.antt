@@ -5,10 +5,10 @@ use lib.ListN.{length, drop}
 use Rattle.blocks.specs.Bytes.{Store}
 use Rattle.blocks.specs.Descriptor.{opening}
 use Rattle.calls.specs.declared.answer.Answer.{Answer}
-use Rattle.calls.specs.Call.{Call, Ream, Read, Write, Snap, Revert, Listing, Check, Lent, None, Block, Records, Given, NoneGiven}
+use Rattle.calls.specs.Call.{Call, Ream, Read, Write, Snap, Revert, Listing, Check, Visit, Lent, None, Block, Records, Given, NoneGiven}
 use Rattle.calls.specs.Parts.{descriptorsOf, targetOf, foundThrough, blockFound}
-use Rattle.calls.specs.Ladder.{Row, firstRow, admission, reamRows, readRows, writeRows, snapRows, revertRows, listRows, checkRows}
-use Rattle.calls.specs.Effect.{writeStores, snapStores, revertStores, listed}
+use Rattle.calls.specs.Ladder.{Row, firstRow, admission, reamRows, readRows, writeRows, snapRows, revertRows, listRows, checkRows, visitRows}
+use Rattle.calls.specs.Effect.{writeStores, snapStores, revertStores, listed, visitGiven}
 
 -- what is said of a call. All but `lent` are by the card at entry: the rows of its own, which follow those of admission; and of an accepted call
 -- the stores, what was lent as it leaves it, and what it gives
@@ -19,12 +19,15 @@ pub record Meaning : Type 0 where
   pub filled : List ℕ → Lent
   pub given : List ℕ → Given
 
--- a call that stores nothing; a call that leaves what was lent as it was. Neither gives anything
+-- a call that stores nothing; a call that leaves what was lent as it was. Neither gives anything. A call that only gives something
 abbrev pub looking : (List ℕ → List Row) → Lent → (List ℕ → Lent) → Meaning
 looking rows lent filled = record { rows = rows; stores = λ c. []; lent = lent; filled = filled; given = λ c. NoneGiven }
 
 abbrev pub changing : (List ℕ → List Row) → (List ℕ → List Store) → Lent → Meaning
 changing rows stores lent = record { rows = rows; stores = stores; lent = lent; filled = λ c. lent; given = λ c. NoneGiven }
+
+abbrev pub giving : (List ℕ → List Row) → (List ℕ → Given) → Meaning
+giving rows given = record { rows = rows; stores = λ c. []; lent = None; filled = λ c. None; given = given }
 
 unfoldable pub meaningOf : Call → Meaning
 meaningOf (Ream format) = changing (λ c. reamRows c format) (λ c. opening format) None
@@ -35,6 +38,7 @@ meaningOf (Snap name) = changing (λ c. snapRows c name) (λ c. snapStores c nam
 meaningOf (Revert name) = changing (λ c. revertRows c name) (λ c. revertStores c name) None
 meaningOf (Listing records) = looking (λ c. listRows c records) (Records records) (λ c. let ds = descriptorsOf c in Records (listed ds (drop (length ds) records)))
 meaningOf Check = looking (λ c. checkRows c) None (λ c. None)
+meaningOf (Visit target name l) = giving (λ c. visitRows c target name l) (λ c. visitGiven c target name l)
 
 -- the rows of a call on a card, and number and place of its answer
 unfoldable pub rowsOf : Call → List ℕ → List Row

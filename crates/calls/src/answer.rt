@@ -74,7 +74,7 @@ pub const BAD_REVISION: Answer = Answer {
     place: 0,
 };
 
-// What a read reads: the active store, or the snapshot whose name stands beside.
+// What a read reads, and what a visit is asked of: the active store, or the snapshot whose name stands beside.
 pub enum Target {
     Active,
     Snapshot,
@@ -86,4 +86,10 @@ pub struct Record {
     pub alpha: Physical,
     pub beta: Physical,
     pub next: Physical,
+}
+
+// What a visit gives: number and place, and the name of the region's descriptor, sixteen zeros for none.
+pub struct Visited {
+    pub answer: Answer,
+    pub name: [u8; NAME_SIZE],
 }

@@ -13,15 +13,16 @@ use Rattle.chains.specs.Chain.{Chain, Sound, chain, chainSound, descriptors, na
 use Rattle.blocks.specs.declared.descriptor.Descriptor.{Descriptor}
 use Rattle.blocks.proofs.ByteLaws.{blocks-long, taken-block}
 use Rattle.links.proofs.LinkedLaws.{chain-few}
-use Rattle.entries.specs.Entry.{find, need}
+use Rattle.entries.specs.Entry.{find, need, locatedIn, locate}
 use Rattle.entries.specs.declared.find.Found.{Found}
 use Rattle.calls.specs.declared.answer.Target.{Target}
 use Rattle.calls.specs.declared.answer.Target.the-variants.{Active}
-use Rattle.calls.specs.Call.{Read, Listing, Block}
+use Rattle.calls.specs.Call.{Read, Listing, Visit, Block}
 use Rattle.calls.specs.Parts.{descriptorsOf, snapshotsOf, isSnapshot, targetOf, isMisplaced, holderOf, blockFound}
 use Rattle.calls.specs.Check.{checkAll, checkCard}
-use Rattle.calls.specs.Ladder.{row, reamRows, readRows, writeRows, snapRows, revertRows, listRows, checkRows, admission}
-use Rattle.calls.specs.Meaning.{filledOf}
+use Rattle.calls.specs.Ladder.{row, reamRows, entryRows, readRows, visitRows, writeRows, snapRows, revertRows, listRows, checkRows, admission}
+use Rattle.calls.specs.Effect.{visitOf, visitGiven}
+use Rattle.calls.specs.Meaning.{filledOf, givenOf}
 use Rattle.claims.specs.History.{betaOf, Agree}
 use Rattle.calls.proofs.CardLaws.{chain-is, area-kept}
 use Rattle.calls.proofs.Passed.{ReadPassed}
@@ -138,11 +139,19 @@ module _ (s t : List ℕ) (agree : Agree s t) where
   unfolding reamRows
   ream-rows format = let e : reamRows s format ≡ reamRows t format = rw agree-count in same-rows e
 
+  entry-rows : (target : Target) (name : List ℕ) (l : ℕ) → SameRows (entryRows s target name l) (entryRows t target name l)
+  unfolding entryRows
+  entry-rows target name l =
+      rw (← agree-chain)
+      (then (λ d. then (λ e. then (λ f. same-rows (ap (λ (x : Found). row (isMisplaced x) 10 (holderOf x) ∷ []) (found-same target name l e (leb-false (activeOf ds .volume) l f)))))))
+
   pub read-rows : (target : Target) (name : List ℕ) (l : ℕ) (block : List ℕ) → SameRows (readRows s target name l block) (readRows t target name l block)
   unfolding readRows
-  read-rows target name l block =
-      rw (← agree-chain)
-      (then (λ b. then (λ c. then (λ d. then (λ e. then (λ f. same-rows (ap (λ (x : Found). row (isMisplaced x) 10 (holderOf x) ∷ []) (found-same target name l e (leb-false (activeOf ds .volume) l f)))))))))
+  read-rows target name l block = then (λ b. then (λ c. entry-rows target name l))
+
+  pub visit-rows : (target : Target) (name : List ℕ) (l : ℕ) → SameRows (visitRows s target name l) (visitRows t target name l)
+  unfolding visitRows
+  visit-rows target name l = then (λ b. entry-rows target name l)
 
   pub write-rows : (l : ℕ) (block : List ℕ) → SameRows (writeRows s l block) (writeRows t l block)
   unfolding writeRows
@@ -173,6 +182,11 @@ module _ (s t : List ℕ) (agree : Agree s t) where
   pub read-filled : (target : Target) (name : List ℕ) (l : ℕ) (block : List ℕ) → ReadPassed s target name l → filledOf (Read target name l block) s ≡ filledOf (Read target name l block) t
   unfolding filledOf
   read-filled target name l block h = rw (← agree-chain) (ap Block (block-same target name l (h .there) (h .below)))
+
+  -- and what a visit gives
+  pub visit-given : (target : Target) (name : List ℕ) (l : ℕ) → ReadPassed s target name l → givenOf (Visit target name l) s ≡ givenOf (Visit target name l) t
+  unfolding givenOf visitGiven locate
+  visit-given target name l h = rw (← agree-chain) (ap (λ (x : Found). visitOf ds (locatedIn ds x)) (found-same target name l (h .there) (h .below)))
 
   pub list-filled : (records : List Record) → filledOf (Listing records) s ≡ filledOf (Listing records) t
   unfolding filledOf

@@ -7,7 +7,7 @@ use lib.ListN.{length}
 use Rattle.blocks.specs.Bytes.{storeAll}
 use Rattle.blocks.specs.declared.descriptor.Format.{Format}
 use Rattle.blocks.proofs.BoolLaws.{no}
-use Rattle.calls.specs.Call.{Call, Ream, Read, Write, Snap, Revert, Listing, Check}
+use Rattle.calls.specs.Call.{Call, Ream, Read, Write, Snap, Revert, Listing, Check, Visit}
 use Rattle.calls.specs.Meaning.{answerOf}
 use Rattle.calls.specs.Step.{step, isAccepted}
 use Rattle.claims.specs.Claims.{lentAtEntry, leaves, storesNothing, fills, blocksTaken, blocksNeeded, FrameClaim, ByNameClaim}
@@ -68,4 +68,5 @@ by-name-claim c v =
       revert = λ name. (frame-claim (Revert name) c .2 refl, refl, refl, refl, refl, refl);
       list = λ records. (frame-claim (Listing records) c .1 refl, refl, refl, refl, refl, refl);
       check = (frame-claim Check c .1 refl, frame-claim Check c .2 refl, refl, refl, refl, refl, refl);
+      visit = λ target name l. (frame-claim (Visit target name l) c .1 refl, frame-claim (Visit target name l) c .2 refl, refl, refl, refl, refl, refl);
     }

@@ -17,10 +17,10 @@ use Rattle.calls.specs.declared.answer.Answer.{Answer}
 use Rattle.calls.specs.declared.answer.Target.{Target}
 use Rattle.calls.specs.declared.answer.Target.the-variants.{Active, Snapshot}
 use Rattle.calls.specs.declared.answer.Record.{Record}
-use Rattle.calls.specs.Call.{Call, Ream, Read, Write, Snap, Revert, Listing, Check, Block, Records, answer, accepted}
+use Rattle.calls.specs.Call.{Call, Ream, Read, Write, Snap, Revert, Listing, Check, Visit, Block, Records, answer, accepted}
 use Rattle.calls.specs.Parts.{descriptorsOf, snapshotsOf, isSnapshot, targetOf, foundThrough, isMisplaced, blockFound, areaBad}
 use Rattle.calls.specs.Check.{Passes}
-use Rattle.calls.specs.Ladder.{Row, row, firstRow, reamRows, readRows, writeRows, snapRows, revertRows, listRows, admission}
+use Rattle.calls.specs.Ladder.{Row, row, firstRow, reamRows, readRows, visitRows, writeRows, snapRows, revertRows, listRows, admission}
 use Rattle.calls.specs.Effect.{noRecord}
 use Rattle.calls.specs.Meaning.{rowsOf, answerOf, filledOf}
 use Rattle.calls.specs.Step.{step, isAccepted}
@@ -135,6 +135,14 @@ read-by pl h false false y true v f ey g = rw ey
 read-by pl h false false y false true f ey g = rw ey
 read-by pl h false false y false false f ey g = rw (ey, g refl refl)
 
+visit-by : (pl h : ℕ) (a y s v f : Bool) → y ≡ false → (s ≡ false → v ≡ false → f ≡ false)
+    → firstRow (row a 4 0 ∷ row y 6 pl ∷ row s 7 0 ∷ row v 8 0 ∷ row f 10 h ∷ []) ≡ firstRow (row a 4 0 ∷ row s 7 0 ∷ row v 8 0 ∷ [])
+unfolding firstRow
+visit-by pl h true y s v f ey g = refl
+visit-by pl h false y true v f ey g = rw ey
+visit-by pl h false y false true f ey g = rw ey
+visit-by pl h false y false false f ey g = rw (ey, g refl refl)
+
 write-by : (pl h : ℕ) (b y v f n : Bool) → y ≡ false → (v ≡ false → f ≡ false)
     → firstRow (row b 9 0 ∷ row y 6 pl ∷ row v 8 0 ∷ row f 10 h ∷ row n 11 0 ∷ [])
     ≡ pick (eqb (firstRow (row b 9 0 ∷ row v 8 0 ∷ []) .number) 0 && n) (answer 11 0) (firstRow (row b 9 0 ∷ row v 8 0 ∷ []))
@@ -193,6 +201,16 @@ module _ (c : List ℕ) (p : Passes c) where
   pub read-answer : (target : Target) (name : List ℕ) (l : ℕ) (block : List ℕ) → answerOf (Read target name l block) c ≡ ledgerAnswer (Read target name l block) c
   unfolding answerOf rowsOf blocksNeeded
   read-answer target name l block = passing-admitted (readRows c target name l block) ∙ read-own target name l block ∙ no-more (firstRow (ledgerRows (Read target name l block) (ledgerOf c)))
+
+  visit-own : (target : Target) (name : List ℕ) (l : ℕ) → firstRow (visitRows c target name l) ≡ firstRow (ledgerRows (Visit target name l) (ledgerOf c))
+  unfolding visitRows ledgerRows ledgerOf volumeOf
+  visit-own target name l =
+      rw (has-volume c (snapshotsOf (descriptorsOf c)) name, cells-length c (activeOf (descriptorsOf c)) (activeOf (descriptorsOf c) .volume) 0)
+      (visit-by _ _ _ _ _ _ _ (ap not (p .sound)) (λ s v. target-found c p target name l s (leb-false (activeOf (descriptorsOf c) .volume) l v)))
+
+  pub visit-answer : (target : Target) (name : List ℕ) (l : ℕ) → answerOf (Visit target name l) c ≡ ledgerAnswer (Visit target name l) c
+  unfolding answerOf rowsOf blocksNeeded
+  visit-answer target name l = passing-admitted (visitRows c target name l) ∙ visit-own target name l ∙ no-more (firstRow (ledgerRows (Visit target name l) (ledgerOf c)))
 
   active-found : (l : ℕ) → leb (activeOf (descriptorsOf c) .volume) l ≡ false → isMisplaced (foundThrough c (activeOf (descriptorsOf c)) l) ≡ false
   active-found l v = rw (active-target (descriptorsOf c)) at (target-found c p Active [] l refl (leb-false (activeOf (descriptorsOf c) .volume) l v))

@@ -29,6 +29,7 @@ pub mod CardBytes
 pub mod Rollback
 pub mod Demand
 pub mod Surviving
+pub mod Visits
 pub mod LedgerAnswers
 pub mod LedgerSnap
 pub mod LedgerWrite

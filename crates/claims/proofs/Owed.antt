@@ -11,23 +11,23 @@ use Rattle.blocks.specs.Bytes.{blockCount}
 use Rattle.blocks.proofs.BoolLaws.{no}
 use Rattle.calls.specs.declared.answer.Target.{Target}
 use Rattle.calls.specs.declared.answer.Record.{Record}
-use Rattle.calls.specs.Call.{Call, Ream, Read, Write, Snap, Revert, Listing, Check, answer}
+use Rattle.calls.specs.Call.{Call, Ream, Read, Write, Snap, Revert, Listing, Check, Visit, answer}
 use Rattle.calls.specs.Parts.{areaBad}
 use Rattle.calls.specs.Check.{Passes}
-use Rattle.calls.specs.Ladder.{admission, reamRows, readRows, writeRows, snapRows, revertRows, listRows, checkRows}
+use Rattle.calls.specs.Ladder.{admission, reamRows, readRows, writeRows, snapRows, revertRows, listRows, checkRows, visitRows}
 use Rattle.calls.specs.Meaning.{meaningOf, rowsOf, answerOf, storesOf, filledOf, givenOf, lentOf}
 use Rattle.calls.specs.Step.{isAccepted}
 use Rattle.calls.proofs.RowLaws.{fresh, holdsOf, rows-numbered, fresh-never, number-given, SameRows, placeless}
-use Rattle.calls.proofs.Passed.{ream-passed, read-passed, write-passed, snap-passed, revert-passed}
+use Rattle.calls.proofs.Passed.{ream-passed, read-passed, visit-passed, write-passed, snap-passed, revert-passed}
 use Rattle.claims.specs.Kinds.{kindOf}
 use Rattle.claims.specs.History.{betaOf, Agree, isReam, isFormat}
 use Rattle.claims.specs.Ledger.{Ledger, ledgerRows}
 use Rattle.chains.specs.Chained.{FirstUnsound}
 use Rattle.claims.specs.Claims.{blocksNeeded, lentAtEntry, fills, comesToChain}
-use Rattle.claims.proofs.Agreement.{ream-rows, read-rows, write-rows, snap-rows, revert-rows, list-rows, check-rows, read-filled, list-filled}
-use Rattle.claims.proofs.Places.{ream-six, read-six, write-six, snap-six, revert-six, list-six, check-six}
+use Rattle.claims.proofs.Agreement.{ream-rows, read-rows, write-rows, snap-rows, revert-rows, list-rows, check-rows, visit-rows, read-filled, list-filled, visit-given}
+use Rattle.claims.proofs.Places.{ream-six, read-six, write-six, snap-six, revert-six, list-six, check-six, visit-six}
 use Rattle.claims.proofs.Changes.{storesBy, Allowed, to-format, to-leave, to-write, to-snap, to-revert}
-use Rattle.claims.proofs.LedgerFacts.{ledgerAnswer, read-answer, write-answer, snap-answer, revert-answer, list-answer, check-answer, ream-place, answer-place}
+use Rattle.claims.proofs.LedgerFacts.{ledgerAnswer, read-answer, write-answer, snap-answer, revert-answer, list-answer, check-answer, visit-answer, ream-place, answer-place}
 use Rattle.blocks.specs.declared.descriptor.Format.{Format}
 
 pub record Owed (k : Call) : Type 0 where
@@ -184,6 +184,25 @@ check-owed =
       place = λ c p. answer-place Check c refl (check-answer c p);
     }
 
+visit-owed : (target : Target) (name : List ℕ) (l : ℕ) → Owed (Visit target name l)
+unfolding storesOf storesBy kindOf isFormat isReam answerOf rowsOf admission visitRows lentOf lentAtEntry filledOf fresh ledgerRows placeless
+visit-owed target name l =
+    record {
+      stores = λ c. refl;
+      allowed = λ c e. to-leave;
+      format = λ s t e. refl;
+      lent = refl;
+      unfilled = λ q c. refl;
+      room = λ c e. absurd (fresh-never (rowsOf (Visit target name l) c) 11 refl (omega arith) e);
+      unsound = λ c q. visit-six c q target name l;
+      rows = λ s t g. visit-rows s t g target name l;
+      filled = λ s t g e. refl;
+      given = λ s t g e. visit-given s t g target name l (visit-passed s target name l e);
+      ledger = λ c p q. visit-answer c p target name l;
+      plain = λ g. refl;
+      place = λ c p. answer-place (Visit target name l) c refl (visit-answer c p target name l);
+    }
+
 pub owed : (k : Call) → Owed k
 owed (Ream format) = ream-owed format
 owed (Read target name l block) = read-owed target name l block
@@ -192,3 +211,4 @@ owed (Snap name) = snap-owed name
 owed (Revert name) = revert-owed name
 owed (Listing records) = list-owed records
 owed Check = check-owed
+owed (Visit target name l) = visit-owed target name l

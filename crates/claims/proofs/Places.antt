@@ -18,13 +18,14 @@ use Rattle.blocks.proofs.BoolLaws.{no}
 use Rattle.links.proofs.SoundLaws.{form-layout}
 use Rattle.entries.specs.InPlace.{inPlace}
 use Rattle.entries.specs.Entry.{entryAt, phiAt, tableOf, entryFound, find}
+use Rattle.entries.specs.declared.find.Found.{Found}
 use Rattle.entries.specs.declared.find.Found.the-variants.{Misplaced, Entry}
 use Rattle.calls.specs.declared.answer.Answer.{Answer}
 use Rattle.calls.specs.declared.answer.Target.{Target}
 use Rattle.calls.specs.declared.answer.Target.the-variants.{Active}
-use Rattle.calls.specs.Call.{Call, Ream, Read, Write, Snap, Revert, Listing, Check, answer}
+use Rattle.calls.specs.Call.{Call, Ream, Read, Write, Snap, Revert, Listing, Check, Visit, answer}
 use Rattle.calls.specs.Parts.{areaBad, descriptorsOf, snapshotsOf, isSnapshot, targetOf, foundThrough, isMisplaced, holderOf}
-use Rattle.calls.specs.Ladder.{Row, row, areaRow, nameRow, blockRow, chainRow, volumeRow, firstRow, reamRows, readRows, writeRows, snapRows, revertRows, listRows, checkRows, admission}
+use Rattle.calls.specs.Ladder.{Row, row, areaRow, nameRow, targetRow, blockRow, chainRow, volumeRow, firstRow, reamRows, readRows, visitRows, writeRows, snapRows, revertRows, listRows, checkRows, admission}
 use Rattle.calls.specs.Meaning.{rowsOf, answerOf}
 use Rattle.chains.specs.Chained.{FirstUnsound}
 use Rattle.chains.proofs.ChainedLaws.{chain-place, place-chain}
@@ -84,6 +85,12 @@ clear-two true b = refl
 clear-two false true = refl
 clear-two false false = refl
 
+clear-target : (a s n : Bool) → (not a && (not (s && not n) && true)) ≡ (not a && (not s || n))
+clear-target true s n = refl
+clear-target false true true = refl
+clear-target false true false = refl
+clear-target false false n = refl
+
 clear-three : (a s n b : Bool) → (not a && (not (s && not n) && (not (not b) && true))) ≡ (not a && (not s || n) && b)
 clear-three true s n b = refl
 clear-three false true true true = refl
@@ -124,8 +131,12 @@ module _ (c : List ℕ) (q : ℕ) where
   pub read-six : (target : Target) (name : List ℕ) (l : ℕ) (block : List ℕ) → SixExactly (Read target name l block)
   unfolding rowsOf admission readRows fresh clear comesToChain
   read-six target name l block =
-      six-by (Read target name l block) (areaRow c ∷ row (isSnapshot target && not (isName name)) 4 0 ∷ blockRow block ∷ []) _ refl refl refl
+      six-by (Read target name l block) (areaRow c ∷ targetRow target name ∷ blockRow block ∷ []) _ refl refl refl
       (clear-three (areaBad c) (isSnapshot target) (isName name) (eqb (length block) 512))
+
+  pub visit-six : (target : Target) (name : List ℕ) (l : ℕ) → SixExactly (Visit target name l)
+  unfolding rowsOf admission visitRows fresh clear comesToChain
+  visit-six target name l = six-by (Visit target name l) (areaRow c ∷ targetRow target name ∷ []) _ refl refl refl (clear-target (areaBad c) (isSnapshot target) (isName name))
 
   pub write-six : (l : ℕ) (block : List ℕ) → SixExactly (Write l block)
   unfolding rowsOf admission writeRows fresh clear comesToChain
@@ -222,6 +233,18 @@ clear-read false false n true true t false = refl
 clear-read false false n true false t v = refl
 clear-read false false n false u t v = refl
 
+clear-visit : (a s n u t v : Bool)
+    → (not a && (not (s && not n) && (not (not u) && (not (s && not t) && (not v && true))))) ≡ ((((not a && (not s || n)) && u) && (not s || t)) && not v)
+clear-visit true s n u t v = refl
+clear-visit false true true true true true = refl
+clear-visit false true true true true false = refl
+clear-visit false true true true false v = refl
+clear-visit false true true false t v = refl
+clear-visit false true false u t v = refl
+clear-visit false false n true t true = refl
+clear-visit false false n true t false = refl
+clear-visit false false n false t v = refl
+
 clear-write : (a b u v : Bool) → (not a && (not (not b) && (not (not u) && (not v && true)))) ≡ (((not a && b) && u) && not v)
 clear-write true b u v = refl
 clear-write false false u v = refl
@@ -250,50 +273,63 @@ module _ (c : List ℕ) (l : ℕ) (block : List ℕ) (h : ℕ) where
   abbrev beyond : Bool
   beyond = leb (activeOf all .volume) l
 
-  -- a read
-  module _ (target : Target) (name : List ℕ) where
+  -- a call that follows an entry through its target, with the rows above that of 10
+  module _ (target : Target) (name : List ℕ) (k : Call) where
     abbrev comes : Bool
-    comes = comesToChain (Read target name l block) c
+    comes = comesToChain k c
 
     abbrev there : Bool
     there = not (isSnapshot target) || named (snapshotsOf all) name
 
-    abbrev above : List Row
-    above = areaRow c ∷ row (isSnapshot target && not (isName name)) 4 0 ∷ blockRow block ∷ chainRow c ∷ row (isSnapshot target && not (named (snapshotsOf all) name)) 7 0 ∷ volumeRow c l ∷ []
+    abbrev found : Found
+    found = foundThrough c (targetOf all target name) l
 
-    above-clear : clear above ≡ (((comes && sounds) && there) && not beyond)
-    unfolding clear comesToChain
-    above-clear = clear-read (areaBad c) (isSnapshot target) (isName name) (eqb (length block) 512) sounds (named (snapshotsOf all) name) beyond
+    abbrev TargetMisplaced : Type 0
+    TargetMisplaced = (comes ≡ true) × (sounds ≡ true) × (there ≡ true) × (l < activeOf all .volume) × NotInPlace c (targetOf all target name) l h
 
-    abbrev ReadMisplaced : Type 0
-    ReadMisplaced = (comes ≡ true) × (sounds ≡ true) × (there ≡ true) × (l < activeOf all .volume) × NotInPlace c (targetOf all target name) l h
+    module _ (above : List Row) (fresh-above : fresh 10 above ≡ true) (rows-are : rowsOf k c ≡ above ++ (row (isMisplaced found) 10 (holderOf found) ∷ [])) (above-clear : clear above ≡ (((comes && sounds) && there) && not beyond)) where
+      target-out-of-place : answerOf k c ≡ answer 10 h → TargetMisplaced
+      unfolding answerOf fresh
+      target-out-of-place e =
+          let r = row-is above [] (isMisplaced found) 10 (holderOf found) h fresh-above refl (λ z. omega arith) (ap firstRow (sym rows-are) ∙ e) in
+          let w = sym above-clear ∙ r .0 in
+          let three = and-left ((comes && sounds) && there) (not beyond) w in
+          let two = and-left (comes && sounds) there three in
+          let ok = and-right comes sounds two in
+          let here-name = and-right (comes && sounds) there three in
+          let form = target-layout c ok target name (given-name (isSnapshot target) (named (snapshotsOf all) name) here-name) in (
+            and-left comes sounds two,
+            ok,
+            here-name,
+            leb-false (activeOf all .volume) l (not-true beyond (and-right ((comes && sounds) && there) (not beyond) w)),
+            out-of-place-by c (targetOf all target name) l h form (eqb (targetOf all target name .layout) 1) refl (r .1) (r .2),
+          )
 
-    read-out-of-place : answerOf (Read target name l block) c ≡ answer 10 h → ReadMisplaced
-    unfolding answerOf rowsOf admission readRows fresh
-    read-out-of-place e =
-        let found = foundThrough c (targetOf all target name) l in
-        let r = row-is above [] (isMisplaced found) 10 (holderOf found) h refl refl (λ z. omega arith) e in
-        let w = sym above-clear ∙ r .0 in
-        let three = and-left ((comes && sounds) && there) (not beyond) w in
-        let two = and-left (comes && sounds) there three in
-        let ok = and-right comes sounds two in
-        let here-name = and-right (comes && sounds) there three in
-        let form = target-layout c ok target name (given-name (isSnapshot target) (named (snapshotsOf all) name) here-name) in (
-          and-left comes sounds two,
-          ok,
-          here-name,
-          leb-false (activeOf all .volume) l (not-true beyond (and-right ((comes && sounds) && there) (not beyond) w)),
-          out-of-place-by c (targetOf all target name) l h form (eqb (targetOf all target name .layout) 1) refl (r .1) (r .2),
-        )
+      out-of-place-target : TargetMisplaced → answerOf k c ≡ answer 10 h
+      unfolding answerOf
+      out-of-place-target s =
+          let r = found-out-of-place c (targetOf all target name) l h (s .4) in
+          let v = not-false-of beyond (lt-leb (activeOf all .volume) l (s .3)) in
+          let w = and-both ((comes && sounds) && there) (not beyond) (and-both (comes && sounds) there (and-both comes sounds (s .0) (s .1)) (s .2)) v in
+          ap firstRow rows-are ∙ is-row above [] (isMisplaced found) 10 (holderOf found) h (above-clear ∙ w) (r .0) (r .1)
 
-    out-of-place-read : ReadMisplaced → answerOf (Read target name l block) c ≡ answer 10 h
-    unfolding answerOf rowsOf admission readRows
-    out-of-place-read s =
-        let found = foundThrough c (targetOf all target name) l in
-        let r = found-out-of-place c (targetOf all target name) l h (s .4) in
-        let v = not-false-of beyond (lt-leb (activeOf all .volume) l (s .3)) in
-        let w = and-both ((comes && sounds) && there) (not beyond) (and-both (comes && sounds) there (and-both comes sounds (s .0) (s .1)) (s .2)) v in
-        is-row above [] (isMisplaced found) 10 (holderOf found) h (above-clear ∙ w) (r .0) (r .1)
+      tenExactly : (answerOf k c ≡ answer 10 h) ↔ TargetMisplaced
+      tenExactly = (target-out-of-place, out-of-place-target)
+
+  -- a read, and a visit
+  read-ten : (target : Target) (name : List ℕ) → (answerOf (Read target name l block) c ≡ answer 10 h) ↔ TargetMisplaced target name (Read target name l block)
+  unfolding rowsOf admission readRows fresh clear comesToChain
+  read-ten target name =
+      tenExactly target name (Read target name l block)
+      (areaRow c ∷ targetRow target name ∷ blockRow block ∷ chainRow c ∷ row (isSnapshot target && not (named (snapshotsOf all) name)) 7 0 ∷ volumeRow c l ∷ []) refl refl
+      (clear-read (areaBad c) (isSnapshot target) (isName name) (eqb (length block) 512) sounds (named (snapshotsOf all) name) beyond)
+
+  visit-ten : (target : Target) (name : List ℕ) → (answerOf (Visit target name l) c ≡ answer 10 h) ↔ TargetMisplaced target name (Visit target name l)
+  unfolding rowsOf admission visitRows fresh clear comesToChain
+  visit-ten target name =
+      tenExactly target name (Visit target name l)
+      (areaRow c ∷ targetRow target name ∷ chainRow c ∷ row (isSnapshot target && not (named (snapshotsOf all) name)) 7 0 ∷ volumeRow c l ∷ []) refl refl
+      (clear-visit (areaBad c) (isSnapshot target) (isName name) sounds (named (snapshotsOf all) name) beyond)
 
   -- a write
   abbrev reaches : Bool
@@ -337,6 +373,7 @@ pub place-claim : PlaceClaim
 unfolding PlaceClaim
 place-claim c =
     record {
-      read = λ target name l block h. (read-out-of-place c l block h target name, out-of-place-read c l block h target name);
+      read = λ target name l block h. read-ten c l block h target name;
+      visit = λ target name l h. visit-ten c l [] h target name;
       write = λ l block h. (write-out-of-place c l block h, out-of-place-write c l block h);
     }

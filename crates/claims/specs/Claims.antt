@@ -21,7 +21,7 @@ use Rattle.entries.specs.Naming.{Naming, namings, atFault}
 use Rattle.entries.specs.Rules.{Rules}
 use Rattle.calls.specs.declared.answer.Target.{Target}
 use Rattle.calls.specs.declared.answer.Record.{Record}
-use Rattle.calls.specs.Call.{Call, Ream, Read, Write, Snap, Revert, Listing, Check, Lent, None, Block, Records, answer, accepted, NoneGiven}
+use Rattle.calls.specs.Call.{Call, Ream, Read, Write, Snap, Revert, Listing, Check, Visit, Lent, None, Block, Records, answer, accepted, NoneGiven}
 use Rattle.calls.specs.Parts.{areaBad, descriptorsOf, snapshotsOf, withName, isSnapshot, targetOf, foundThrough}
 use Rattle.calls.specs.Check.{Passes}
 use Rattle.calls.specs.Effect.{staying}
@@ -68,6 +68,7 @@ lentAtEntry (Snap name) = None
 lentAtEntry (Revert name) = None
 lentAtEntry (Listing records) = Records records
 lentAtEntry Check = None
+lentAtEntry (Visit target name l) = None
 
 -- A refusal alters no byte of the card or of lent memory and gives nothing, and an accepted call answers 0 with place 0.
 unfoldable pub RefusalClaim : Type 0
@@ -133,8 +134,9 @@ fills (Snap name) = false
 fills (Revert name) = false
 fills (Listing records) = true
 fills Check = false
+fills (Visit target name l) = false
 
--- No call alters the card's length; a read, a listing and a check alter no byte of the card; only a read and a listing alter what is lent.
+-- No call alters the card's length; a read, a visit, a listing and a check alter no byte of the card; only a read and a listing alter what is lent.
 unfoldable pub FrameClaim : Type 0
 FrameClaim =
     (k : Call) (c : List ℕ)
@@ -160,6 +162,8 @@ pub record ByName (c v : List ℕ) : Type 0 where
   pub list : (records : List Record) → let k = Listing records in
       (step k c .card ≡ c) × (blocksNeeded k c ≡ 0) × (writtenBy k ≡ []) × (isReam k ≡ false) × (isFormat k c ≡ false) × (isSnapOf v k ≡ false)
   pub check : (step Check c .card ≡ c) × (step Check c .outcome .lent ≡ None) × (blocksNeeded Check c ≡ 0) × (writtenBy Check ≡ []) × (isReam Check ≡ false) × (isFormat Check c ≡ false) × (isSnapOf v Check ≡ false)
+  pub visit : (target : Target) (name : List ℕ) (l : ℕ) → let k = Visit target name l in
+      (step k c .card ≡ c) × (step k c .outcome .lent ≡ None) × (blocksNeeded k c ≡ 0) × (writtenBy k ≡ []) × (isReam k ≡ false) × (isFormat k c ≡ false) × (isSnapOf v k ≡ false)
 
 unfoldable pub ByNameClaim : Type 0
 ByNameClaim = (c v : List ℕ) → ByName c v
@@ -200,6 +204,7 @@ comesToChain (Snap name) c = not (areaBad c) && isName name
 comesToChain (Revert name) c = not (areaBad c) && isName name
 comesToChain (Listing records) c = not (areaBad c)
 comesToChain Check c = not (areaBad c)
+comesToChain (Visit target name l) c = not (areaBad c) && (not (isSnapshot target) || isName name)
 
 -- A sound chain is all the descriptors from block 0 on; an unsound one is so at the block of its first unsound descriptor. 6 is given exactly where a
 -- call comes to an unsound chain, with that place.
@@ -219,12 +224,16 @@ pub data NotInPlace (c : List ℕ) (d : Descriptor) (l : ℕ) : ℕ → Type 0 w
   own-table : d .layout ≡ 1 → inPlace (descriptorsOf c) d (entryAt c (d .alpha .0 + 1 + l / tableSize) (l % tableSize)) ≡ false
       → NotInPlace c d l (d .alpha .0 + 1 + l / tableSize)
 
--- 10 in reads and writes: given exactly where the call comes to a sound chain, a snapshot that is named is there, the number is below L and an entry
+-- 10 in reads, visits and writes: given exactly where the call comes to a sound chain, a snapshot that is named is there, the number is below L and an entry
 -- that is followed is not in place; the place is the block that holds it
 pub record MisplacedPlaces (c : List ℕ) : Type 0 where
   pub read : (target : Target) (name : List ℕ) (l : ℕ) (block : List ℕ) (h : ℕ)
       → (answerOf (Read target name l block) c ≡ answer 10 h)
       ↔ ((comesToChain (Read target name l block) c ≡ true) × (chainSound (chain c) ≡ true) × ((not (isSnapshot target) || named (snapshotsOf (descriptorsOf c)) name) ≡ true)
+      × (l < activeOf (descriptorsOf c) .volume) × NotInPlace c (targetOf (descriptorsOf c) target name) l h)
+  pub visit : (target : Target) (name : List ℕ) (l h : ℕ)
+      → (answerOf (Visit target name l) c ≡ answer 10 h)
+      ↔ ((comesToChain (Visit target name l) c ≡ true) × (chainSound (chain c) ≡ true) × ((not (isSnapshot target) || named (snapshotsOf (descriptorsOf c)) name) ≡ true)
       × (l < activeOf (descriptorsOf c) .volume) × NotInPlace c (targetOf (descriptorsOf c) target name) l h)
   pub write : (l : ℕ) (block : List ℕ) (h : ℕ)
       → (answerOf (Write l block) c ≡ answer 10 h)

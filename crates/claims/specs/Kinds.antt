@@ -1,7 +1,7 @@
 -- What each call is to the card, in document 01's words: the list of cases by which `isReam`, `writtenBy`, `isSnapOf`, `ledgerStep`, `blocksNeeded` and `storesNothing` go.
 use mathlib.Core.List.{List}
 use Prim.Native.Nat.{ℕ}
-use Rattle.calls.specs.Call.{Call, Ream, Read, Write, Snap, Revert, Listing, Check}
+use Rattle.calls.specs.Call.{Call, Ream, Read, Write, Snap, Revert, Listing, Check, Visit}
 use Rattle.blocks.specs.declared.descriptor.Format.{Format}
 
 -- a call formats the card, leaves it as it is, writes a block, takes a snapshot or goes back to one
@@ -20,3 +20,4 @@ kindOf (Snap name) = Snaps name
 kindOf (Revert name) = Reverts name
 kindOf (Listing records) = Leaves
 kindOf Check = Leaves
+kindOf (Visit target name l) = Leaves

@@ -12,9 +12,9 @@ use Rattle.blocks.specs.declared.descriptor.Descriptor.{Descriptor}
 use Rattle.chains.specs.Chain.{activeOf}
 use Rattle.calls.specs.declared.answer.Target.{Target}
 use Rattle.calls.specs.declared.answer.Target.the-variants.{Active, Snapshot}
-use Rattle.calls.specs.Call.{Call, Ream, Read, Write, Snap, Revert, Listing, Check}
+use Rattle.calls.specs.Call.{Call, Ream, Read, Write, Snap, Revert, Listing, Check, Visit}
 use Rattle.calls.specs.Parts.{descriptorsOf, snapshotsOf, isSnapshot, foundThrough, blockFound}
-use Rattle.calls.specs.Ladder.{Row, row, firstRow, nameRow, blockRow}
+use Rattle.calls.specs.Ladder.{Row, row, firstRow, nameRow, targetRow, blockRow}
 use Rattle.claims.specs.Kinds.{Kind, Formats, Leaves, Writes, Snaps, Reverts, kindOf}
 
 -- a named volume: the content of each of its logical blocks
@@ -60,7 +60,7 @@ ledgerStep k g = ledgerChange (kindOf k) g
 unfoldable pub ledgerRows : Call → Ledger → List Row
 ledgerRows (Ream format) g = []
 ledgerRows (Read target name l block) g =
-    row (isSnapshot target && not (isName name)) 4 0
+    targetRow target name
     ∷ blockRow block
     ∷ row (isSnapshot target && not (hasVolume (g .snapshots) name)) 7 0
     ∷ row (leb (length (g .active .cells)) l) 8 0
@@ -74,6 +74,11 @@ ledgerRows (Snap name) g =
 ledgerRows (Revert name) g = nameRow name ∷ row (not (hasVolume (g .snapshots) name)) 7 0 ∷ []
 ledgerRows (Listing records) g = row (ltb (length records) (suc (length (g .snapshots)))) 14 0 ∷ []
 ledgerRows Check g = []
+ledgerRows (Visit target name l) g =
+    targetRow target name
+    ∷ row (isSnapshot target && not (hasVolume (g .snapshots) name)) 7 0
+    ∷ row (leb (length (g .active .cells)) l) 8 0
+    ∷ []
 
 -- the number that the ledger gives a call: 0, or one of these
 unfoldable pub ledgerNumber : Call → Ledger → ℕ

@@ -5,5 +5,6 @@ pub mod History
 pub mod Ledger
 pub mod Claims
 pub mod Surviving
+pub mod Visits
 pub mod OnePass
 pub mod Bench

@@ -47,55 +47,12 @@ module _ (c starts : List ℕ) (count : ℕ) (d : Descriptor) (t : Through c sta
   pub table-ready : (l : ℕ) → l < d .volume → (512 * d .alpha .0 + 512 ≤ length c) × (l / 128 < 112) × (d .alpha .0 + 113 < 2 ^ 32)
   table-ready l h = (through-alpha, omega (arith, through-volume), omega (arith, through-alpha, t .small))
 
-  -- a table block of layout 1, and a set entry in place, are on the card
+  -- a table block of layout 1 is on the card
   pub table-inside : (l : ℕ) → l < d .volume → d .layout ≡ 1 → (m : Physical) → m ≡ physical (tableOf c d (l / 128)) → 512 * m .0 + 512 ≤ length c
   unfolding tableOf tableCount
   table-inside l h e m is =
       let q : m .0 ≡ d .alpha .0 + 1 + l / 128 = ap (λ (x : Physical). x .0) is ∙ rw (eq-eqb (d .layout) 1 e) in
       omega (arith, through-beta, through-end, cost-one d e)
-
-  pub place-inside : (m : Physical) (b : Bool) → b ≡ inPlaceAt starts (costOf d) (d .beta .0) (m .0) → b ≡ true → (m .0 ≡ 0 → ⊥) → 512 * m .0 + 512 ≤ length c
-  unfolding inPlaceAt
-  place-inside m b is e n = by (ltb (m .0) (d .beta .0)) refl
-    where
-      by : (x : Bool) → ltb (m .0) (d .beta .0) ≡ x → 512 * m .0 + 512 ≤ length c
-      by true x = omega (arith, ltb-true (m .0) (d .beta .0) x, through-end)
-      by false x =
-          let g : inPlaceAt starts (costOf d) (d .beta .0) (m .0) ≡ false = rw (ne-eqb (m .0) 0 n, x) in
-          let f : false ≡ true = sym g ∙ sym is ∙ e in
-          let y : _≡_ {A = ℕ} 0 1 = cc in absurd (omega arith)
-
-  -- an entry of a table block, by the test of the code
-  module _ (m : Physical) (j : ℕ) (p : Physical) (is : p ≡ physical (entryAt c (m .0) j)) (b : Bool) (placed : b ≡ inPlaceAt starts (costOf d) (d .beta .0) (p .0)) where
-    entry-by : (x : Bool) → b ≡ x → pick x (Entry m p) (Misplaced m) ≡ entryFound ds d (m .0) (entryAt c (m .0) j)
-    unfolding entryFound
-    entry-by x e = let q : p .0 ≡ entryAt c (m .0) j = ap (λ (y : Physical). y .0) is in rw (← q, ← (in-place-region c starts count d t (p .0)), ← placed, e)
-
-    pub entry-placed : b ≡ true → Entry m p ≡ entryFound ds d (m .0) (entryAt c (m .0) j)
-    entry-placed e = entry-by true e
-
-    pub entry-misplaced : b ≡ false → Misplaced m ≡ entryFound ds d (m .0) (entryAt c (m .0) j)
-    entry-misplaced e = entry-by false e
-
-  -- finding, by the tests of the code
-  module _ (l : ℕ) (m : Physical) (is : m ≡ physical (tableOf c d (l / 128))) where
-    pub find-layout-1 : d .layout ≡ 1 → (r : Found) → r ≡ entryFound ds d (m .0) (entryAt c (m .0) (l % 128)) → r ≡ find c ds d l
-    unfolding find
-    find-layout-1 e r f = f ∙ rw (eq-eqb (d .layout) 1 e, ap (λ (x : Physical). x .0) is)
-
-    module _ (other : d .layout ≡ 1 → ⊥) (b : Bool) (placed : b ≡ inPlaceAt starts (costOf d) (d .beta .0) (m .0)) where
-      find-rest : find c ds d l ≡ pick b (pick (eqb (m .0) 0) (Entry (physical 0) (physical 0)) (entryFound ds d (m .0) (entryAt c (m .0) (l % 128)))) (Misplaced (d .alpha))
-      unfolding find
-      find-rest = rw (placed, in-place-region c starts count d t (m .0), ne-eqb (d .layout) 1 other, ap (λ (x : Physical). x .0) is)
-
-      pub find-misplaced : not b ≡ true → Misplaced (d .alpha) ≡ find c ds d l
-      find-misplaced e = sym (find-rest ∙ rw (not-true b e))
-
-      pub find-nil : not b ≡ false → m .0 ≡ 0 → Entry (physical 0) (physical 0) ≡ find c ds d l
-      find-nil e z = sym (find-rest ∙ rw (not-false b e, z))
-
-      pub find-layout-2 : not b ≡ false → (m .0 ≡ 0 → ⊥) → (r : Found) → r ≡ entryFound ds d (m .0) (entryAt c (m .0) (l % 128)) → r ≡ find c ds d l
-      find-layout-2 e n r f = f ∙ sym (find-rest ∙ rw (not-false b e, ne-eqb (m .0) 0 n))
 
 -- an entry that was found is in place, and so on the card where it is set
 placed-by : (ds : List Descriptor) (d : Descriptor) (m q : ℕ) (m′ p : Physical) (t : Bool) → inPlace ds d q ≡ t → pick t (Entry (physical m) (physical q)) (Misplaced (physical m)) ≡ Entry m′ p → inPlace ds d (p .0) ≡ true

@@ -2,6 +2,7 @@
 pub mod InPlaceRules
 pub mod PlaceLaws
 pub mod RegionLaws
+pub mod OwnerLaws
 pub mod EntryLaws
 pub mod SetLaws
 pub mod PutLaws

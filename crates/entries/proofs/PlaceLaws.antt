@@ -1,13 +1,11 @@
--- Laws of regionOf and inPlaceAt, as the code asks them.
+-- Laws of regionOf and ownerAt, as the code asks them.
 use mathlib.Core.Path.{_≡_, sym, ap}
-use mathlib.Core.Bool.{true, false}
 use mathlib.Core.List.{List, [], _∷_}
 use Prim.Native.Nat.{ℕ, zero, suc, _+_, _≤_, _<_}
 use native.Mathlib.Omega.{arith}
 use lib.ListN.{length, getD}
-use lib.Dec.{leb}
-use borrow.Author.Tests.{ne-eqb, lt-ltb, le-ltb}
-use Rattle.entries.specs.InPlace.{regionOf, inPlaceAt}
+use borrow.Author.Tests.{ne-eqb, lt-ltb, le-ltb, le-leb, lt-leb}
+use Rattle.entries.specs.InPlace.{regionOf, inPlaceAt, ownerAt}
 use Rattle.entries.specs.Through.{RisingRegions}
 
 -- the region that starts at or below p and ends above it, where none before it does
@@ -26,16 +24,21 @@ region-found starts count low high p f l m e a b =
     let q : suc low ≡ high = omega arith in
     sym (region-is starts low p (omega (arith, f .long)) (λ j h. omega (arith, f .rise j low h (omega arith))) (rw q b))
 
--- inPlaceAt, by the tests of the code
-module _ (starts : List ℕ) (cost beta p : ℕ) where
-  pub place-nil : p ≡ 0 → true ≡ inPlaceAt starts cost beta p
-  unfolding inPlaceAt
-  place-nil e = rw e
+-- ownerAt, by the tests of the code
+module _ (starts : List ℕ) (cost beta count p : ℕ) where
+  pub owner-nil : p ≡ 0 → 0 ≡ ownerAt starts cost beta count p
+  unfolding ownerAt inPlaceAt
+  owner-nil e = rw e
 
-  pub place-past : (p ≡ 0 → ⊥) → beta ≤ p → false ≡ inPlaceAt starts cost beta p
-  unfolding inPlaceAt
-  place-past n h = rw (ne-eqb p 0 n, le-ltb p beta h)
+  pub owner-past : (p ≡ 0 → ⊥) → beta ≤ p → count ≡ ownerAt starts cost beta count p
+  unfolding ownerAt inPlaceAt
+  owner-past n h = rw (ne-eqb p 0 n, le-ltb p beta h)
 
-  pub place-region : (p ≡ 0 → ⊥) → p < beta → (k : ℕ) → k ≡ regionOf starts p → (c : ℕ) → c ≡ cost → leb (getD starts k 0 + c) p ≡ inPlaceAt starts cost beta p
-  unfolding inPlaceAt
-  place-region n h k e c f = rw (ne-eqb p 0 n, lt-ltb p beta h, ← e, ← f)
+  module _ (n : p ≡ 0 → ⊥) (h : p < beta) (k : ℕ) (is : k ≡ regionOf starts p) (c : ℕ) (costs : c ≡ cost) where
+    pub owner-opening : p < getD starts k 0 + c → count ≡ ownerAt starts cost beta count p
+    unfolding ownerAt inPlaceAt
+    owner-opening l = rw (ne-eqb p 0 n, lt-ltb p beta h, ← is, ← costs, lt-leb (getD starts k 0 + c) p l)
+
+    pub owner-found : getD starts k 0 + c ≤ p → k ≡ ownerAt starts cost beta count p
+    unfolding ownerAt inPlaceAt
+    owner-found l = rw (ne-eqb p 0 n, lt-ltb p beta h, ← is, ← costs, le-leb (getD starts k 0 + c) p l)

@@ -48,7 +48,7 @@ unfolding cost
 opening-missed d q h = missed-by (eqb (d .layout) 1) (d .alpha .0) (tableCount (d .volume)) q h
 
 -- the start of the region that contains q, in a list of starts
-unfoldable startOf : List ℕ → ℕ → ℕ
+unfoldable pub startOf : List ℕ → ℕ → ℕ
 startOf starts q = getD starts (regionOf starts q) 0
 
 start-here : (s t : ℕ) (starts : List ℕ) (q : ℕ) → q < t → startOf (s ∷ t ∷ starts) q ≡ s
@@ -90,7 +90,7 @@ module _ {c : List ℕ} where
       (rw (ne-eqb q (d .alpha .0) (omega arith)) (r .0), rw (le-ltb (d .alpha .0) q (omega arith), and-false-mid (eqb (d .layout) 1)) (r .1))
 
   -- outside every opening, in 01's words, is outside the opening of the region that contains q; what stands after the regions does not matter
-  outside : {es : List Descriptor} {p : ℕ} {ds : List Descriptor} (q : ℕ) (zs : List ℕ) → Linked c es p ds → p ≤ q → q < regionStart p ds (length ds)
+  pub outside : {es : List Descriptor} {p : ℕ} {ds : List Descriptor} (q : ℕ) (zs : List ℕ) → Linked c es p ds → p ≤ q → q < regionStart p ds (length ds)
       → not (isDescriptor ds q || isTable ds q) ≡ leb (startOf (p ∷ (ends ds ++ zs)) q + costOf (descriptorAt c 0)) q
   unfolding isDescriptor isTable ends
   outside q zs (last {es = es} {p = p} {d = d} is ok z) h l =

@@ -40,13 +40,13 @@ find c ds d l =
     (Misplaced (d .alpha)))
 
 -- the block that was found, nil where the entry is nil or not in place
-unfoldable pub blockOf : Found → ℕ
-blockOf (Misplaced h) = 0
-blockOf (Entry m p) = p .0
+unfoldable pub foundBlock : Found → ℕ
+foundBlock (Misplaced h) = 0
+foundBlock (Entry m p) = p .0
 
 -- what was found and, beside it, the descriptor whose region contains the block, by its index in the chain: 0 where there is no block
 unfoldable pub locatedIn : List Descriptor → Found → Located
-locatedIn ds found = record { found = found; owner = pick (eqb (blockOf found) 0) 0 (ownerIndex ds (blockOf found)) }
+locatedIn ds found = record { found = found; owner = pick (eqb (foundBlock found) 0) 0 (ownerIndex ds (foundBlock found)) }
 
 -- finding an entry (02, W2): "beside the block, the descriptor whose region from alpha up to beta contains it"
 unfoldable pub locate : List ℕ → List Descriptor → Descriptor → ℕ → Located

@@ -1,4 +1,4 @@
-// Finding the entry of a logical block through a descriptor.
+// Finding the entry of a logical block through a descriptor, and the region that contains the block that it names.
 use crate::place;
 use blocks::bytes;
 use blocks::descriptor::Descriptor;
@@ -8,6 +8,7 @@ use blocks::sizes::BLOCK_SIZE;
 use blocks::sizes::PHI_START;
 use blocks::sizes::TABLE_SIZE;
 use entries::find::Found;
+use entries::find::Located;
 ghost use mathlib.Core.Path.{_≡_};
 ghost use Prim.Native.Nat.{_+_, _*_, _≤_, _<_, _^_};
 ghost use lib.ListN.{length};
@@ -16,7 +17,7 @@ ghost use Rattle.blocks.specs.Bytes.{blockSize};
 ghost use Rattle.blocks.specs.Descriptor.{tableSize, phiSize, physical};
 ghost use Rattle.chains.specs.Chain.{chain, descriptors};
 ghost use Rattle.entries.specs.Through.{Through};
-ghost use Rattle.entries.specs.Entry.{tableOf, entryAt, entryFound, find as finding, tableIsNew, need as needing};
+ghost use Rattle.entries.specs.Entry.{tableOf, entryAt, entryFound, locatedIn, locate as locating, tableIsNew, needBy};
 
 // The table block of group `i` of 128 logical blocks: the i-th after the descriptor in layout 1, as Phi names it in layout 2.
 pub fn table_of(card: &[u8], d: Descriptor, i: u32) -> Physical
@@ -40,56 +41,77 @@ pub fn entry_at(card: &[u8], m: Physical, j: u32) -> Physical
     Physical(bytes::get_u32(card, at))
 }
 
-// Entry `j` of table block `m`, if it is in place.
-fn found_in(card: &[u8], starts: &[u32], count: usize, d: Descriptor, m: Physical, j: u32) -> Found
+// Entry `j` of table block `m`, if it is in place, and the region that contains what it names.
+fn locate_in(
+    card: &[u8],
+    starts: &[u32],
+    count: usize,
+    d: Descriptor,
+    m: Physical,
+    j: u32,
+) -> Located
     requires { ⌜ Through (now card) (now starts) count d × (blockSize * m .0 + blockSize ≤ length (now card)) × (j < tableSize) ⌝ }
-    ensures { λ r. ⌜ r ≡ entryFound (descriptors (chain (now (card .entry)))) d (m .0) (entryAt (now (card .entry)) (m .0) j) ⌝ }
+    ensures { λ r. ⌜ r ≡ locatedIn (descriptors (chain (now (card .entry)))) (entryFound (descriptors (chain (now (card .entry)))) d (m .0) (entryAt (now (card .entry)) (m .0) j)) ⌝ }
 {
     let p = entry_at(card, m, j);
-    if place::in_place(starts, count, d, p) {
-        return Found::Entry(m, p);
+    let owner = place::owner_of(starts, count, d, p);
+    if owner == count {
+        return Located {
+            found: Found::Misplaced(m),
+            owner: 0,
+        };
     }
-    Found::Misplaced(m)
+    Located {
+        found: Found::Entry(m, p),
+        owner,
+    }
 }
 
-// The entry of logical block `l` through the descriptor `d`.
-pub fn find(card: &[u8], starts: &[u32], count: usize, d: Descriptor, l: Logical) -> Found
+// The entry of logical block `l` through the descriptor `d` and, beside the block, the region that contains it.
+pub fn locate(card: &[u8], starts: &[u32], count: usize, d: Descriptor, l: Logical) -> Located
     requires { ⌜ Through (now card) (now starts) count d × (l .0 < d .volume) ⌝ }
-    ensures { λ r. ⌜ r ≡ finding (now (card .entry)) (descriptors (chain (now (card .entry)))) d (l .0) ⌝ }
+    ensures { λ r. ⌜ r ≡ locating (now (card .entry)) (descriptors (chain (now (card .entry)))) d (l .0) ⌝ }
 {
     let j = l.0 % TABLE_SIZE;
     let m = table_of(card, d, l.0 / TABLE_SIZE);
     if d.layout == 1 {
-        return found_in(card, starts, count, d, m, j);
+        return locate_in(card, starts, count, d, m, j);
     }
-    if !place::in_place(starts, count, d, m) {
+    let owner = place::owner_of(starts, count, d, m);
+    if owner == count {
         let alpha = d.alpha;
-        return Found::Misplaced(alpha);
+        return Located {
+            found: Found::Misplaced(alpha),
+            owner: 0,
+        };
     }
     if m.0 == 0 {
-        return Found::Entry(Physical(0), Physical(0));
+        return Located {
+            found: Found::Entry(Physical(0), Physical(0)),
+            owner: 0,
+        };
     }
-    found_in(card, starts, count, d, m, j)
+    locate_in(card, starts, count, d, m, j)
 }
 
-// The blocks that a write through what was found takes, in the region that starts at `alpha`.
-pub fn need(alpha: Physical, found: Found) -> u32
-    ensures { λ r. ⌜ r ≡ needing (alpha .0) found ⌝ }
+// The blocks that a write through what was found takes, in the region that starts at `alpha` and is number `active` of the chain.
+pub fn need(active: usize, alpha: Physical, found: Found, owner: usize) -> u32
+    ensures { λ r. ⌜ r ≡ needBy active (alpha .0) found owner ⌝ }
 {
     match found {
         Found::Misplaced(_) => 0,
-        Found::Entry(m, p) => entry_need(alpha, m, p),
+        Found::Entry(m, p) => entry_need(active, alpha, m, p, owner),
     }
 }
 
 // The same for the table block `m` and the entry `p`.
-fn entry_need(alpha: Physical, m: Physical, p: Physical) -> u32
-    ensures { λ r. ⌜ r ≡ needing (alpha .0) (Found.Entry m p) ⌝ }
+fn entry_need(active: usize, alpha: Physical, m: Physical, p: Physical, owner: usize) -> u32
+    ensures { λ r. ⌜ r ≡ needBy active (alpha .0) (Found.Entry m p) owner ⌝ }
 {
     if p.0 == 0 {
         return fresh_need(alpha, m);
     }
-    if alpha.0 <= p.0 {
+    if owner == active {
         return 0;
     }
     fresh_need(alpha, m)

@@ -1,5 +1,5 @@
-// The static library that C and Rust programs link: the seven calls and the padding of a name, on numbers and lent bytes.
-// Each call returns the number of its answer and stores the place; its contract is one equation, by the calls' `step`, the listing's by `listingOf`.
+// The static library that C and Rust programs link: the eight calls and the padding of a name, on numbers and lent bytes.
+// Each call returns the number of its answer and stores the place; its contract is one equation, by the calls' `step`, the listing's by `listingOf`. A visit stores its name too.
 use blocks::descriptor;
 use blocks::descriptor::Format;
 use blocks::numbers::Logical;
@@ -14,13 +14,15 @@ use reading::read;
 use reams::ream;
 use reverts::revert;
 use snaps::snap;
+use visiting::visit;
 use walking::chain;
 use writes::write;
 ghost use mathlib.Core.Path.{_≡_};
-ghost use Rattle.calls.specs.Call.{Ream, Read, Write, Snap, Revert, Check, None, Block, answer};
+ghost use Rattle.calls.specs.Call.{Ream, Read, Write, Snap, Revert, Check, Visit, None, Block, answer};
+ghost use Rattle.calls.specs.Effect.{visitedOf};
 ghost use Rattle.calls.specs.Step.{step};
 ghost use Rattle.blocks.specs.Descriptor.{formatOf};
-ghost use Rattle.boundary.specs.Exported.{exported, nameIn, targetIn, paddingOf};
+ghost use Rattle.boundary.specs.Exported.{exported, exportedVisit, nameIn, targetIn, paddingOf};
 ghost use Rattle.boundary.specs.RecordBytes.{listingOf};
 
 // Formats the card.
@@ -63,6 +65,26 @@ pub extern "C" fn mantreuy_read(
     let a = read::read(card, target, argument::name_in(name), Logical(block), out);
     *place = a.place;
     a.number
+}
+
+// Names the visit that a block dates from, of the active store where `snapshot` is 0, else of the snapshot that has the name: sixteen zeros for none.
+#[no_mangle]
+pub extern "C" fn mantreuy_visit(
+    card: &[u8],
+    snapshot: u32,
+    name: &[u8],
+    block: u32,
+    visit: &mut [u8; NAME_SIZE],
+    place: &mut u32,
+) -> u32
+    ensures { λ r. ⌜ exportedVisit r (now (place .exit)) (now (visit .exit)) ≡ visitedOf (step (Visit (targetIn snapshot) (nameIn (now (name .entry))) block) (now (card .entry)) .outcome) ⌝ }
+{
+    let target = argument::target_in(snapshot);
+    let v = visit::visit(card, target, argument::name_in(name), Logical(block));
+    let given = v.name;
+    *visit = given;
+    *place = v.answer.place;
+    v.answer.number
 }
 
 // Writes a block of the active store.

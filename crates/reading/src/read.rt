@@ -12,63 +12,20 @@ use calls::answer::Target;
 use entries::find::Found;
 use finding::find;
 use indexing::index;
-use names::name;
+use targets::target;
 use walking::chain;
 ghost use mathlib.Core.Path.{_≡_};
-ghost use mathlib.Core.Bool.{_&&_, not};
-ghost use Prim.Native.Nat.{ℕ, _+_, _*_, _-_, _≤_, _<_};
-ghost use lib.ListN.{length, take, getD};
+ghost use Prim.Native.Nat.{_+_, _*_, _≤_, _<_};
+ghost use lib.ListN.{length};
 ghost use lib.Dec.{eqb};
 ghost use Rattle.blocks.specs.Pick.{pick};
 ghost use Rattle.blocks.specs.Bytes.{zeroBlock, blockAt, blockSize};
-ghost use Rattle.blocks.specs.Name.{isName};
-ghost use Rattle.chains.specs.Chain.{chain as chainOf, descriptors, descriptorsAt};
+ghost use Rattle.chains.specs.Chain.{chain as chainOf, descriptors};
 ghost use Rattle.entries.specs.Through.{Through};
 ghost use Rattle.entries.specs.Entry.{find as finding};
 ghost use Rattle.calls.specs.Call.{Read, Block};
-ghost use Rattle.calls.specs.Parts.{isSnapshot, targetIndex};
 ghost use Rattle.calls.specs.Effect.{delivered};
 ghost use Rattle.calls.specs.Step.{step, done};
-
-// Whether a name is given that is none: the bytes beside the active store are not looked at.
-fn is_unnamed(target: Target, name: [u8; NAME_SIZE]) -> bool
-    ensures { λ r. ⌜ r ≡ (isSnapshot target && not (isName name)) ⌝ }
-{
-    match target {
-        Target::Active => false,
-        Target::Snapshot => !name::is_name(name),
-    }
-}
-
-// The index in the chain of what is read, `count` where no snapshot has the name.
-fn target_index(
-    card: &[u8],
-    starts: &[u32],
-    count: usize,
-    target: Target,
-    name: [u8; NAME_SIZE],
-) -> usize
-    requires { ⌜ (0 < count) × (count ≤ length (now starts)) × ((j : ℕ) → j < count → blockSize * getD (now starts) j 0 + blockSize ≤ length (now card)) ⌝ }
-    ensures { λ r. ⌜ r ≡ targetIndex (descriptorsAt (now (card .entry)) (take (count - 1) (now (starts .entry)))) target name ⌝ }
-{
-    let last = count - 1;
-    match target {
-        Target::Active => last,
-        Target::Snapshot => snapshot_index(card, starts, last, name),
-    }
-}
-
-// The index of the snapshot that has the name, `last + 1` where none has it.
-fn snapshot_index(card: &[u8], starts: &[u32], last: usize, name: [u8; NAME_SIZE]) -> usize
-    requires { ⌜ (last < length (now starts)) × ((j : ℕ) → j < last → blockSize * getD (now starts) j 0 + blockSize ≤ length (now card)) ⌝ }
-    ensures { λ r. ⌜ r ≡ targetIndex (descriptorsAt (now (card .entry)) (take last (now (starts .entry)))) Target.Snapshot name ⌝ }
-{
-    let k = index::index_of(card, starts, last, name);
-    if k == last {
-        return last + 1;
-    }
-    k
-}
 
 // The caller's block is now block `p`, or zeros where that is nil.
 fn fill_block(card: &[u8], p: Physical, out: &mut [u8])
@@ -95,7 +52,9 @@ fn deliver(
     requires { ⌜ Through (now card) (now starts) count d × (l .0 < d .volume) × (length (now out) ≡ blockSize) ⌝ }
     ensures { λ r. ⌜ record { answer = r; block = now (out .exit) } ≡ delivered (now (card .entry)) (finding (now (card .entry)) (descriptors (chainOf (now (card .entry)))) d (l .0)) (now (out .entry)) ⌝ }
 {
-    match find::find(card, starts, count, d, l) {
+    let at = find::locate(card, starts, count, d, l);
+    let found = at.found;
+    match found {
         Found::Misplaced(h) => Answer {
             number: 10,
             place: h.0,
@@ -121,7 +80,7 @@ pub fn read(
     if admitted.number != 0 {
         return admitted;
     }
-    if is_unnamed(target, name) {
+    if target::is_unnamed(target, name) {
         return answer::BAD_NAME;
     }
     if out.len() != BLOCK_SIZE {
@@ -134,7 +93,7 @@ pub fn read(
         let place = found.place.0;
         return Answer { number: 6, place };
     }
-    let k = target_index(card, &found.starts, count, target, name);
+    let k = target::target_index(card, &found.starts, count, target, name);
     if k == count {
         return answer::NO_SNAPSHOT;
     }

@@ -17,7 +17,7 @@ use Rattle.entries.specs.Naming.{Naming, tableNamings, tablesNamings, phiNaming
 use Rattle.entries.specs.declared.check.Verdict.{Verdict}
 use Rattle.entries.specs.declared.check.Verdict.the-variants.{Passed}
 use Rattle.calls.specs.declared.answer.Answer.{Answer}
-use Rattle.calls.specs.Call.{Call, Ream, Read, Write, Snap, Revert, Listing, Check}
+use Rattle.calls.specs.Call.{Call, Ream, Read, Write, Snap, Revert, Listing, Check, Visit}
 use Rattle.calls.specs.Parts.{descriptorsOf}
 use Rattle.calls.specs.Check.{orElse, checkAll, checkCard, isFault, faultHolder}
 use Rattle.calls.specs.Ladder.{row, firstRow, admission, chainRow, checkRows}
@@ -134,6 +134,7 @@ resultBy c s (Write l block) = (shownBy (answerOf (Write l block) c) c (Write l 
 resultBy c s (Snap name) = (shownBy (answerOf (Snap name) c) c (Snap name) s, refl)
 resultBy c s (Revert name) = (shownBy (answerOf (Revert name) c) c (Revert name) s, refl)
 resultBy c s (Listing records) = (shownBy (answerOf (Listing records) c) c (Listing records) s, refl)
+resultBy c s (Visit target name l) = (shownBy (answerOf (Visit target name l) c) c (Visit target name l) s, refl)
 resultBy c s Check = (shownBy (answerOnce c) c Check s, ap (λ (a : Answer). shownBy a c Check s) (answer-once c))
 
 -- what a row gives, computed so; it is what `computed` gives

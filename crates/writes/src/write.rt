@@ -11,29 +11,30 @@ use finding::find;
 use placing::put;
 use walking::chain;
 ghost use mathlib.Core.Path.{_≡_};
+ghost use Rattle.entries.specs.Entry.{need};
 ghost use Rattle.entries.specs.Through.{WriteReady};
 ghost use Rattle.calls.specs.Call.{Write, Block};
 ghost use Rattle.calls.specs.Effect.{written};
 ghost use Rattle.calls.specs.Step.{step, done};
 
-// Writes the block through the entry `p` of table block `m`, if there is room.
+// Writes the block through the entry `p` of table block `m`, if there is room for the blocks that it takes.
 fn write_found(
     card: &mut [u8],
     d: Descriptor,
     m: Physical,
     p: Physical,
     l: Logical,
+    taken: u32,
     block: &[u8],
 ) -> Answer
-    requires { ⌜ WriteReady (now card) d (m .0) (p .0) (l .0) (now block) ⌝ }
+    requires { ⌜ WriteReady (now card) d (m .0) (p .0) (l .0) (now block) × (taken ≡ need (d .alpha .0) (Found.Entry m p)) ⌝ }
     ensures { λ r. ⌜ record { answer = r; card = now (card .exit) } ≡ written (now (card .entry)) d (Found.Entry m p) (l .0) (now (block .entry)) ⌝ }
 {
-    let need = find::need(d.alpha, Found::Entry(m, p));
     let beta = d.beta.0;
-    if card.len() / BLOCK_SIZE < (beta as usize) + (need as usize) {
+    if card.len() / BLOCK_SIZE < (beta as usize) + (taken as usize) {
         return answer::NO_ROOM;
     }
-    put::put_block(card, d, m, p, l, need, block);
+    put::put_block(card, d, m, p, l, taken, block);
     answer::ACCEPTED
 }
 
@@ -58,11 +59,14 @@ pub fn write(card: &mut [u8], l: Logical, block: &[u8]) -> Answer
     if d.volume <= l.0 {
         return answer::PAST_THE_VOLUME;
     }
-    match find::find(card, &found.starts, count, d, l) {
+    let at = find::locate(card, &found.starts, count, d, l);
+    let entry = at.found;
+    let taken = find::need(count - 1, d.alpha, entry, at.owner);
+    match entry {
         Found::Misplaced(h) => Answer {
             number: 10,
             place: h.0,
         },
-        Found::Entry(m, p) => write_found(card, d, m, p, l, block),
+        Found::Entry(m, p) => write_found(card, d, m, p, l, taken, block),
     }
 }

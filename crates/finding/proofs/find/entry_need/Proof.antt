@@ -1,6 +1,6 @@
 -- `entry_need` meets its contract, by its tests.
 use Rattle.blocks.proofs.Tests.{tests}
-use Rattle.entries.specs.Entry.{need}
+use Rattle.entries.specs.Entry.{needBy}
 use borrow.Author.Needs.{needs}
 use Rattle.finding.proofs.find.entry_need.Statement.{statement}
 use Rattle.finding.proofs.find.entry_need.Tie as tie
@@ -9,18 +9,18 @@ fresh-need-requires : tie.Need-fresh-need-requires
 fresh-need-requires c κs = search needs
 
 returns : tie.Need-returns
-unfolding need
+unfolding needBy
 returns c = search (tests, ← (c .fresh-need .ensures))
 
 returns-2 : tie.Need-returns-2
-unfolding need
+unfolding needBy
 returns-2 c = search tests
 
 fresh-need-requires-2 : tie.Need-fresh-need-requires-2
 fresh-need-requires-2 c κs = search needs
 
 returns-3 : tie.Need-returns-3
-unfolding need
+unfolding needBy
 returns-3 c = search (tests, ← (c .fresh-need2 .ensures))
 
 pub entry-need-spec : {M : Type 1} → statement M

@@ -1,5 +1,5 @@
 -- `need` meets its contract, case by case.
-use Rattle.entries.specs.Entry.{need}
+use Rattle.entries.specs.Entry.{needBy}
 use borrow.Author.Needs.{needs}
 use Rattle.finding.proofs.find.need.Statement.{statement}
 use Rattle.finding.proofs.find.need.Tie as tie
@@ -14,7 +14,7 @@ entry-need-requires : tie.Need-entry-need-requires
 entry-need-requires c κs = search needs
 
 returns : tie.Need-returns
-unfolding need
+unfolding needBy
 returns c = cc
 
 returns-2 : tie.Need-returns-2

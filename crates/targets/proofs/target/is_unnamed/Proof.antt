@@ -1,7 +1,7 @@
 -- `is_unnamed` meets its contract, case by case.
 use borrow.Author.Needs.{needs}
-use Rattle.reading.proofs.read.is_unnamed.Statement.{statement}
-use Rattle.reading.proofs.read.is_unnamed.Tie as tie
+use Rattle.targets.proofs.target.is_unnamed.Statement.{statement}
+use Rattle.targets.proofs.target.is_unnamed.Tie as tie
 
 enum-told : tie.Need-enum-told
 enum-told c = search needs

@@ -5,8 +5,8 @@ use native.Mathlib.Omega.{arith}
 use borrow.Author.Needs.{needs}
 use Rattle.chains.proofs.NamedLaws.{descriptors-counted}
 use Rattle.calls.proofs.ReadLaws.{index-active}
-use Rattle.reading.proofs.read.target_index.Statement.{statement}
-use Rattle.reading.proofs.read.target_index.Tie as tie
+use Rattle.targets.proofs.target.target_index.Statement.{statement}
+use Rattle.targets.proofs.target.target_index.Tie as tie
 
 sub-last : tie.Need-sub-last
 sub-last c = search needs

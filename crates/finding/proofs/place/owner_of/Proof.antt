@@ -1,15 +1,15 @@
--- `in_place` meets its contract, by its tests.
+-- `owner_of` meets its contract, by its tests.
 use native.Mathlib.Omega.{arith}
-use Rattle.entries.proofs.PlaceLaws.{place-nil, place-past, place-region}
+use Rattle.entries.proofs.PlaceLaws.{owner-nil, owner-past, owner-opening, owner-found}
 use borrow.Author.Needs.{needs}
-use Rattle.finding.proofs.place.in_place.Statement.{statement}
-use Rattle.finding.proofs.place.in_place.Tie as tie
+use Rattle.finding.proofs.place.owner_of.Statement.{statement}
+use Rattle.finding.proofs.place.owner_of.Tie as tie
 
 returns : tie.Need-returns
-returns c = search place-nil
+returns c = search owner-nil
 
 returns-2 : tie.Need-returns-2
-returns-2 c = search place-past
+returns-2 c = search owner-past
 
 region-of-requires : tie.Need-region-of-requires
 region-of-requires c κs = search needs
@@ -29,19 +29,20 @@ opening-cost-requires c κs = search needs
 cast-cost : tie.Need-cast-cost
 cast-cost c = search needs
 
-add-result : tie.Need-add-result
-add-result c = omega (arith, c .before .shared-slice-known2 .given (c .before .before .region-of .result))
+cast-if3 : tie.Need-cast-if3
+cast-if3 c = search needs
 
-cast-result : tie.Need-cast-result
-cast-result c = search needs
+add-if3 : tie.Need-add-if3
+add-if3 c = omega (arith, c .before .shared-slice-known2 .given (c .before .before .region-of .result))
 
 returns-3 : tie.Need-returns-3
-returns-3 c =
-    let k = c .before .before in
-    place-region _ _ _ _ (k .before .before .before .if1 .left) (k .before .if2 .left) _ (k .region-of .ensures .0) _ (c .opening-cost .ensures)
+returns-3 c = search owner-opening
 
-pub in-place-spec : {M : Type 1} → statement M
-in-place-spec =
+returns-4 : tie.Need-returns-4
+returns-4 c = search owner-found
+
+pub owner-of-spec : {M : Type 1} → statement M
+owner-of-spec =
     tie.close
     (tie.spec
     returns
@@ -52,6 +53,7 @@ in-place-spec =
     cast-start
     opening-cost-requires
     cast-cost
-    add-result
-    cast-result
-    returns-3)
+    cast-if3
+    add-if3
+    returns-3
+    returns-4)

@@ -3,8 +3,8 @@ use native.Mathlib.Omega.{arith}
 use borrow.Author.Needs.{needs}
 use Rattle.chains.proofs.NamedLaws.{descriptors-counted}
 use Rattle.calls.proofs.ReadLaws.{index-none, index-some}
-use Rattle.reading.proofs.read.snapshot_index.Statement.{statement}
-use Rattle.reading.proofs.read.snapshot_index.Tie as tie
+use Rattle.targets.proofs.target.snapshot_index.Statement.{statement}
+use Rattle.targets.proofs.target.snapshot_index.Tie as tie
 
 index-of-requires : tie.Need-index-of-requires
 index-of-requires c κs = search needs
