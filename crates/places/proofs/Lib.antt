@@ -3,3 +3,4 @@ pub mod OwnerLaws
 pub mod PlacedForget
 pub mod PlacedLaws
 pub mod PlacedNeed
+pub mod PlacedWrite
