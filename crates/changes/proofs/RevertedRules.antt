@@ -68,7 +68,7 @@ module _ (c name : List ℕ) (pass : Passes c) (e : RevertPassed c name) (zero :
   long : length c ≡ length t
   long = same-long c name e
 
-  pub kept : (q : ℕ) → (a ≡ q → ⊥) → blockAt t q ≡ blockAt c q
+  kept : (q : ℕ) → (a ≡ q → ⊥) → blockAt t q ≡ blockAt c q
   kept q h = stored-other (length c) c refl (whole c name e) q (rw (stores-are c name e zero) (one-stored a (descriptorBlock made (tailAt c a)) q h))
 
   -- blocks in place are no descriptors

@@ -99,7 +99,7 @@ module _ (c name : List ℕ) (pass : Passes c) (e : SnapPassed c name) where
   pub new-phi : (i : ℕ) → i < 112 → phiAt t opened i ≡ phiAt c act i
   new-phi = phi-stored c t opened act base-inside (omega (arith, long, top-inside)) (new-block c name e) (new-fits c name e)
 
-  pub kept : (q : ℕ) → (base ≡ q → ⊥) → q < top → blockAt t q ≡ blockAt c q
+  kept : (q : ℕ) → (base ≡ q → ⊥) → q < top → blockAt t q ≡ blockAt c q
   kept q n h =
       stored-other (length c) c refl (whole c name e) q
       (rw (are, stored-join copies pair q, copies-stored c (base + 1) (top + 1) (costOf act - 1) q (omega (arith, h)))

@@ -4,3 +4,4 @@ pub mod PlacedForget
 pub mod PlacedLaws
 pub mod PlacedNeed
 pub mod PlacedWrite
+pub mod PlacedSnap

@@ -2,19 +2,21 @@
 use mathlib.Core.Path.{_≡_, refl, sym, ap, _∙_, subst}
 use mathlib.Core.Bool.{Bool, true, false, _||_}
 use mathlib.Core.List.{List, [], _∷_, _++_}
-use Prim.Native.Nat.{ℕ, zero, suc, _+_, _-_, _/_, _≤_, _<_}
+use Prim.Native.Nat.{ℕ, zero, suc, _+_, _*_, _-_, _≤_, _<_}
 use native.Mathlib.Omega.{arith}
 use lib.ListN.{length, take, getD, set, replicate, length-append}
 use lib.Seq.{getD-append-seam}
 use lib.Dec.{eqb}
 use borrow.Author.Tests.{eqb-true, eqb-false, ne-eqb}
 use Rattle.blocks.specs.Pick.{pick, same}
-use Rattle.blocks.specs.Bytes.{blockCount, blockAt}
+use Rattle.blocks.specs.Bytes.{Store, blockCount, blockAt, storeAll}
 use Rattle.blocks.specs.Descriptor.{tableCount, costOf, noDescriptor, descriptorAt, revisionOf}
 use Rattle.blocks.specs.declared.descriptor.Descriptor.{Descriptor}
+use Rattle.blocks.proofs.StoreLists.{Whole, isStored, stored-length, stored-other}
 use Rattle.chains.specs.Chain.{Sound, chain, activeOf, indexOf}
 use Rattle.links.proofs.ChainLaws.{region-layout}
-use Rattle.links.proofs.LinkedLaws.{RegionAt, regionStart, active-at, at-alpha, at-cost, linked-rise}
+use Rattle.links.proofs.LinkedLaws.{RegionAt, regionStart, active-at, at-alpha}
+use Rattle.links.proofs.SharedLaws.{Below}
 use Rattle.entries.specs.InPlace.{inPlace, ownerIndex}
 use Rattle.entries.specs.Entry.{phiAt, tableOf, find}
 use Rattle.entries.specs.Rules.{entryOf, Rules}
@@ -184,6 +186,17 @@ module _ (c : List ℕ) (ds : List Descriptor) (sound-c : chain c ≡ Sound ds) 
 
   pub cost-one-for-all : costOf (getD ds k noDescriptor) ≡ costOf (activeOf ds)
   cost-one-for-all = rw (layout-one, volume-at c ds sound-c k in-chain)
+
+-- that of the active one
+pub active-region : (c : List ℕ) (ds : List Descriptor) → chain c ≡ Sound ds → Region (activeOf ds) (activeOf ds .beta .0)
+active-region c ds sound-c =
+    let some = chain-some c ds sound-c in
+    subst (λ (d : Descriptor). Region d (activeOf ds .beta .0)) (sym (active-at ds some)) (region-below c ds sound-c (length ds - 1) (omega (arith, some)))
+
+-- stores that leave every block below b
+pub below-stored : (c : List ℕ) (ss : List Store) (b : ℕ) → Whole (length c) ss → 0 < b → 512 * b ≤ length c → ((q : ℕ) → q < b → isStored ss q ≡ false) → Below c (storeAll c ss) b
+below-stored c ss b whole some inside none =
+    record { long = sym (stored-length (length c) c refl whole); some = some; inside = inside; blocks = λ q h. sym (stored-other (length c) c refl whole q (none q h)) }
 
 -- two chains of which the second begins as the first up to a region that starts alike and ends no earlier: the owners of the blocks below its end are the same
 pub same-owners : (c : List ℕ) (ds es xs : List Descriptor) (x y : Descriptor) (ys zs : List Descriptor) → chain c ≡ Sound ds → ds ≡ xs ++ (x ∷ ys) → es ≡ xs ++ (y ∷ zs) → y .alpha ≡ x .alpha → x .beta .0 ≤ y .beta .0

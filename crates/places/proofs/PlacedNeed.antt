@@ -25,10 +25,10 @@ use Rattle.entries.proofs.TableLaws.{group-below}
 use Rattle.entries.proofs.LocalLaws.{Region}
 use Rattle.calls.specs.Parts.{descriptorsOf, snapshotsOf, foundThrough, isMisplaced}
 use Rattle.calls.proofs.CardLaws.{chain-is}
-use Rattle.calls.proofs.ActiveLaws.{chain-some, active-last, region-below}
+use Rattle.calls.proofs.ActiveLaws.{chain-some, active-last}
 use Rattle.claims.specs.History.{Position, Nowhere, At}
 use Rattle.places.specs.Placed.{Cell, Nil, Held, homeOf, isAt, placedNeed, valuesFrom, placeOf, cellFound, tablePlace, cellPlace, placedVolume, placedVolumes, placedOf, PlacedNeedClaim}
-use Rattle.places.proofs.PlacedLaws.{values-first, placed-length, owner-at, owner-below}
+use Rattle.places.proofs.PlacedLaws.{values-first, placed-length, owner-at, owner-below, active-region}
 
 module _ (c : List ℕ) (sound : chainSound (chain c) ≡ true) where
   abbrev ds : List Descriptor
@@ -55,7 +55,7 @@ module _ (c : List ℕ) (sound : chainSound (chain c) ≡ true) where
   in-chain = omega (arith, count)
 
   region : Region d (d .beta .0)
-  region = subst (λ (x : Descriptor). Region x (d .beta .0)) active-is (region-below c ds sound-c t in-chain)
+  region = active-region c ds sound-c
 
   -- a block of the active region, or of an earlier one
   own-by : (q : ℕ) (b : Bool) → leb (d .alpha .0) q ≡ b → q < d .beta .0 → eqb (ownerIndex ds q) t ≡ b

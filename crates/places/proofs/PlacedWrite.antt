@@ -29,7 +29,7 @@ use Rattle.calls.specs.Check.{Passes}
 use Rattle.calls.specs.Effect.{writeStores}
 use Rattle.calls.proofs.Passed.{WritePassed}
 use Rattle.calls.proofs.CardLaws.{chain-is, snapshots-snoc}
-use Rattle.calls.proofs.ActiveLaws.{chain-some, region-at, active-last, active-form, active-rise, region-below}
+use Rattle.calls.proofs.ActiveLaws.{chain-some, region-at, active-last, active-form, active-rise}
 use Rattle.changes.proofs.WholeLaws.{write-whole}
 use Rattle.changes.proofs.WrittenChain.{written-chain, written-revision}
 use Rattle.changes.proofs.WrittenRules.{snapshot-region, write-below, snapshot-rules}
@@ -38,7 +38,7 @@ use Rattle.changes.proofs.WritePasses.{write-facts, write-places, passes-write}
 use Rattle.claims.specs.History.{Position, At}
 use Rattle.claims.specs.Kinds.{Writes}
 use Rattle.places.specs.Placed.{Cell, Nil, Held, PlacedVolume, Placed, placedNeed, placedWrite, placedChange, placeOf, tablePlace, cellFound, cellPlace, valuesFrom, placedVolume, placedVolumes, placedOf, PlacedNeedClaim}
-use Rattle.places.proofs.PlacedLaws.{values-set, placed-length, volumes-same, placed-parts, volume-parts, place-set, cellNamed, cell-rules, table-under, owner-at, same-owners, table-kept, cell-kept, volume-kept}
+use Rattle.places.proofs.PlacedLaws.{values-set, placed-length, volumes-same, placed-parts, volume-parts, place-set, cellNamed, cell-rules, table-under, owner-at, active-region, same-owners, table-kept, cell-kept, volume-kept}
 use Rattle.places.proofs.PlacedNeed.{placed-need-claim}
 
 module _ (c : List ℕ) (passes : Passes c) (l : ℕ) (block : List ℕ) (ok : WritePassed c l block) where
@@ -124,9 +124,7 @@ module _ (c : List ℕ) (passes : Passes c) (l : ℕ) (block : List ℕ) (ok : W
   layout-is = form-layout c _ d (active-form c ds sound-c)
 
   region : Region d (d .beta .0)
-  region =
-      let some = chain-some c ds sound-c in
-      subst (λ (y : Descriptor). Region y (d .beta .0)) (sym (active-at ds some)) (region-below c ds sound-c (length ds - 1) (omega (arith, some)))
+  region = active-region c ds sound-c
 
   in-es : length xs < length es
   in-es = omega (arith, length-append xs (x ∷ []))
