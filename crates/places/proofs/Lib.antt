@@ -5,3 +5,4 @@ pub mod PlacedLaws
 pub mod PlacedNeed
 pub mod PlacedWrite
 pub mod PlacedSnap
+pub mod PlacedRevert

@@ -103,11 +103,17 @@ unfolding placedVolumes
 volumes-same c t [] h = refl
 volumes-same c t (d ∷ ds) h = rw (h 0 (omega arith), volumes-same c t ds (λ k a. h (suc k) (omega arith)))
 
--- a card's Placed by N, the revision, the snapshots and the active descriptor of its chain
-pub placed-parts : (t : List ℕ) (n r : ℕ) (ss : List Descriptor) (y : Descriptor) → blockCount t ≡ n → revisionOf t ≡ r → snapshotsOf (descriptorsOf t) ≡ ss → activeOf (descriptorsOf t) ≡ y
-    → placedOf t ≡ record { blocks = n; cost = costOf y; layout = y .layout; revision = r; snapshots = placedVolumes t ss; active = placedVolume t y }
+-- a card's Placed by N, the revision, and the snapshots and the active descriptor of its chain
+pub placed-parts : (t : List ℕ) {n k q r : ℕ} {ss : List Descriptor} {y : Descriptor} {vs : List PlacedVolume} {v : PlacedVolume} → blockCount t ≡ n → revisionOf t ≡ r
+    → snapshotsOf (descriptorsOf t) ≡ ss → activeOf (descriptorsOf t) ≡ y → costOf y ≡ k → y .layout ≡ q → placedVolumes t ss ≡ vs → placedVolume t y ≡ v
+    → placedOf t ≡ record { blocks = n; cost = k; layout = q; revision = r; snapshots = vs; active = v }
 unfolding placedOf
-placed-parts t n r ss y m q a b = rw (m, q, a, b)
+placed-parts t blocks revision snapshots active cost layout volumes volume =
+    rw (blocks, revision, snapshots, active) (placed-equal cost layout volumes volume)
+  where
+    placed-equal : {n k k′ q q′ r : ℕ} {vs vs′ : List PlacedVolume} {v v′ : PlacedVolume} → k ≡ k′ → q ≡ q′ → vs ≡ vs′ → v ≡ v′
+        → _≡_ {A = Placed} (record { blocks = n; cost = k; layout = q; revision = r; snapshots = vs; active = v }) (record { blocks = n; cost = k′; layout = q′; revision = r; snapshots = vs′; active = v′ })
+    placed-equal a b c d = rw (a, b, c, d)
 
 -- a volume by L, its tables and its cells
 pub volume-parts : (t : List ℕ) (e : Descriptor) (n : ℕ) (ts : List Position) (cs : List Cell) → e .volume ≡ n → valuesFrom (tablePlace t e) (tableCount n) 0 ≡ ts → valuesFrom (cellPlace t e) n 0 ≡ cs

@@ -133,5 +133,5 @@ module _ (c name : List ℕ) (pass : Passes c) (e : SnapPassed c name) where
   pub placed-snap : placedOf (storeAll c (snapStores c name)) ≡ placedChange (Snaps name) (placedOf c)
   unfolding placedChange placedOf
   placed-snap =
-      placed-parts t (blockCount c) (revisionOf c) (snaps ++ (old ∷ [])) new blocks-after (snapped-revision c name e) (ap snapshotsOf after-snoc ∙ snapshots-snoc (snaps ++ (old ∷ [])) new) (ap activeOf after-snoc ∙ active-snoc (snaps ++ (old ∷ [])) new)
-      ∙ rw (volumes-after, volume-new, placed-length c snaps)
+      placed-parts t blocks-after (snapped-revision c name e) (ap snapshotsOf after-snoc ∙ snapshots-snoc (snaps ++ (old ∷ [])) new) (ap activeOf after-snoc ∙ active-snoc (snaps ++ (old ∷ [])) new) refl refl volumes-after
+      (volume-new ∙ ap (λ (k : ℕ). placedOpening (placedOf c) (placedVolume c act) (suc k)) (sym (placed-length c snaps)))

@@ -201,8 +201,7 @@ module _ (c : List ℕ) (passes : Passes c) (l : ℕ) (block : List ℕ) (ok : W
   written-placed : placedOf t ≡ placedChange (Writes l block) (placedOf c)
   unfolding placedChange placedOf
   written-placed =
-      placed-parts t (blockCount c) (revisionOf c) xs x blocks-after (written-revision c l block ok) (ap snapshotsOf after ∙ snapshots-snoc xs x) (ap activeOf after ∙ active-snoc xs x)
-      ∙ rw (snapshots-after, active-after)
+      placed-parts t blocks-after (written-revision c l block ok) (ap snapshotsOf after ∙ snapshots-snoc xs x) (ap activeOf after ∙ active-snoc xs x) refl refl snapshots-after active-after
 
 pub placed-write : (c : List ℕ) (l : ℕ) (block : List ℕ) → Passes c → WritePassed c l block → placedOf (storeAll c (writeStores c l block)) ≡ placedChange (Writes l block) (placedOf c)
 placed-write c l block p ok = written-placed c p l block ok
