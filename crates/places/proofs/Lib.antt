@@ -6,3 +6,5 @@ pub mod PlacedNeed
 pub mod PlacedWrite
 pub mod PlacedSnap
 pub mod PlacedRevert
+pub mod PlacedFormat
+pub mod PlacedAnswers
