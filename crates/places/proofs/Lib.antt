@@ -8,3 +8,4 @@ pub mod PlacedSnap
 pub mod PlacedRevert
 pub mod PlacedFormat
 pub mod PlacedAnswers
+pub mod PlacedRun
