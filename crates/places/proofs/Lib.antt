@@ -9,3 +9,4 @@ pub mod PlacedRevert
 pub mod PlacedFormat
 pub mod PlacedAnswers
 pub mod PlacedRun
+pub mod PlacedWell
