@@ -3,6 +3,7 @@ pub mod OwnerLaws
 pub mod PlacedForget
 pub mod PlacedLaws
 pub mod PlacedNeed
+pub mod PlacedOrigin
 pub mod PlacedWrite
 pub mod PlacedSnap
 pub mod PlacedRevert

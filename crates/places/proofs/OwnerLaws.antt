@@ -1,13 +1,14 @@
 -- The region that contains a block: by where the regions of a sound chain start and end, and the same in two chains that begin alike.
-use mathlib.Core.Path.{_≡_, refl, sym, ap, _∙_}
+use mathlib.Core.Path.{_≡_, refl, ap}
 use mathlib.Core.Bool.{Bool, true, false, _&&_}
 use mathlib.Core.List.{List, [], _∷_, _++_}
 use Prim.Native.Nat.{ℕ, zero, suc, _≤_, _<_}
 use native.Mathlib.Omega.{arith}
-use lib.ListN.{length}
+use lib.ListN.{length, getD}
 use lib.Dec.{ltb, leb}
 use borrow.Author.Tests.{lt-ltb, le-ltb, le-leb, leb-true, ltb-true, ltb-false}
 use Rattle.blocks.specs.Pick.{pick}
+use Rattle.blocks.specs.Descriptor.{noDescriptor}
 use Rattle.blocks.specs.declared.numbers.Physical.{Physical}
 use Rattle.blocks.specs.declared.descriptor.Descriptor.{Descriptor}
 use Rattle.blocks.proofs.Tests.{and-left, and-right}
@@ -15,7 +16,7 @@ use Rattle.links.proofs.LinkedLaws.{Linked, last, more, regionStart, region-sta
 use Rattle.entries.specs.InPlace.{contains, ownerIndex}
 
 -- a block of a region, and one past its end
-pub contains-in : (d : Descriptor) (q : ℕ) → d .alpha .0 ≤ q → q < d .beta .0 → contains d q ≡ true
+contains-in : (d : Descriptor) (q : ℕ) → d .alpha .0 ≤ q → q < d .beta .0 → contains d q ≡ true
 unfolding contains
 contains-in d q a b = rw (le-leb (d .alpha .0) q a, lt-ltb q (d .beta .0) b)
 
@@ -27,13 +28,24 @@ contains-past d q h = and-false (leb (d .alpha .0) q) (ltb q (d .beta .0)) (le-l
     and-false true y e = e
     and-false false y e = refl
 
-contains-from : (d : Descriptor) (q : ℕ) → contains d q ≡ true → d .alpha .0 ≤ q
+pub contains-from : (d : Descriptor) (q : ℕ) → contains d q ≡ true → d .alpha .0 ≤ q
 unfolding contains
 contains-from d q h = leb-true (d .alpha .0) q (and-left (leb (d .alpha .0) q) (ltb q (d .beta .0)) h)
 
 pub contains-until : (d : Descriptor) (q : ℕ) → contains d q ≡ true → q < d .beta .0
 unfolding contains
 contains-until d q h = ltb-true q (d .beta .0) (and-right (leb (d .alpha .0) q) (ltb q (d .beta .0)) h)
+
+-- the region that is found contains the block
+owner-by : (d : Descriptor) (ds : List Descriptor) (q n : ℕ) (s : Bool) → contains d q ≡ s → pick s 0 (suc n) < suc (length ds) → (n < length ds → contains (getD ds n noDescriptor) q ≡ true)
+    → contains (getD (d ∷ ds) (pick s 0 (suc n)) noDescriptor) q ≡ true
+owner-by d ds q n true e h later = e
+owner-by d ds q n false e h later = later (omega arith)
+
+pub owner-contains : (ds : List Descriptor) (q : ℕ) → ownerIndex ds q < length ds → contains (getD ds (ownerIndex ds q) noDescriptor) q ≡ true
+unfolding ownerIndex
+owner-contains [] q h = absurd (omega arith)
+owner-contains (d ∷ ds) q h = owner-by d ds q (ownerIndex ds q) (contains d q) refl h (owner-contains ds q)
 
 before-by : (d : Descriptor) (ds : List Descriptor) (n q : ℕ) (s : Bool) → ltb q (d .beta .0) ≡ s → d .alpha .0 ≤ q → (d .beta .0 ≤ q → ownerIndex ds q < n) → pick (contains d q) 0 (suc (ownerIndex ds q)) < suc n
 before-by d ds n q true e a later = rw (contains-in d q a (ltb-true q (d .beta .0) e)) (omega arith)

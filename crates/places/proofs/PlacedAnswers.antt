@@ -2,7 +2,7 @@
 use mathlib.Core.Path.{_≡_, refl, sym, ap, _∙_}
 use mathlib.Core.Bool.{Bool, true, false, not, _&&_}
 use mathlib.Core.List.{List, [], _∷_, _++_, append-nil}
-use Prim.Native.Nat.{ℕ, _+_, _<_}
+use Prim.Native.Nat.{ℕ, _+_}
 use native.Mathlib.Omega.{arith}
 use lib.ListN.{length}
 use lib.Dec.{eqb, ltb, leb}
@@ -16,7 +16,7 @@ use Rattle.blocks.proofs.BoolLaws.{no}
 use Rattle.chains.specs.Chain.{chain, activeOf}
 use Rattle.calls.specs.declared.answer.Answer.{Answer}
 use Rattle.calls.specs.Call.{Call, Ream, Read, Write, Snap, Revert, Listing, Check, answer, accepted}
-use Rattle.calls.specs.Parts.{descriptorsOf, foundThrough, isMisplaced}
+use Rattle.calls.specs.Parts.{descriptorsOf}
 use Rattle.calls.specs.Check.{Passes}
 use Rattle.calls.specs.Ladder.{Row, row, firstRow, admission, reamRows}
 use Rattle.calls.specs.Meaning.{rowsOf, answerOf}
@@ -29,7 +29,7 @@ use Rattle.claims.specs.Claims.{blocksNeeded}
 use Rattle.claims.proofs.LedgerFacts.{active-found}
 use Rattle.claims.proofs.LedgerLaws.{cells-length}
 use Rattle.claims.proofs.Owed.{owed}
-use Rattle.places.specs.Placed.{Placed, forget, placedNeed, placeRows, placedRows, placedAnswer, placedVolume, placedOf, PlacedNeedClaim, ForgetClaim}
+use Rattle.places.specs.Placed.{forget, placedNeed, placeRows, placedRows, placedAnswer, placedVolume, placedOf, PlacedNeedClaim, ForgetClaim}
 use Rattle.places.proofs.PlacedForget.{forget-claim}
 use Rattle.places.proofs.PlacedNeed.{placed-need-claim}
 

@@ -1,5 +1,5 @@
 -- A card's Placed without its places is its ledger, and so it is after its own step.
-use mathlib.Core.Path.{_≡_, refl, sym, ap, _∙_}
+use mathlib.Core.Path.{_≡_, refl, sym, ap}
 use mathlib.Core.Bool.{Bool, true, false}
 use mathlib.Core.List.{List, [], _∷_, _++_}
 use Prim.Native.Nat.{ℕ, zero, suc}
@@ -8,7 +8,6 @@ use lib.Dec.{eqb}
 use Rattle.blocks.specs.Pick.{pick, same}
 use Rattle.blocks.specs.Bytes.{blockAt, zeroBlock}
 use Rattle.blocks.specs.declared.descriptor.Descriptor.{Descriptor}
-use Rattle.blocks.specs.declared.descriptor.Format.{Format}
 use Rattle.blocks.proofs.BoolLaws.{no}
 use Rattle.chains.specs.Chain.{activeOf}
 use Rattle.entries.specs.declared.find.Found.{Found}
@@ -17,7 +16,7 @@ use Rattle.calls.specs.Parts.{descriptorsOf, snapshotsOf, foundThrough, blockFo
 use Rattle.calls.specs.Effect.{staying}
 use Rattle.claims.specs.Kinds.{Kind, Formats, Leaves, Writes, Snaps, Reverts}
 use Rattle.claims.specs.History.{formats}
-use Rattle.claims.specs.Ledger.{Volume, Ledger, volumeNamed, volumesKept, cellsFrom, volumeOf, volumesOf, ledgerOf, ledgerChange}
+use Rattle.claims.specs.Ledger.{Volume, volumeNamed, volumesKept, cellsFrom, volumeOf, volumesOf, ledgerOf, ledgerChange}
 use Rattle.places.specs.Placed.{Cell, Nil, Held, PlacedVolume, Placed, contentOf, contentsOf, forgetVolume, forgetVolumes, forget, volumeIndex, noPlaces, namedVolume, placedWrite, placedOpening, placedActive, placedChange, valuesFrom, cellFound, cellPlace, placedVolume, placedVolumes, placedOf, ForgetClaim, ForgetStepClaim}
 
 -- of a card

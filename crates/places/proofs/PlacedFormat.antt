@@ -2,25 +2,24 @@
 use mathlib.Core.Path.{_≡_, refl, sym, ap, _∙_}
 use mathlib.Core.Bool.{Bool, true, false}
 use mathlib.Core.List.{List, [], _∷_}
-use Prim.Native.Nat.{ℕ, zero, suc, _+_, _<_}
+use Prim.Native.Nat.{ℕ, _<_}
 use native.Mathlib.Omega.{arith}
 use lib.ListN.{length, replicate, length-replicate}
 use lib.Dec.{eqb}
 use borrow.Author.Tests.{eqb-true}
 use Rattle.blocks.specs.Pick.{pick}
 use Rattle.blocks.specs.Bytes.{blockCount}
-use Rattle.blocks.specs.Descriptor.{tableCount, costIn, firstOf}
+use Rattle.blocks.specs.Descriptor.{tableCount, firstOf}
 use Rattle.blocks.specs.declared.descriptor.Descriptor.{Descriptor}
 use Rattle.blocks.specs.declared.descriptor.Format.{Format}
 use Rattle.blocks.proofs.DescriptorLaws.{cost-one}
 use Rattle.chains.specs.Chain.{activeOf}
-use Rattle.entries.specs.InPlace.{ownerIndex}
 use Rattle.entries.specs.Entry.{tableOf, find}
 use Rattle.entries.proofs.TableLaws.{table-own, under}
 use Rattle.calls.specs.Parts.{descriptorsOf, snapshotsOf}
-use Rattle.claims.specs.History.{Position, Nowhere, At, formattable, formatted}
+use Rattle.claims.specs.History.{Nowhere, At, formattable, formatted}
 use Rattle.claims.proofs.Format.{format-layout, formatted-count, formatted-revision, formatted-chain, formatted-descriptors, tables-few, two-table, entries-nil, formatted-rules}
-use Rattle.places.specs.Placed.{Cell, Nil, PlacedVolume, Placed, opened, firstPlaced, placeOf, cellFound, tablePlace, cellPlace, valuesFrom, placedVolume, placedVolumes, placedOf, FirstPlacedClaim}
+use Rattle.places.specs.Placed.{Nil, opened, firstPlaced, placeOf, cellFound, tablePlace, cellPlace, valuesFrom, placedVolumes, placedOf, FirstPlacedClaim}
 use Rattle.places.proofs.PlacedLaws.{cellNamed, cell-rules, values-one, volume-parts, placed-parts, place-set, owner-at}
 
 module _ (area : List ℕ) (format : Format) (ok : formattable area format ≡ true) where

@@ -1,5 +1,6 @@
 -- The parts of a card's Placed: lists of values, the volumes of descriptors, the place of a table block and the cell of an entry; and the same volume on two cards.
 use mathlib.Core.Path.{_≡_, refl, sym, ap, _∙_, subst}
+use mathlib.Core.Logic.{_↔_}
 use mathlib.Core.Bool.{Bool, true, false, _||_}
 use mathlib.Core.List.{List, [], _∷_, _++_}
 use Prim.Native.Nat.{ℕ, zero, suc, _+_, _*_, _-_, _≤_, _<_}
@@ -13,11 +14,11 @@ use Rattle.blocks.specs.Bytes.{Store, blockCount, blockAt, storeAll}
 use Rattle.blocks.specs.Descriptor.{tableCount, costOf, noDescriptor, descriptorAt, revisionOf}
 use Rattle.blocks.specs.declared.descriptor.Descriptor.{Descriptor}
 use Rattle.blocks.proofs.StoreLists.{Whole, isStored, stored-length, stored-other}
-use Rattle.chains.specs.Chain.{Sound, chain, activeOf, indexOf}
+use Rattle.chains.specs.Chain.{Sound, chain, descriptors, activeOf, indexOf}
 use Rattle.links.proofs.ChainLaws.{region-layout}
 use Rattle.links.proofs.LinkedLaws.{RegionAt, regionStart, active-at, at-alpha}
 use Rattle.links.proofs.SharedLaws.{Below}
-use Rattle.entries.specs.InPlace.{inPlace, ownerIndex}
+use Rattle.entries.specs.InPlace.{inPlace, contains, ownerIndex}
 use Rattle.entries.specs.Entry.{phiAt, tableOf, find}
 use Rattle.entries.specs.Rules.{entryOf, Rules}
 use Rattle.entries.proofs.EntryLaws.{placed-below}
@@ -25,10 +26,10 @@ use Rattle.entries.proofs.FoundLaws.{rules-find}
 use Rattle.entries.proofs.LocalLaws.{Region}
 use Rattle.entries.proofs.TableLaws.{table-own, table-phi, layout-two}
 use Rattle.calls.specs.Parts.{descriptorsOf, snapshotsOf}
-use Rattle.calls.proofs.ActiveLaws.{chain-starts, chain-some, region-at, region-below, volume-at}
+use Rattle.calls.proofs.ActiveLaws.{chain-starts, chain-some, region-at, region-below, volume-at, active-last}
 use Rattle.claims.specs.History.{Position, Nowhere, At}
-use Rattle.places.specs.Placed.{Cell, Nil, Held, PlacedVolume, Placed, volumeIndex, noPlaces, opened, placeOf, cellFound, tablePlace, cellPlace, valuesFrom, placedVolume, placedVolumes, placedOf}
-use Rattle.places.proofs.OwnerLaws.{owner-is, owner-before, owner-front}
+use Rattle.places.specs.Placed.{Cell, Nil, Held, PlacedVolume, Placed, homeOf, volumeIndex, noPlaces, volumesIn, opened, placeOf, cellFound, tablePlace, cellPlace, valuesFrom, placedVolume, placedVolumes, placedOf}
+use Rattle.places.proofs.OwnerLaws.{contains-from, contains-until, owner-contains, owner-is, owner-before, owner-front}
 
 -- lists of values
 values-at : {A : Type 0} (f : ℕ → A) (n i j : ℕ) (z : A) → j < n → getD (valuesFrom f n i) j z ≡ f (i + j)
@@ -45,7 +46,7 @@ unfolding valuesFrom
 values-length f zero i = refl
 values-length f (suc n) i = ap suc (values-length f n (suc i))
 
-pub values-same : {A : Type 0} (f g : ℕ → A) (n i : ℕ) → ((j : ℕ) → i ≤ j → j < i + n → g j ≡ f j) → valuesFrom g n i ≡ valuesFrom f n i
+values-same : {A : Type 0} (f g : ℕ → A) (n i : ℕ) → ((j : ℕ) → i ≤ j → j < i + n → g j ≡ f j) → valuesFrom g n i ≡ valuesFrom f n i
 unfolding valuesFrom
 values-same f g zero i h = refl
 values-same f g (suc n) i h = rw (h i (omega arith) (omega arith), values-same f g n (suc i) (λ j a b. h j (omega arith) (omega arith)))
@@ -147,6 +148,11 @@ cell-by r s a b false h = let e = h refl in ap (λ (x : ℕ). Held x a) (e .0) �
 cell-same : (c t : List ℕ) (ds es : List Descriptor) (q : ℕ) → ((q ≡ 0 → ⊥) → (ownerIndex es q ≡ ownerIndex ds q) × (blockAt t q ≡ blockAt c q)) → cellNamed t es q ≡ cellNamed c ds q
 cell-same c t ds es q h = cell-by _ _ _ _ (eqb q 0) (λ e. h (eqb-false q 0 e))
 
+pub home-by : (r : ℕ) (b : List ℕ) (z : Bool) → homeOf (pick z Nil (Held r b)) ≡ pick z Nowhere (At r)
+unfolding homeOf
+home-by r b true = refl
+home-by r b false = refl
+
 -- what is found through a descriptor that keeps the rules is the cell of its entry
 pub cell-rules : (c : List ℕ) (ds : List Descriptor) (d : Descriptor) → (eqb (d .layout) 1 || eqb (d .layout) 2) ≡ true → Rules c ds d → (l : ℕ) → l < d .volume
     → cellFound c ds (find c ds d l) ≡ cellNamed c ds (entryOf c d l)
@@ -177,6 +183,13 @@ module _ (c : List ℕ) (ds : List Descriptor) (sound-c : chain c ≡ Sound ds) 
   pub owner-at : (q : ℕ) → getD ds k noDescriptor .alpha .0 ≤ q → q < getD ds k noDescriptor .beta .0 → ownerIndex ds q ≡ k
   owner-at q a b = owner-is q (chain-starts c ds sound-c) k in-chain (omega (arith, a, at-alpha c _ _ _ at)) (omega (arith, b, at .beta))
 
+  -- a block is in region k exactly where that contains it
+  pub owner-exact : (q : ℕ) → (ownerIndex ds q ≡ k) ↔ (contains (getD ds k noDescriptor) q ≡ true)
+  owner-exact q = (
+    λ e. subst (λ (n : ℕ). contains (getD ds n noDescriptor) q ≡ true) e (owner-contains ds q (omega (arith, e, in-chain))),
+    λ e. owner-at q (contains-from (getD ds k noDescriptor) q e) (contains-until (getD ds k noDescriptor) q e),
+  )
+
   pub owner-upto : (q : ℕ) → q < getD ds k noDescriptor .beta .0 → ownerIndex ds q ≤ k
   owner-upto q b = omega (arith, owner-before q (chain-starts c ds sound-c) (suc k) in-chain (omega arith) (omega (arith, b, at .beta)))
 
@@ -203,6 +216,12 @@ active-region c ds sound-c =
 pub below-stored : (c : List ℕ) (ss : List Store) (b : ℕ) → Whole (length c) ss → 0 < b → 512 * b ≤ length c → ((q : ℕ) → q < b → isStored ss q ≡ false) → Below c (storeAll c ss) b
 below-stored c ss b whole some inside none =
     record { long = sym (stored-length (length c) c refl whole); some = some; inside = inside; blocks = λ q h. sym (stored-other (length c) c refl whole q (none q h)) }
+
+-- the volumes are those of the descriptors
+pub volumes-are : (c : List ℕ) (ds : List Descriptor) → chain c ≡ Sound ds → volumesIn (placedOf c) ≡ placedVolumes c ds
+unfolding placedOf placedVolumes descriptors
+volumes-are c ds sound-c =
+    rw (ap descriptors sound-c) (sym (volumes-append c (snapshotsOf ds) (activeOf ds ∷ [])) ∙ ap (placedVolumes c) (sym (active-last c ds sound-c)))
 
 -- two chains of which the second begins as the first up to a region that starts alike and ends no earlier: the owners of the blocks below its end are the same
 pub same-owners : (c : List ℕ) (ds es xs : List Descriptor) (x y : Descriptor) (ys zs : List Descriptor) → chain c ≡ Sound ds → ds ≡ xs ++ (x ∷ ys) → es ≡ xs ++ (y ∷ zs) → y .alpha ≡ x .alpha → x .beta .0 ≤ y .beta .0

@@ -1,8 +1,8 @@
 -- The need by places is that of the card.
-use mathlib.Core.Path.{_≡_, refl, sym, ap, _∙_, subst}
+use mathlib.Core.Path.{_≡_, refl, sym, ap, _∙_}
 use mathlib.Core.Bool.{Bool, true, false, not, _&&_, _||_}
-use mathlib.Core.List.{List, [], _∷_, _++_}
-use Prim.Native.Nat.{ℕ, suc, _+_, _-_, _/_, _<_}
+use mathlib.Core.List.{List, [], _∷_}
+use Prim.Native.Nat.{ℕ, suc, _-_, _/_, _<_}
 use native.Mathlib.Omega.{arith}
 use lib.ListN.{length, getD, length-append}
 use lib.Dec.{eqb, ltb, leb}
@@ -15,8 +15,8 @@ use Rattle.blocks.specs.declared.descriptor.Descriptor.{Descriptor}
 use Rattle.blocks.proofs.BoolLaws.{no}
 use Rattle.chains.specs.Chain.{Sound, chain, chainSound, activeOf}
 use Rattle.links.proofs.LinkedLaws.{active-at}
-use Rattle.entries.specs.InPlace.{inPlace, ownerIndex}
-use Rattle.entries.specs.Entry.{tableOf, find, tableIsNew, need}
+use Rattle.entries.specs.InPlace.{ownerIndex}
+use Rattle.entries.specs.Entry.{tableOf, tableIsNew, need}
 use Rattle.entries.specs.declared.find.Found.{Found}
 use Rattle.entries.specs.declared.find.Found.the-variants.{Misplaced, Entry}
 use Rattle.entries.proofs.EntryLaws.{placed-below, find-placed}
@@ -26,8 +26,8 @@ use Rattle.entries.proofs.LocalLaws.{Region}
 use Rattle.calls.specs.Parts.{descriptorsOf, snapshotsOf, foundThrough, isMisplaced}
 use Rattle.calls.proofs.CardLaws.{chain-is}
 use Rattle.calls.proofs.ActiveLaws.{chain-some, active-last}
-use Rattle.claims.specs.History.{Position, Nowhere, At}
-use Rattle.places.specs.Placed.{Cell, Nil, Held, homeOf, isAt, placedNeed, valuesFrom, placeOf, cellFound, tablePlace, cellPlace, placedVolume, placedVolumes, placedOf, PlacedNeedClaim}
+use Rattle.claims.specs.History.{Nowhere, At}
+use Rattle.places.specs.Placed.{Nil, Held, homeOf, isAt, placedNeed, placeOf, cellFound, tablePlace, cellPlace, placedVolume, placedOf, PlacedNeedClaim}
 use Rattle.places.proofs.PlacedLaws.{values-first, placed-length, owner-at, owner-below, active-region}
 
 module _ (c : List ℕ) (sound : chainSound (chain c) ≡ true) where

@@ -2,12 +2,11 @@
 use mathlib.Core.Path.{_≡_, refl, sym, ap, _∙_, subst}
 use mathlib.Core.Bool.{Bool, true, false, _||_}
 use mathlib.Core.List.{List, [], _∷_, _++_}
-use Prim.Native.Nat.{ℕ, suc, _+_, _*_, _/_, _≤_, _<_}
+use Prim.Native.Nat.{ℕ, suc, _+_, _/_, _≤_, _<_}
 use native.Mathlib.Omega.{arith}
 use lib.ListN.{length, getD, take, length-append, List·getD-append}
 use lib.Seq.{length-take-le, take-suc, append-snoc, getD-append-add, getD-append-seam}
 use lib.Dec.{eqb}
-use Rattle.blocks.specs.Pick.{pick}
 use Rattle.blocks.specs.Bytes.{blockCount, storeAll}
 use Rattle.blocks.specs.Descriptor.{noDescriptor, costOf, revisionOf, reopenedOf}
 use Rattle.blocks.specs.declared.descriptor.Descriptor.{Descriptor}
@@ -35,7 +34,7 @@ use Rattle.changes.proofs.RevertedChain.{revert-split, visit-below, reverted-0,
 use Rattle.changes.proofs.RevertedRules.{blocks-kept, first-is, first-kept, last-kept, old-phi}
 use Rattle.changes.proofs.ReopenedRules.{below-kept, upto-visit, upto-kept, first-in, new-phi, new-kept}
 use Rattle.claims.specs.Kinds.{Reverts}
-use Rattle.places.specs.Placed.{PlacedVolume, Placed, volumeIndex, noPlaces, namedVolume, opened, placedOpening, placedActive, placedChange, placedVolume, placedVolumes, placedOf}
+use Rattle.places.specs.Placed.{PlacedVolume, volumeIndex, noPlaces, namedVolume, opened, placedOpening, placedActive, placedChange, placedVolume, placedVolumes, placedOf}
 use Rattle.places.proofs.PlacedLaws.{volumes-same, volumes-take, volumes-get, volume-index, placed-parts, table-as, layout-one, cost-one-for-all, below-stored, same-owners, volume-kept, volume-opened}
 
 module _ (c name : List ℕ) (p : Passes c) (acc : RevertPassed c name) where

@@ -8,13 +8,12 @@ use Rattle.blocks.specs.Pick.{pick}
 use Rattle.blocks.specs.Bytes.{blockCount, storeAll}
 use Rattle.blocks.specs.declared.descriptor.Format.{Format}
 use Rattle.blocks.proofs.BoolLaws.{no}
-use Rattle.calls.specs.declared.answer.Answer.{Answer}
 use Rattle.calls.specs.Call.{Call, Ream, Read, Write, Snap, Revert, Listing, Check}
 use Rattle.calls.specs.Check.{Passes}
 use Rattle.calls.specs.Meaning.{answerOf}
 use Rattle.calls.specs.Step.{step, after, isAccepted}
-use Rattle.claims.specs.Kinds.{Kind, kindOf}
-use Rattle.claims.specs.History.{formats, isReam, isFormat, formattable, formatted}
+use Rattle.claims.specs.Kinds.{Kind}
+use Rattle.claims.specs.History.{formats, isReam, isFormat, formatted}
 use Rattle.claims.specs.Claims.{ReamClaim}
 use Rattle.claims.proofs.Changes.{storesBy, Allowed, to-format, to-leave, to-write, to-snap, to-revert}
 use Rattle.claims.proofs.Format.{formatted-passes}

@@ -1,14 +1,12 @@
 -- The Placed of the card after a snap is its own step.
 use mathlib.Core.Path.{_≡_, refl, sym, ap, _∙_, subst}
-use mathlib.Core.Bool.{true, false, _||_}
 use mathlib.Core.List.{List, [], _∷_, _++_, append-assoc}
-use Prim.Native.Nat.{ℕ, suc, _+_, _*_, _-_, _/_, _≤_, _<_}
+use Prim.Native.Nat.{ℕ, suc, _+_, _-_, _/_, _<_}
 use native.Mathlib.Omega.{arith}
 use lib.ListN.{length, getD, length-append}
-use lib.Seq.{getD-append-seam, getD-append-add}
-use lib.Dec.{eqb}
-use Rattle.blocks.specs.Bytes.{blockCount, blockAt, storeAll}
-use Rattle.blocks.specs.Descriptor.{noDescriptor, costOf, revisionOf, tableCount, renamedOf, linkedOf, reopenedOf}
+use lib.Seq.{getD-append-add}
+use Rattle.blocks.specs.Bytes.{blockCount, storeAll}
+use Rattle.blocks.specs.Descriptor.{noDescriptor, renamedOf, linkedOf, reopenedOf}
 use Rattle.blocks.specs.declared.descriptor.Descriptor.{Descriptor}
 use Rattle.blocks.proofs.StoreLists.{stored-length}
 use Rattle.chains.specs.Chain.{Sound, activeOf, chain}
@@ -16,7 +14,7 @@ use Rattle.links.proofs.SoundLaws.{form-layout}
 use Rattle.links.proofs.ChainLaws.{active-snoc, descriptors-are}
 use Rattle.links.proofs.SharedLaws.{Below}
 use Rattle.entries.specs.InPlace.{ownerIndex}
-use Rattle.entries.specs.Entry.{phiAt, tableOf}
+use Rattle.entries.specs.Entry.{phiAt}
 use Rattle.entries.proofs.LocalLaws.{Region, local-table}
 use Rattle.calls.specs.Parts.{descriptorsOf, snapshotsOf}
 use Rattle.calls.specs.Check.{Passes}
@@ -28,7 +26,7 @@ use Rattle.changes.proofs.WholeLaws.{snap-whole}
 use Rattle.changes.proofs.SnappedChain.{snapped-chain, snapped-revision, snap-above}
 use Rattle.changes.proofs.SnappedRules.{counted, act-rules, act-layout, blocks-kept, old-phi, new-phi, old-kept, new-kept, first-is, first-kept}
 use Rattle.claims.specs.Kinds.{Snaps}
-use Rattle.places.specs.Placed.{PlacedVolume, Placed, namedVolume, opened as openedTables, placedOpening, placedChange, placedVolume, placedVolumes, placedOf}
+use Rattle.places.specs.Placed.{PlacedVolume, namedVolume, placedOpening, placedChange, placedVolume, placedVolumes, placedOf}
 use Rattle.places.proofs.PlacedLaws.{placed-length, volumes-same, volumes-append, placed-parts, table-as, active-region, below-stored, same-owners, volume-kept, volume-opened}
 
 module _ (c name : List ℕ) (pass : Passes c) (e : SnapPassed c name) where

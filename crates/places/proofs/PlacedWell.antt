@@ -1,15 +1,15 @@
 -- What is true of the Placed of every card that passes.
 use mathlib.Core.Path.{_≡_, refl, sym, ap, _∙_, subst}
 use mathlib.Core.Bool.{Bool, true, false, _||_}
-use mathlib.Core.List.{List, [], _∷_, _++_}
-use Prim.Native.Nat.{ℕ, suc, _+_, _/_, _%_, _≤_, _<_}
+use mathlib.Core.List.{List}
+use Prim.Native.Nat.{ℕ, suc, _/_, _%_, _≤_, _<_}
 use native.Mathlib.Omega.{arith}
 use lib.ListN.{length, getD}
-use lib.Dec.{eqb, leb}
-use borrow.Author.Tests.{ne-eqb, eqb-false, leb-true, leb-false}
+use lib.Dec.{eqb}
+use borrow.Author.Tests.{ne-eqb, eqb-false}
 use Rattle.blocks.specs.Pick.{pick}
 use Rattle.blocks.specs.Bytes.{blockAt}
-use Rattle.blocks.specs.Descriptor.{tableCount, costOf, noDescriptor}
+use Rattle.blocks.specs.Descriptor.{tableCount, noDescriptor}
 use Rattle.blocks.specs.declared.descriptor.Descriptor.{Descriptor}
 use Rattle.chains.specs.Chain.{Sound, chain, activeOf}
 use Rattle.links.proofs.SoundLaws.{form-layout}
@@ -20,13 +20,14 @@ use Rattle.entries.specs.Rules.{entryOf, Rules}
 use Rattle.entries.proofs.EntryLaws.{placed-below}
 use Rattle.entries.proofs.LocalLaws.{Region}
 use Rattle.entries.proofs.TableLaws.{table-own, layout-two, group-below}
-use Rattle.calls.specs.Parts.{descriptorsOf, snapshotsOf}
+use Rattle.calls.specs.Parts.{descriptorsOf}
 use Rattle.calls.specs.Check.{Passes}
 use Rattle.calls.proofs.CardLaws.{chain-is}
-use Rattle.calls.proofs.ActiveLaws.{chain-some, region-at, region-below, active-last}
-use Rattle.claims.specs.History.{Position, Nowhere, At}
-use Rattle.places.specs.Placed.{Cell, Nil, Held, PlacedVolume, Placed, homeOf, volumesIn, noPlaces, placeOf, cellFound, tablePlace, cellPlace, valuesFrom, placedVolume, placedVolumes, placedOf, WellPlaced, WellPlacedClaim}
-use Rattle.places.proofs.PlacedLaws.{values-first, values-length, placed-length, volumes-append, volumes-get, cell-rules, table-under, owner-at, owner-upto, owner-below, cost-one-for-all}
+use Rattle.calls.proofs.ActiveLaws.{region-at, region-below}
+use Rattle.claims.specs.History.{Nowhere, At}
+use Rattle.places.specs.Placed.{Nil, PlacedVolume, homeOf, volumesIn, noPlaces, placeOf, tablePlace, cellPlace, placedVolume, placedOf, WellPlaced, WellPlacedClaim}
+use Rattle.places.proofs.OwnerLaws.{contains-from}
+use Rattle.places.proofs.PlacedLaws.{values-first, values-length, placed-length, volumes-are, volumes-get, home-by, cell-rules, table-under, owner-at, owner-upto, owner-exact, cost-one-for-all}
 
 -- a place that is set
 at-is : (i j : ℕ) → At i ≡ At j → i ≡ j
@@ -39,11 +40,6 @@ place-is : (r i : ℕ) (z : Bool) → pick z Nowhere (At r) ≡ At i → (z ≡ 
 place-is r i true e = absurd (nowhere-not i e)
 place-is r i false e = (refl, at-is r i e)
 
-home-by : (r : ℕ) (b : List ℕ) (z : Bool) → homeOf (pick z Nil (Held r b)) ≡ pick z Nowhere (At r)
-unfolding homeOf
-home-by r b true = refl
-home-by r b false = refl
-
 module _ (c : List ℕ) (p : Passes c) where
   abbrev ds : List Descriptor
   ds = descriptorsOf c
@@ -51,16 +47,11 @@ module _ (c : List ℕ) (p : Passes c) where
   sound-c : chain c ≡ Sound ds
   sound-c = chain-is (chain c) (p .sound)
 
-  -- the volumes are those of the descriptors
-  volumes-are : volumesIn (placedOf c) ≡ placedVolumes c ds
-  unfolding placedOf placedVolumes
-  volumes-are = sym (volumes-append c (snapshotsOf ds) (activeOf ds ∷ [])) ∙ ap (placedVolumes c) (sym (active-last c ds sound-c))
-
   count-in : length (volumesIn (placedOf c)) ≡ length ds
-  count-in = ap length volumes-are ∙ placed-length c ds
+  count-in = ap length (volumes-are c ds sound-c) ∙ placed-length c ds
 
   volume-at : (j : ℕ) → j < length ds → getD (volumesIn (placedOf c)) j noPlaces ≡ placedVolume c (getD ds j noDescriptor)
-  volume-at j g = ap (λ (vs : List PlacedVolume). getD vs j noPlaces) volumes-are ∙ volumes-get c ds j g
+  volume-at j g = ap (λ (vs : List PlacedVolume). getD vs j noPlaces) (volumes-are c ds sound-c) ∙ volumes-get c ds j g
 
   module _ (k : ℕ) (h : k < length ds) where
     abbrev d : Descriptor
@@ -82,9 +73,8 @@ module _ (c : List ℕ) (p : Passes c) where
     layout = form-layout c _ d (r .form)
 
     -- a block that region k contains is at or above its alpha
-    above-by : (q : ℕ) → ownerIndex ds q ≡ k → (b : Bool) → leb (d .alpha .0) q ≡ b → d .alpha .0 ≤ q
-    above-by q e true g = leb-true (d .alpha .0) q g
-    above-by q e false g = absurd (omega (arith, e, owner-below c ds sound-c k h q (leb-false (d .alpha .0) q g)))
+    above : (q : ℕ) → ownerIndex ds q ≡ k → d .alpha .0 ≤ q
+    above q e = contains-from d q (owner-exact c ds sound-c k h q .0 e)
 
     -- tables and cells by their blocks
     long-cells : length (v .cells) ≡ d .volume
@@ -131,7 +121,7 @@ module _ (c : List ℕ) (p : Passes c) where
     own-table l b e =
         let s = cell-set l k b e in
         let q = tableOf c d (l / 128) in
-        let a = table-from l b (s .0) (above-by (entryOf c d l) (s .1) (leb (d .alpha .0) (entryOf c d l)) refl) (eqb (d .layout) 1) refl in
+        let a = table-from l b (s .0) (above (entryOf c d l) (s .1)) (eqb (d .layout) 1) refl in
         table-set l b (s .0) ∙ ap At (owner-at c ds sound-c k h q a (table-until (l / 128) (group-below l (d .volume) b) (some-table l (s .0))))
 
     well : WellPlaced (placedOf c) k v

@@ -2,22 +2,22 @@
 use mathlib.Core.Path.{_≡_, refl, sym, ap, _∙_, subst}
 use mathlib.Core.Bool.{Bool, true, false, _||_}
 use mathlib.Core.List.{List, [], _∷_, _++_}
-use Prim.Native.Nat.{ℕ, suc, _+_, _-_, _/_, _%_, _≤_, _<_}
+use Prim.Native.Nat.{ℕ, _+_, _-_, _/_, _%_, _≤_, _<_}
 use native.Mathlib.Omega.{arith}
 use lib.ListN.{length, getD, set, length-append, List·getD-append}
 use lib.Seq.{getD-append-seam}
 use lib.Dec.{eqb}
 use borrow.Author.Tests.{ne-eqb}
 use Rattle.blocks.specs.Pick.{pick}
-use Rattle.blocks.specs.Bytes.{blockCount, blockAt, storeAll}
-use Rattle.blocks.specs.Descriptor.{noDescriptor, tableCount, costOf, revisionOf, extendedOf}
+use Rattle.blocks.specs.Bytes.{blockCount, storeAll}
+use Rattle.blocks.specs.Descriptor.{noDescriptor, tableCount, extendedOf}
 use Rattle.blocks.specs.declared.descriptor.Descriptor.{Descriptor}
 use Rattle.blocks.proofs.StoreLists.{stored-length}
 use Rattle.chains.specs.Chain.{Sound, activeOf, chain}
 use Rattle.links.proofs.SoundLaws.{form-layout}
 use Rattle.links.proofs.ChainLaws.{active-snoc, descriptors-are}
 use Rattle.links.proofs.LinkedLaws.{active-at}
-use Rattle.entries.specs.InPlace.{inPlace, ownerIndex}
+use Rattle.entries.specs.InPlace.{ownerIndex}
 use Rattle.entries.specs.Entry.{tableOf, find, need, entryAt}
 use Rattle.entries.specs.Rules.{entryOf, Rules}
 use Rattle.entries.proofs.EntryLaws.{placed-below}
@@ -34,10 +34,10 @@ use Rattle.changes.proofs.WholeLaws.{write-whole}
 use Rattle.changes.proofs.WrittenChain.{written-chain, written-revision}
 use Rattle.changes.proofs.WrittenRules.{snapshot-region, write-below, snapshot-rules}
 use Rattle.changes.proofs.WriteFacts.{WriteFacts, WritePlaces}
-use Rattle.changes.proofs.WritePasses.{write-facts, write-places, passes-write}
-use Rattle.claims.specs.History.{Position, At}
+use Rattle.changes.proofs.WritePasses.{write-facts, write-places}
+use Rattle.claims.specs.History.{At}
 use Rattle.claims.specs.Kinds.{Writes}
-use Rattle.places.specs.Placed.{Cell, Nil, Held, PlacedVolume, Placed, placedNeed, placedWrite, placedChange, placeOf, tablePlace, cellFound, cellPlace, valuesFrom, placedVolume, placedVolumes, placedOf, PlacedNeedClaim}
+use Rattle.places.specs.Placed.{Held, placedNeed, placedWrite, placedChange, placeOf, tablePlace, cellFound, cellPlace, valuesFrom, placedVolume, placedVolumes, placedOf, PlacedNeedClaim}
 use Rattle.places.proofs.PlacedLaws.{values-set, placed-length, volumes-same, placed-parts, volume-parts, place-set, cellNamed, cell-rules, table-under, owner-at, active-region, same-owners, table-kept, cell-kept, volume-kept}
 use Rattle.places.proofs.PlacedNeed.{placed-need-claim}
 

@@ -1,7 +1,7 @@
 -- Where the content of a card that passes check stands: its volumes as the ledger has them, and for each cell and each table the region that holds it. A region
 -- is named by its index in the chain. Nothing above `A card's` knows bytes of a card, alpha, or the number of a block; beta and N are counts.
 use mathlib.Core.Path.{_≡_}
-use mathlib.Core.Bool.{Bool, true, false, not, _||_}
+use mathlib.Core.Bool.{Bool, true, false, not, _&&_, _||_}
 use mathlib.Core.List.{List, [], _∷_, _++_}
 use Prim.Native.Nat.{ℕ, zero, suc, _+_, _/_, _<_, _≤_}
 use lib.ListN.{length, take, getD, set, replicate}
@@ -12,16 +12,16 @@ use Rattle.blocks.specs.Name.{noName}
 use Rattle.blocks.specs.Descriptor.{tableSize, mostVolume, tableCount, costOf, costIn, revisionOf, revisionOk}
 use Rattle.blocks.specs.declared.descriptor.Descriptor.{Descriptor}
 use Rattle.blocks.specs.declared.descriptor.Format.{Format}
-use Rattle.chains.specs.Chain.{mostDescriptors, chain, chainSound, activeOf}
-use Rattle.entries.specs.InPlace.{ownerIndex}
-use Rattle.entries.specs.Entry.{tableOf, need}
+use Rattle.chains.specs.Chain.{mostDescriptors, chain, chainSound, named, activeOf}
+use Rattle.entries.specs.InPlace.{ownerIndex, ownerOf}
+use Rattle.entries.specs.Entry.{tableOf, blockOf, need}
 use Rattle.entries.specs.declared.find.Found.{Found}
 use Rattle.entries.specs.declared.find.Found.the-variants.{Misplaced, Entry}
 use Rattle.calls.specs.declared.answer.Answer.{Answer}
 use Rattle.calls.specs.declared.answer.Target.{Target}
 use Rattle.calls.specs.declared.answer.Target.the-variants.{Active, Snapshot}
 use Rattle.calls.specs.Call.{Call, Check}
-use Rattle.calls.specs.Parts.{descriptorsOf, snapshotsOf, foundThrough, isMisplaced}
+use Rattle.calls.specs.Parts.{descriptorsOf, snapshotsOf, isSnapshot, targetOf, foundThrough, isMisplaced}
 use Rattle.calls.specs.Check.{Passes}
 use Rattle.calls.specs.Ladder.{Row, row, firstRow, nameRow}
 use Rattle.calls.specs.Effect.{staying}
@@ -274,6 +274,17 @@ PlacedNeedClaim =
     → let d = activeOf (descriptorsOf c) in
     let found = foundThrough c d l in
     l < d .volume → isMisplaced found ≡ false → placedNeed (placedOf c) l ≡ need (d .alpha .0) found
+
+-- Wherever the chain is sound: the origin of what a read gives is the region that contains the block found, none where there is none, and the name of it is
+-- that of the descriptor.
+unfoldable pub OriginClaim : Type 0
+OriginClaim =
+    (c : List ℕ) (target : Target) (name : List ℕ) (l : ℕ) → chainSound (chain c) ≡ true
+    → let ds = descriptorsOf c in
+    (isSnapshot target && not (named (snapshotsOf ds) name)) ≡ false → l < activeOf ds .volume
+    → let b = blockOf (foundThrough c (targetOf ds target name) l) in
+    let origin = originOf (placedOf c) target name l in
+    (origin ≡ pick (eqb b 0) Nowhere (At (ownerIndex ds b))) × (nameAt (placedOf c) origin ≡ pick (eqb b 0) noName (ownerOf ds b .name))
 
 -- On a card that passes it gives every answer, number and place, and is carried by its own step; formats included.
 unfoldable pub PlacedClaim : Type 0
