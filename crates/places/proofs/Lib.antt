@@ -1,4 +1,5 @@
 -- The theorems about Placed, and the laws that they rest on.
+pub mod CallKinds
 pub mod OwnerLaws
 pub mod PlacedForget
 pub mod PlacedLaws

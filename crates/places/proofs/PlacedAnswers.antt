@@ -15,21 +15,22 @@ use Rattle.blocks.specs.declared.descriptor.Format.{Format}
 use Rattle.blocks.proofs.BoolLaws.{no}
 use Rattle.chains.specs.Chain.{chain, activeOf}
 use Rattle.calls.specs.declared.answer.Answer.{Answer}
-use Rattle.calls.specs.Call.{Call, Ream, Read, Write, Snap, Revert, Listing, Check, answer, accepted}
+use Rattle.calls.specs.Call.{Call, Ream, Write, Snap, Revert, answer, accepted}
 use Rattle.calls.specs.Parts.{descriptorsOf}
 use Rattle.calls.specs.Check.{Passes}
 use Rattle.calls.specs.Ladder.{Row, row, firstRow, admission, reamRows}
 use Rattle.calls.specs.Meaning.{rowsOf, answerOf}
 use Rattle.calls.proofs.CardLaws.{chain-is}
 use Rattle.calls.proofs.ActiveLaws.{active-end}
-use Rattle.claims.specs.Kinds.{kindOf}
-use Rattle.claims.specs.History.{betaOf, isReam}
+use Rattle.claims.specs.Kinds.{Kind, Leaves, kindOf}
+use Rattle.claims.specs.History.{betaOf, formats, isReam}
 use Rattle.claims.specs.Ledger.{Ledger, ledgerRows, cellsFrom, volumeOf, ledgerOf}
-use Rattle.claims.specs.Claims.{blocksNeeded}
+use Rattle.claims.specs.Claims.{blocksTaken, blocksNeeded}
 use Rattle.claims.proofs.LedgerFacts.{active-found}
 use Rattle.claims.proofs.LedgerLaws.{cells-length}
 use Rattle.claims.proofs.Owed.{owed}
 use Rattle.places.specs.Placed.{forget, placedNeed, placeRows, placedRows, placedAnswer, placedVolume, placedOf, PlacedNeedClaim, ForgetClaim}
+use Rattle.places.proofs.CallKinds.{ByKind, formatting, leaving, writing, snapping, reverting, by-kind}
 use Rattle.places.proofs.PlacedForget.{forget-claim}
 use Rattle.places.proofs.PlacedNeed.{placed-need-claim}
 
@@ -118,12 +119,17 @@ module _ (c : List ℕ) (p : Passes c) where
   unfolding placedAnswer placedRows placeRows kindOf ledgerRows firstRow answerOf rowsOf admission reamRows placedOf
   ream-answer format = rw (p .area)
 
-  pub placed-answer : (k : Call) → answerOf k c ≡ placedAnswer k (placedOf c)
+  leaves-answer : (k : Call) → kindOf k ≡ Leaves → answerOf k c ≡ placedAnswer k (placedOf c)
+  unfolding isReam formats blocksNeeded blocksTaken placeRows
+  leaves-answer k e = by-ledger k (ap formats e) (ap (λ (x : Kind). blocksTaken x c) e) (ap (λ (x : Kind). placeRows x (placedOf c)) e)
+
+  answer-by : {k : Call} → ByKind k → answerOf k c ≡ placedAnswer k (placedOf c)
   unfolding isReam kindOf blocksNeeded placeRows ledgerRows refusing betaOf placedOf placedVolume
-  placed-answer (Ream format) = ream-answer format
-  placed-answer (Read target name l block) = by-ledger (Read target name l block) refl refl refl
-  placed-answer (Write l block) = by-room (Write l block) (placedNeed (placedOf c) l) refl refl (needs l block) refl
-  placed-answer (Snap name) = by-room (Snap name) (costOf d) refl refl (λ t. refl) refl
-  placed-answer (Revert name) = by-ledger (Revert name) refl refl refl
-  placed-answer (Listing records) = by-ledger (Listing records) refl refl refl
-  placed-answer Check = by-ledger Check refl refl refl
+  answer-by (formatting {format = format}) = ream-answer format
+  answer-by (leaving {k = k} e) = leaves-answer k e
+  answer-by (writing {l = l} {block = block}) = by-room (Write l block) (placedNeed (placedOf c) l) refl refl (needs l block) refl
+  answer-by (snapping {name = name}) = by-room (Snap name) (costOf d) refl refl (λ t. refl) refl
+  answer-by (reverting {name = name}) = by-ledger (Revert name) refl refl refl
+
+  pub placed-answer : (k : Call) → answerOf k c ≡ placedAnswer k (placedOf c)
+  placed-answer k = answer-by (by-kind k)

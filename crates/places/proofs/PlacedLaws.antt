@@ -197,14 +197,14 @@ module _ (c : List ℕ) (ds : List Descriptor) (sound-c : chain c ≡ Sound ds) 
   owner-below q b = owner-before q (chain-starts c ds sound-c) k (omega (arith, in-chain)) (omega arith) (omega (arith, b, at-alpha c _ _ _ at))
 
   -- layout and c are one for all
-  pub layout-one : getD ds k noDescriptor .layout ≡ activeOf ds .layout
-  layout-one =
+  pub layout-at : getD ds k noDescriptor .layout ≡ activeOf ds .layout
+  layout-at =
       region-layout (descriptorAt c 0) (blockCount c) _ _ (at .region)
       ∙ sym (region-layout (descriptorAt c 0) (blockCount c) _ _ (region-at c ds sound-c (length ds - 1) (omega (arith, in-chain)) .region))
       ∙ ap (λ (d : Descriptor). d .layout) (sym (active-at ds (omega (arith, in-chain))))
 
-  pub cost-one-for-all : costOf (getD ds k noDescriptor) ≡ costOf (activeOf ds)
-  cost-one-for-all = rw (layout-one, volume-at c ds sound-c k in-chain)
+  pub cost-at : costOf (getD ds k noDescriptor) ≡ costOf (activeOf ds)
+  cost-at = rw (layout-at, volume-at c ds sound-c k in-chain)
 
 -- that of the active one
 pub active-region : (c : List ℕ) (ds : List Descriptor) → chain c ≡ Sound ds → Region (activeOf ds) (activeOf ds .beta .0)

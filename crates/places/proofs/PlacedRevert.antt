@@ -35,7 +35,7 @@ use Rattle.changes.proofs.RevertedRules.{blocks-kept, first-is, first-kept, las
 use Rattle.changes.proofs.ReopenedRules.{below-kept, upto-visit, upto-kept, first-in, new-phi, new-kept}
 use Rattle.claims.specs.Kinds.{Reverts}
 use Rattle.places.specs.Placed.{PlacedVolume, volumeIndex, noPlaces, namedVolume, opened, placedOpening, placedActive, placedChange, placedVolume, placedVolumes, placedOf}
-use Rattle.places.proofs.PlacedLaws.{volumes-same, volumes-take, volumes-get, volume-index, placed-parts, table-as, layout-one, cost-one-for-all, below-stored, same-owners, volume-kept, volume-opened}
+use Rattle.places.proofs.PlacedLaws.{volumes-same, volumes-take, volumes-get, volume-index, placed-parts, table-as, layout-at, cost-at, below-stored, same-owners, volume-kept, volume-opened}
 
 module _ (c name : List ℕ) (p : Passes c) (acc : RevertPassed c name) where
   abbrev ds : List Descriptor
@@ -100,10 +100,10 @@ module _ (c name : List ℕ) (p : Passes c) (acc : RevertPassed c name) where
 
   -- layout and c are one for all
   layout-act : v .layout ≡ act .layout
-  layout-act = ap (λ (d : Descriptor). d .layout) (sym v-is) ∙ layout-one c ds sound-c (length xs) counted
+  layout-act = ap (λ (d : Descriptor). d .layout) (sym v-is) ∙ layout-at c ds sound-c (length xs) counted
 
   cost-act : costOf v ≡ costOf act
-  cost-act = ap costOf (sym v-is) ∙ cost-one-for-all c ds sound-c (length xs) counted
+  cost-act = ap costOf (sym v-is) ∙ cost-at c ds sound-c (length xs) counted
 
   blocks-after : blockCount t ≡ blockCount c
   unfolding blockCount

@@ -8,7 +8,7 @@ use Rattle.blocks.specs.Pick.{pick}
 use Rattle.blocks.specs.Bytes.{blockCount, storeAll}
 use Rattle.blocks.specs.declared.descriptor.Format.{Format}
 use Rattle.blocks.proofs.BoolLaws.{no}
-use Rattle.calls.specs.Call.{Call, Ream, Read, Write, Snap, Revert, Listing, Check}
+use Rattle.calls.specs.Call.{Call, Ream, Check}
 use Rattle.calls.specs.Check.{Passes}
 use Rattle.calls.specs.Meaning.{answerOf}
 use Rattle.calls.specs.Step.{step, after, isAccepted}
@@ -21,22 +21,12 @@ use Rattle.claims.proofs.LedgerRun.{passes-change}
 use Rattle.claims.proofs.Rows.{ream-claim}
 use Rattle.claims.proofs.Steps.{step-cases}
 use Rattle.places.specs.Placed.{Placed, firstPlaced, placedChange, placedStep, placedAnswer, placedAfter, placedOf, FollowsPlaced, PlacedClaim, PlacedRunClaim}
+use Rattle.places.proofs.CallKinds.{ream-is}
 use Rattle.places.proofs.PlacedAnswers.{placed-answer}
 use Rattle.places.proofs.PlacedWrite.{placed-write}
 use Rattle.places.proofs.PlacedSnap.{placed-snap}
 use Rattle.places.proofs.PlacedRevert.{placed-revert}
 use Rattle.places.proofs.PlacedFormat.{first-placed}
-
--- the calls of the kind of a format
-format-is : (k : Call) → isReam k ≡ true → (format : Format) × (k ≡ Ream format)
-unfolding isReam
-format-is (Ream format) e = (format, refl)
-format-is (Read target name l block) e = no e
-format-is (Write l block) e = no e
-format-is (Snap name) e = no e
-format-is (Revert name) e = no e
-format-is (Listing records) e = no e
-format-is Check e = no e
 
 -- one call on a card that passes
 abbrev Next : Call → List ℕ → List ℕ → Type 0
@@ -63,7 +53,7 @@ module _ (c : List ℕ) (passing : Passes c) where
   unfolding step isFormat placedStep
   next-by k f r false e = rw e (passing, λ q. no q)
   next-by k true r true e =
-      let i = format-is k r in
+      let i = ream-is k r in
       subst (λ (j : Call). Next j c (step j c .card)) (sym (i .1)) (formatted-next (i .0) (subst (λ (j : Call). isAccepted (answerOf j c) ≡ true) (i .1) e))
   next-by k false r true e = step-cases k c (Next k c) (λ q. no (sym q ∙ e)) (λ q n a. (passes-change c passing n a, λ s. placed-change n a)) (rw r)
 

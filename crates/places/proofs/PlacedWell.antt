@@ -27,7 +27,7 @@ use Rattle.calls.proofs.ActiveLaws.{region-at, region-below}
 use Rattle.claims.specs.History.{Nowhere, At}
 use Rattle.places.specs.Placed.{Nil, PlacedVolume, homeOf, volumesIn, noPlaces, placeOf, tablePlace, cellPlace, placedVolume, placedOf, WellPlaced, WellPlacedClaim}
 use Rattle.places.proofs.OwnerLaws.{contains-from}
-use Rattle.places.proofs.PlacedLaws.{values-first, values-length, placed-length, volumes-are, volumes-get, home-by, cell-rules, table-under, owner-at, owner-upto, owner-exact, cost-one-for-all}
+use Rattle.places.proofs.PlacedLaws.{values-first, values-length, placed-length, volumes-are, volumes-get, home-by, cell-rules, table-under, owner-at, owner-upto, owner-exact, cost-at}
 
 -- a place that is set
 at-is : (i j : ℕ) → At i ≡ At j → i ≡ j
@@ -145,7 +145,7 @@ module _ (c : List ℕ) (p : Passes c) where
           rises = λ g.
               let m : suc k < length ds = omega (arith, g, count-in) in
               let s = region-at c ds sound-c (suc k) m in
-              omega (arith, ap (λ (u : PlacedVolume). u .beta) (volume-at (suc k) m), s .beta, at-long c _ _ _ s, r .beta, cost-one-for-all c ds sound-c (suc k) m);
+              omega (arith, ap (λ (u : PlacedVolume). u .beta) (volume-at (suc k) m), s .beta, at-long c _ _ _ s, r .beta, cost-at c ds sound-c (suc k) m);
         }
 
 pub well-placed-claim : WellPlacedClaim
