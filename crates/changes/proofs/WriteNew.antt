@@ -340,8 +340,8 @@ module _ (c : List ℕ) (passes : Passes c) (l : ℕ) (block : List ℕ) (ok : W
         not-stored (act .beta .0 + 1) block (store (act .beta .0) new-bytes ∷ store (act .alpha .0) head-bytes ∷ []) q (λ v. omega (arith, h, v))
         (not-stored (act .beta .0) new-bytes (store (act .alpha .0) head-bytes ∷ []) q (λ v. omega (arith, h, v)) (not-stored (act .alpha .0) head-bytes [] q (λ v. n (sym v)) (none-stored q)))
 
-    facts : WriteFacts c (storeAll c ss) (snaps ++ (extendedOf act 2 ∷ [])) act (extendedOf act 2) l block × WritePlaces c (storeAll c ss) act (extendedOf act 2) l
-    facts =
+    left : WriteFacts c (storeAll c ss) (snaps ++ (extendedOf act 2 ∷ [])) act (extendedOf act 2) l block × WritePlaces c (storeAll c ss) act (extendedOf act 2) l
+    left =
         both c (storeAll c ss) chn (snaps ++ (extendedOf act 2 ∷ [])) act l (m .0) block (sym (stored-length (length c) c refl whole)) write-inside (active-volume c chn sound-c)
         in-layout rise (omega (arith, blocks-long c (act .beta .0 + 2) room-two)) act-small act-fits
         (stored-among (length c) (act .beta .0 + 1) block (store (act .beta .0) new-bytes ∷ store (act .alpha .0) head-bytes ∷ [])
@@ -355,8 +355,11 @@ module _ (c : List ℕ) (passes : Passes c) (l : ℕ) (block : List ℕ) (ok : W
         (λ q h n. stored-other (length c) c refl whole q (not-in q h n)) (found-holder c chn act l m p is)
         act-wider act-new (extended-new snaps act 2 1 (omega arith) regions) (placed-not-active chn chn-some) act-rules
 
+    facts : WriteFacts c (storeAll c ss) (snaps ++ (extendedOf act 2 ∷ [])) act (extendedOf act 2) l block
+    facts = left .0
+
     pub new-two : WriteFacts c (storeAll c (writeStores c l block)) (snaps ++ (extendedOf act 2 ∷ [])) act (extendedOf act 2) l block
-    new-two = subst (λ (ys : List Store). WriteFacts c (storeAll c ys) (snaps ++ (extendedOf act 2 ∷ [])) act (extendedOf act 2) l block) (sym stores-are) (facts .0)
+    new-two = subst (λ (ys : List Store). WriteFacts c (storeAll c ys) (snaps ++ (extendedOf act 2 ∷ [])) act (extendedOf act 2) l block) (sym stores-are) facts
 
     pub two-places : WritePlaces c (storeAll c (writeStores c l block)) act (extendedOf act 2) l
-    two-places = subst (λ (ys : List Store). WritePlaces c (storeAll c ys) act (extendedOf act 2) l) (sym stores-are) (facts .1)
+    two-places = subst (λ (ys : List Store). WritePlaces c (storeAll c ys) act (extendedOf act 2) l) (sym stores-are) (left .1)
