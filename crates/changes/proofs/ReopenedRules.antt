@@ -120,7 +120,7 @@ module _ (c name : List ℕ) (pass : Passes c) (e : RevertPassed c name) (one : 
   few : tableCount (v .volume) ≤ 112
   few = few-tables (v .volume) (form-most c _ v (visit-at .form))
 
-  new-phi : (i : ℕ) → i < 112 → phiAt t (reopenedOf v) i ≡ phiAt c v i
+  pub new-phi : (i : ℕ) → i < 112 → phiAt t (reopenedOf v) i ≡ phiAt c v i
   unfolding phiAt
   new-phi = phi-stored c t (reopenedOf w) v (omega (arith, rise, bytes)) (omega (arith, same-long c name e, bytes, cost-some)) (new-block c name e one) (new-fits c name e one)
 

@@ -78,7 +78,7 @@ module _ (c name : List ℕ) (pass : Passes c) (e : RevertPassed c name) (zero :
   inside : 512 * a + 512 ≤ length c
   inside = member-inside c ds xs old ys sound-c split
 
-  old-phi : (i : ℕ) → i < 112 → phiAt t old i ≡ phiAt c old i
+  pub old-phi : (i : ℕ) → i < 112 → phiAt t old i ≡ phiAt c old i
   unfolding phiAt
   old-phi = phi-stored c t made old inside (omega (arith, long, inside)) (block c name e zero) (fits c name e zero)
 

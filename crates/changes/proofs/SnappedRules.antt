@@ -92,11 +92,11 @@ module _ (c name : List ℕ) (pass : Passes c) (e : SnapPassed c name) where
   top-inside : 512 * top + 512 ≤ length c
   top-inside = new-inside c name e
 
-  old-phi : (i : ℕ) → i < 112 → phiAt t act i ≡ phiAt c act i
+  pub old-phi : (i : ℕ) → i < 112 → phiAt t act i ≡ phiAt c act i
   unfolding phiAt
   old-phi = phi-stored c t old act base-inside (omega (arith, long, base-inside)) (old-block c name e) (old-fits c name e)
 
-  new-phi : (i : ℕ) → i < 112 → phiAt t opened i ≡ phiAt c act i
+  pub new-phi : (i : ℕ) → i < 112 → phiAt t opened i ≡ phiAt c act i
   new-phi = phi-stored c t opened act base-inside (omega (arith, long, top-inside)) (new-block c name e) (new-fits c name e)
 
   kept : (q : ℕ) → (base ≡ q → ⊥) → q < top → blockAt t q ≡ blockAt c q

@@ -42,7 +42,7 @@ use Rattle.calls.proofs.ActiveLaws.{active-next, active-form, active-rise, acti
 use Rattle.entries.proofs.RulesLaws.{set-table-rules, set-phi-rules}
 use Rattle.changes.proofs.WholeLaws.{write-whole}
 use Rattle.changes.proofs.WrittenRules.{write-region}
-use Rattle.changes.proofs.WriteFacts.{WriteFacts}
+use Rattle.changes.proofs.WriteFacts.{WriteFacts, WritePlaces}
 use Rattle.entries.proofs.PutLaws.{need-two}
 
 -- Phi of a card whose block a holds a descriptor and a tail, and of the tail of block a
@@ -212,6 +212,13 @@ module _ (c t : List ℕ) (ds es : List Descriptor) (d : Descriptor) (l m : ℕ)
   table-now : a ≤ tableOf t x g
   table-now = omega (arith, table-phi t x g other-layout, phi-set)
 
+  places-two : WritePlaces c t d x l
+  places-two =
+      record {
+        own = omega (arith, entry-set, low);
+        tables = λ i h n. table-phi t x i other-layout ∙ phi-other i (omega (arith, h, few)) n ∙ sym (table-phi c d i other-layout);
+      }
+
   two-facts : WriteFacts c t es d x l block
   two-facts =
       record {
@@ -227,6 +234,9 @@ module _ (c t : List ℕ) (ds es : List Descriptor) (d : Descriptor) (l m : ℕ)
           tables = set-table-rules c t ds es d 2 wider l (b + 1) inside new-block-placed (omega arith) entry-set entry-other (rules .tables);
         };
       }
+
+  both : WriteFacts c t es d x l block × WritePlaces c t d x l
+  both = (two-facts, places-two)
 
 -- a new table block arises only in layout 2
 new-layout : (c : List ℕ) (ds : List Descriptor) (d : Descriptor) (l : ℕ) (m p : Physical) → find c ds d l ≡ Entry m p → tableIsNew (d .alpha .0) (m .0) ≡ true
@@ -330,9 +340,9 @@ module _ (c : List ℕ) (passes : Passes c) (l : ℕ) (block : List ℕ) (ok : W
         not-stored (act .beta .0 + 1) block (store (act .beta .0) new-bytes ∷ store (act .alpha .0) head-bytes ∷ []) q (λ v. omega (arith, h, v))
         (not-stored (act .beta .0) new-bytes (store (act .alpha .0) head-bytes ∷ []) q (λ v. omega (arith, h, v)) (not-stored (act .alpha .0) head-bytes [] q (λ v. n (sym v)) (none-stored q)))
 
-    facts : WriteFacts c (storeAll c ss) (snaps ++ (extendedOf act 2 ∷ [])) act (extendedOf act 2) l block
-    facts =
-        two-facts c (storeAll c ss) chn (snaps ++ (extendedOf act 2 ∷ [])) act l (m .0) block (sym (stored-length (length c) c refl whole)) write-inside (active-volume c chn sound-c)
+    left : WriteFacts c (storeAll c ss) (snaps ++ (extendedOf act 2 ∷ [])) act (extendedOf act 2) l block × WritePlaces c (storeAll c ss) act (extendedOf act 2) l
+    left =
+        both c (storeAll c ss) chn (snaps ++ (extendedOf act 2 ∷ [])) act l (m .0) block (sym (stored-length (length c) c refl whole)) write-inside (active-volume c chn sound-c)
         in-layout rise (omega (arith, blocks-long c (act .beta .0 + 2) room-two)) act-small act-fits
         (stored-among (length c) (act .beta .0 + 1) block (store (act .beta .0) new-bytes ∷ store (act .alpha .0) head-bytes ∷ [])
         (not-stored (act .beta .0) new-bytes (store (act .alpha .0) head-bytes ∷ []) (act .beta .0 + 1) (λ v. omega (arith, v))
@@ -345,5 +355,11 @@ module _ (c : List ℕ) (passes : Passes c) (l : ℕ) (block : List ℕ) (ok : W
         (λ q h n. stored-other (length c) c refl whole q (not-in q h n)) (found-holder c chn act l m p is)
         act-wider act-new (extended-new snaps act 2 1 (omega arith) regions) (placed-not-active chn chn-some) act-rules
 
+    facts : WriteFacts c (storeAll c ss) (snaps ++ (extendedOf act 2 ∷ [])) act (extendedOf act 2) l block
+    facts = left .0
+
     pub new-two : WriteFacts c (storeAll c (writeStores c l block)) (snaps ++ (extendedOf act 2 ∷ [])) act (extendedOf act 2) l block
     new-two = subst (λ (ys : List Store). WriteFacts c (storeAll c ys) (snaps ++ (extendedOf act 2 ∷ [])) act (extendedOf act 2) l block) (sym stores-are) facts
+
+    pub two-places : WritePlaces c (storeAll c (writeStores c l block)) act (extendedOf act 2) l
+    two-places = subst (λ (ys : List Store). WritePlaces c (storeAll c ys) act (extendedOf act 2) l) (sym stores-are) (left .1)

@@ -32,7 +32,7 @@ use Rattle.calls.specs.Check.{Passes}
 use Rattle.calls.specs.Effect.{writeStores}
 use Rattle.calls.proofs.CardLaws.{card-most, chain-is, active-split}
 use Rattle.blocks.proofs.StoreLists.{Whole, stored-length, stored-other, none-stored, one-stored, not-stored, stored-among}
-use Rattle.entries.proofs.LocalLaws.{Region}
+use Rattle.entries.proofs.LocalLaws.{Region, phi-shared}
 use Rattle.entries.proofs.FoundLaws.{found-holder, found-value}
 use Rattle.entries.proofs.TableLaws.{table-own, table-phi, own-inside, few-tables, under, layout-two, group-below, entry-in, phi-stored, block-entry}
 use Rattle.calls.proofs.Passed.{WritePassed}
@@ -42,7 +42,7 @@ use Rattle.calls.proofs.ActiveLaws.{active-next, active-inside, active-long, ac
 use Rattle.entries.proofs.RulesLaws.{set-table-rules, set-phi-rules, kept-entry, kept-rules}
 use Rattle.changes.proofs.WholeLaws.{write-whole}
 use Rattle.changes.proofs.WrittenRules.{write-region}
-use Rattle.changes.proofs.WriteFacts.{WriteFacts}
+use Rattle.changes.proofs.WriteFacts.{WriteFacts, WritePlaces}
 use Rattle.entries.proofs.SetLaws.{with-set, with-other}
 use Rattle.entries.proofs.PutLaws.{need-one}
 
@@ -197,6 +197,13 @@ module _ (c : List ℕ) (ds : List Descriptor) (chained : chain c ≡ Sound ds) 
       over-entry : (j : ℕ) → j < 128 * n → entryOf over d j ≡ entryOf c d j
       over-entry j h = sym (kept-entry c over ds ds d few (λ q k. k) over-long (active-inside c ds chained) over-here over-table j h)
 
+      over-tables : (i : ℕ) → i < n → tableOf over d i ≡ tableOf c d i
+      unfolding tableOf
+      over-tables i h = rw (phi-shared c over d i (active-inside c ds chained) over-long (sym over-here) (omega (arith, h, few)))
+
+      places-none : WritePlaces c over d d l
+      places-none = record { own = omega (arith, over-entry l (under l (d .volume) below), entry-is, need-nothing a m p nothing .1); tables = λ i h k. over-tables i h }
+
       facts-none : WriteFacts c over ds d d l block
       facts-none =
           record {
@@ -338,6 +345,9 @@ module _ (c : List ℕ) (ds : List Descriptor) (chained : chain c ≡ Sound ds) 
               tables = set-table-rules c then ds es d 1 wider l b below next-placed (omega arith) entry-then entry-rest (rules .tables);
             }
 
+        places-one : WritePlaces c then d x l
+        places-one = record { own = omega (arith, entry-then, rise); tables = λ i h k. table-same i (omega (arith, h, few)) }
+
         facts-one : WriteFacts c then es d x l block
         facts-one =
             record {
@@ -396,6 +406,14 @@ module _ (c : List ℕ) (passes : Passes c) (l : ℕ) (block : List ℕ) (ok : W
       let h : WriteFacts c t (snapshots ++ (active ∷ [])) active active l block = subst (λ (ys : List Descriptor). WriteFacts c t ys active active l block) (active-split all some-c) g in
       subst (λ (y : Descriptor). WriteFacts c t (snapshots ++ (y ∷ [])) active y l block) (sym (extended-none active)) h
 
+  pub none-places : (m p : Physical) → foundThrough c active l ≡ Entry m p → need (active .alpha .0) (Entry m p) ≡ 0 → WritePlaces c t active (extendedOf active 0) l
+  none-places m p is e =
+      let are : writeStores c l block ≡ store (p .0) block ∷ [] = stores-through m p is ∙ writing-none c active m p l block e in
+      let w : Whole (length c) (store (p .0) block ∷ []) = subst (λ (ss : List Store). Whole (length c) ss) are (write-whole c l block ok) in
+      let f : WritePlaces c (storeAll c (store (p .0) block ∷ [])) active active l = places-none c all sound-c active-rules l block inside m p is e w in
+      let g : WritePlaces c t active active l = subst (λ (ss : List Store). WritePlaces c (storeAll c ss) active active l) (sym are) f in
+      subst (λ (y : Descriptor). WritePlaces c t active y l) (sym (extended-none active)) g
+
   -- where it takes one
   stores-one : (m p : Physical) → foundThrough c active l ≡ Entry m p → need (active .alpha .0) (Entry m p) ≡ 1
       → writeStores c l block
@@ -413,4 +431,12 @@ module _ (c : List ℕ) (passes : Passes c) (l : ℕ) (block : List ℕ) (ok : W
       let room : active .beta .0 + 1 ≤ blockCount c = omega (arith, enough, ap (λ (f : Found). need (active .alpha .0) f) is, e) in
       subst (λ (ss : List Store). WriteFacts c (storeAll c ss) (snapshots ++ (extendedOf active 1 ∷ [])) active (extendedOf active 1) l block) (sym are)
       (facts-one c all sound-c active-rules l block inside m p is (need-one (active .alpha .0) m p e) (card-most c (passes .area)) room (write-region c passes l block ok)
+      (subst (λ (ss : List Store). Whole (length c) ss) are (write-whole c l block ok)))
+
+  pub one-places : (m p : Physical) → foundThrough c active l ≡ Entry m p → need (active .alpha .0) (Entry m p) ≡ 1 → WritePlaces c t active (extendedOf active 1) l
+  one-places m p is e =
+      let are = stores-one m p is e in
+      let room : active .beta .0 + 1 ≤ blockCount c = omega (arith, enough, ap (λ (f : Found). need (active .alpha .0) f) is, e) in
+      subst (λ (ss : List Store). WritePlaces c (storeAll c ss) active (extendedOf active 1) l) (sym are)
+      (places-one c all sound-c active-rules l block inside m p is (need-one (active .alpha .0) m p e) (card-most c (passes .area)) room (write-region c passes l block ok)
       (subst (λ (ss : List Store). Whole (length c) ss) are (write-whole c l block ok)))

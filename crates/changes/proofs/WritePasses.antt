@@ -19,9 +19,9 @@ use Rattle.calls.specs.Check.{Passes}
 use Rattle.calls.specs.Effect.{writeStores}
 use Rattle.calls.proofs.Passed.{WritePassed}
 use Rattle.changes.proofs.WrittenRules.{passes-write-by}
-use Rattle.changes.proofs.WriteFacts.{WriteFacts}
-use Rattle.changes.proofs.WriteOwn.{own-none, own-one}
-use Rattle.changes.proofs.WriteNew.{new-two}
+use Rattle.changes.proofs.WriteFacts.{WriteFacts, WritePlaces}
+use Rattle.changes.proofs.WriteOwn.{own-none, own-one, none-places, one-places}
+use Rattle.changes.proofs.WriteNew.{new-two, two-places}
 
 -- a write takes no block, one or two
 need-by : (s new : Bool) (n : ℕ) → n ≡ pick s 0 (pick new 2 1) → (n ≡ 0 → ⊥) → (n ≡ 1 → ⊥) → n ≡ 2
@@ -41,6 +41,12 @@ taken : (c : List ℕ) (l : ℕ) (block : List ℕ) {n k : ℕ} → n ≡ k
 taken c l block e facts =
     let d = activeOf (descriptorsOf c) in
     subst (λ (n : ℕ). WriteFacts c (storeAll c (writeStores c l block)) (snapshotsOf (descriptorsOf c) ++ (extendedOf d n ∷ [])) d (extendedOf d n) l block) (sym e) facts
+
+placed-at : (c : List ℕ) (l : ℕ) (block : List ℕ) {n k : ℕ} → n ≡ k
+    → let d = activeOf (descriptorsOf c) in
+    let t = storeAll c (writeStores c l block) in
+    WritePlaces c t d (extendedOf d k) l → WritePlaces c t d (extendedOf d n) l
+placed-at c l block e places = let d = activeOf (descriptorsOf c) in subst (λ (n : ℕ). WritePlaces c (storeAll c (writeStores c l block)) d (extendedOf d n) l) (sym e) places
 
 -- what the write leaves, by the blocks that it takes
 facts-by : (c : List ℕ) → Passes c → (l : ℕ) (block : List ℕ) → WritePassed c l block
@@ -63,6 +69,27 @@ write-facts c p l block ok =
     let d = activeOf (descriptorsOf c) in
     let f = foundThrough c d l in
     facts-by c p l block ok f refl (ok .in-place) (eqb (need (d .alpha .0) f) 0) (eqb (need (d .alpha .0) f) 1) refl refl
+
+-- and of its table blocks
+places-by : (c : List ℕ) → Passes c → (l : ℕ) (block : List ℕ) → WritePassed c l block
+    → let d = activeOf (descriptorsOf c) in
+    (f : Found) → foundThrough c d l ≡ f → isMisplaced f ≡ false → (z o : Bool) → eqb (need (d .alpha .0) f) 0 ≡ z → eqb (need (d .alpha .0) f) 1 ≡ o
+    → WritePlaces c (storeAll c (writeStores c l block)) d (extendedOf d (need (d .alpha .0) f)) l
+unfolding isMisplaced
+places-by c p l block ok (Misplaced h) e m z o u v = no (sym m)
+places-by c p l block ok (Entry a b) e m true o u v = placed-at c l block (eqb-true _ 0 u) (none-places c p l block ok a b e (eqb-true _ 0 u))
+places-by c p l block ok (Entry a b) e m false true u v = placed-at c l block (eqb-true _ 1 v) (one-places c p l block ok a b e (eqb-true _ 1 v))
+places-by c p l block ok (Entry a b) e m false false u v =
+    let two = need-other (activeOf (descriptorsOf c) .alpha .0) a b (eqb-false _ 0 u) (eqb-false _ 1 v) in
+    placed-at c l block two (two-places c p l block ok a b e two)
+
+pub write-places : (c : List ℕ) → Passes c → (l : ℕ) (block : List ℕ) → WritePassed c l block
+    → let d = activeOf (descriptorsOf c) in
+    WritePlaces c (storeAll c (writeStores c l block)) d (extendedOf d (need (d .alpha .0) (foundThrough c d l))) l
+write-places c p l block ok =
+    let d = activeOf (descriptorsOf c) in
+    let f = foundThrough c d l in
+    places-by c p l block ok f refl (ok .in-place) (eqb (need (d .alpha .0) f) 0) (eqb (need (d .alpha .0) f) 1) refl refl
 
 -- the card after an accepted write passes
 pub passes-write : (c : List ℕ) (l : ℕ) (block : List ℕ) → Passes c → WritePassed c l block → Passes (storeAll c (writeStores c l block))

@@ -217,7 +217,7 @@ module _ (area : List ℕ) (format : Format) (ok : formattable area format ≡ t
   layout-parts : to-layout ≡ true
   layout-parts = and-left to-layout (ltb 0 (format .volume)) (and-left (to-layout && ltb 0 (format .volume)) (leb (format .volume) 14336) most-ok)
 
-  format-layout : (eqb (format .layout) 1 || eqb (format .layout) 2) ≡ true
+  pub format-layout : (eqb (format .layout) 1 || eqb (format .layout) 2) ≡ true
   format-layout = and-right (not (areaBad area)) (eqb (format .layout) 1 || eqb (format .layout) 2) layout-parts
 
   format-area : areaBad area ≡ false
@@ -269,7 +269,7 @@ module _ (area : List ℕ) (format : Format) (ok : formattable area format ≡ t
       )
       (phi-clear (format .layout) (part tail 24 448) (first-tail-zeros (format .revision)))
 
-  formatted-count : blockCount card ≡ blockCount area
+  pub formatted-count : blockCount card ≡ blockCount area
   unfolding blockCount
   formatted-count = ap (λ (n : ℕ). n / 512) formatted-length
 
@@ -308,7 +308,7 @@ module _ (area : List ℕ) (format : Format) (ok : formattable area format ≡ t
   entry-zero m j some low h =
       sym (u32-part card (512 * m) 512 (4 * j) (omega arith)) ∙ ap (λ (b : List ℕ). u32At b (4 * j)) (formatted-zero m some low) ∙ zero-number 512 (4 * j)
 
-  tables-few : tableCount (format .volume) ≤ 112
+  pub tables-few : tableCount (format .volume) ≤ 112
   unfolding tableCount
   tables-few = omega (arith, format-most)
 
@@ -329,7 +329,7 @@ module _ (area : List ℕ) (format : Format) (ok : formattable area format ≡ t
     one-entry l h = rw (one-table (l / 128)) (entry-zero (1 + l / 128) (l % 128) (omega arith) (omega (arith, one-cost)) (omega arith))
 
   -- layout 2: Phi names no table
-  two-table : eqb (format .layout) 1 ≡ false → (i : ℕ) → i < 112 → tableOf card first i ≡ 0
+  pub two-table : eqb (format .layout) 1 ≡ false → (i : ℕ) → i < 112 → tableOf card first i ≡ 0
   two-table two i h = table-phi card first i two ∙ phi-zero i h
 
   entry-by : (z : Bool) → eqb (format .layout) 1 ≡ z → (l : ℕ) → l < 128 * tableCount (format .volume) → entryOf card first l ≡ 0
@@ -337,7 +337,7 @@ module _ (area : List ℕ) (format : Format) (ok : formattable area format ≡ t
   entry-by true e l h = pick-nil (eqb (tableOf card first (l / 128)) 0) _ (one-entry e l h)
   entry-by false e l h = rw (two-table e (l / 128) (omega (arith, tables-few)))
 
-  entries-nil : (l : ℕ) → l < 128 * tableCount (format .volume) → entryOf card first l ≡ 0
+  pub entries-nil : (l : ℕ) → l < 128 * tableCount (format .volume) → entryOf card first l ≡ 0
   entries-nil l h = entry-by (eqb (format .layout) 1) refl l h
 
   formatted-phi : PhiRules card (first ∷ []) first
@@ -358,7 +358,7 @@ module _ (area : List ℕ) (format : Format) (ok : formattable area format ≡ t
         once = λ l k h i e z. absurd (z (entries-nil l (omega (arith, tables-hold))));
       }
 
-  formatted-rules : Rules card (first ∷ []) first
+  pub formatted-rules : Rules card (first ∷ []) first
   formatted-rules = record { phi = λ e. formatted-phi; tables = formatted-tables }
 
   formatted-area : areaBad card ≡ false

@@ -212,7 +212,7 @@ module _ (c : List ℕ) (p : Passes c) where
   unfolding answerOf rowsOf blocksNeeded
   visit-answer target name l = passing-admitted (visitRows c target name l) ∙ visit-own target name l ∙ no-more (firstRow (ledgerRows (Visit target name l) (ledgerOf c)))
 
-  active-found : (l : ℕ) → leb (activeOf (descriptorsOf c) .volume) l ≡ false → isMisplaced (foundThrough c (activeOf (descriptorsOf c)) l) ≡ false
+  pub active-found : (l : ℕ) → leb (activeOf (descriptorsOf c) .volume) l ≡ false → isMisplaced (foundThrough c (activeOf (descriptorsOf c)) l) ≡ false
   active-found l v = rw (active-target (descriptorsOf c)) at (target-found c p Active [] l refl (leb-false (activeOf (descriptorsOf c) .volume) l v))
 
   pub write-answer : (l : ℕ) (block : List ℕ) → answerOf (Write l block) c ≡ ledgerAnswer (Write l block) c

@@ -33,7 +33,7 @@ use Rattle.changes.proofs.WritePasses.{passes-write}
 
 -- one call on a card that passes
 module _ (c : List ℕ) (passing : Passes c) where
-  passes-change : {x : Kind} → formats x ≡ false → Allowed c x → Passes (storeAll c (storesBy x c))
+  pub passes-change : {x : Kind} → formats x ≡ false → Allowed c x → Passes (storeAll c (storesBy x c))
   unfolding formats storesBy storeAll
   passes-change f (to-format e) = no (sym f)
   passes-change f to-leave = passing

@@ -1,0 +1,2 @@
+-- What stands between a card and its ledger.
+pub mod Placed
