@@ -173,7 +173,7 @@ module _ (c : List ℕ) (target : Target) (name : List ℕ) (l : ℕ) where
   not-nine e = fresh-never (rowsOf call c) 9 refl (omega arith) e
 
   module _ (ok : isAccepted (answerOf call c) ≡ true) where
-    given-is : step call c .outcome .given ≡ visitOf all (locatedIn all (find c all through l))
+    pub given-is : step call c .outcome .given ≡ visitOf all (locatedIn all (find c all through l))
     unfolding givenOf visitGiven locate
     given-is = step-given call c ∙ rw ok
 

@@ -17,40 +17,54 @@ use Rattle.calls.specs.Parts.{descriptorsOf, snapshotsOf, isSnapshot, foundThro
 use Rattle.calls.specs.Ladder.{Row, row, firstRow, nameRow, targetRow, blockRow}
 use Rattle.claims.specs.Kinds.{Kind, Formats, Leaves, Writes, Snaps, Reverts, kindOf}
 
--- a named volume: the content of each of its logical blocks
-pub record Volume : Type 0 where
+-- a named volume: what is kept of each of its logical blocks
+pub record VolumeOf (A : Type 0) : Type 0 where
   pub name : List ℕ
-  pub cells : List (List ℕ)
+  pub cells : List A
 
-pub record Ledger : Type 0 where
+-- an ordered list of named volumes and an active one
+pub record LedgerOf (A : Type 0) : Type 0 where
   pub revision : ℕ
-  pub snapshots : List Volume
-  pub active : Volume
+  pub snapshots : List (VolumeOf A)
+  pub active : VolumeOf A
 
-abbrev pub noVolume : Volume
+-- the ledger keeps the content of each logical block. (What W2 keeps beside it, in the crate `places`, is where that was last written)
+abbrev pub Volume : Type 0
+Volume = VolumeOf (List ℕ)
+
+abbrev pub Ledger : Type 0
+Ledger = LedgerOf (List ℕ)
+
+abbrev pub noVolume : {A : Type 0} → VolumeOf A
 noVolume = record { name = noName; cells = [] }
 
 -- whether a volume has the name; the volume that has it; those that stay at a rollback to it: those before it, and on revision 1 it too
-unfoldable pub hasVolume : List Volume → List ℕ → Bool
+unfoldable pub hasVolume : {A : Type 0} → List (VolumeOf A) → List ℕ → Bool
 hasVolume [] name = false
 hasVolume (v ∷ vs) name = same (v .name) name || hasVolume vs name
 
-unfoldable pub volumeNamed : List Volume → List ℕ → Volume
+unfoldable pub volumeNamed : {A : Type 0} → List (VolumeOf A) → List ℕ → VolumeOf A
 volumeNamed [] name = noVolume
 volumeNamed (v ∷ vs) name = pick (same (v .name) name) v (volumeNamed vs name)
 
-unfoldable pub volumesKept : ℕ → List Volume → List ℕ → List Volume
+unfoldable pub volumesKept : {A : Type 0} → ℕ → List (VolumeOf A) → List ℕ → List (VolumeOf A)
 volumesKept revision [] name = []
 volumesKept revision (v ∷ vs) name = pick (same (v .name) name) (pick (eqb revision 1) (v ∷ []) []) (v ∷ volumesKept revision vs name)
 
--- what an accepted call makes of the ledger
-unfoldable pub ledgerChange : Kind → Ledger → Ledger
-ledgerChange (Formats format) g = g
-ledgerChange Leaves g = g
-ledgerChange (Writes l block) g = record { revision = g .revision; snapshots = g .snapshots; active = record { name = g .active .name; cells = set (g .active .cells) l block } }
-ledgerChange (Snaps name) g = record { revision = g .revision; snapshots = g .snapshots ++ (record { name = name; cells = g .active .cells } ∷ []); active = g .active }
-ledgerChange (Reverts name) g =
+-- what an accepted call makes of it, given what is kept of a block that is written while there are so many snapshots
+unfoldable pub changeBy : {A : Type 0} → (ℕ → List ℕ → A) → Kind → LedgerOf A → LedgerOf A
+changeBy put (Formats format) g = g
+changeBy put Leaves g = g
+changeBy put (Writes l block) g =
+    record { revision = g .revision; snapshots = g .snapshots; active = record { name = g .active .name; cells = set (g .active .cells) l (put (length (g .snapshots)) block) } }
+changeBy put (Snaps name) g = record { revision = g .revision; snapshots = g .snapshots ++ (record { name = name; cells = g .active .cells } ∷ []); active = g .active }
+changeBy put (Reverts name) g =
     record { revision = g .revision; snapshots = volumesKept (g .revision) (g .snapshots) name; active = record { name = g .active .name; cells = volumeNamed (g .snapshots) name .cells } }
+
+-- of the ledger: a write puts the block's bytes
+unfoldable pub ledgerChange : Kind → Ledger → Ledger
+unfolding changeBy
+ledgerChange x g = changeBy (λ n block. block) x g
 
 unfoldable pub ledgerStep : Call → Ledger → Ledger
 unfolding kindOf ledgerChange
@@ -85,7 +99,7 @@ unfoldable pub ledgerNumber : Call → Ledger → ℕ
 ledgerNumber k g = firstRow (ledgerRows k g) .number
 
 -- the volume that a read goes to, and the content that it gives
-unfoldable pub volumeRead : Ledger → Target → List ℕ → Volume
+unfoldable pub volumeRead : {A : Type 0} → LedgerOf A → Target → List ℕ → VolumeOf A
 volumeRead g Active name = g .active
 volumeRead g Snapshot name = volumeNamed (g .snapshots) name
 
@@ -93,11 +107,11 @@ unfoldable pub cellRead : Ledger → Target → List ℕ → ℕ → List ℕ
 cellRead g target name l = getD (volumeRead g target name .cells) l []
 
 -- the names in order, the active one last
-unfoldable pub namesFrom : List Volume → List ℕ → List (List ℕ)
+unfoldable pub namesFrom : {A : Type 0} → List (VolumeOf A) → List ℕ → List (List ℕ)
 namesFrom [] active = active ∷ []
 namesFrom (v ∷ vs) active = v .name ∷ namesFrom vs active
 
-unfoldable pub ledgerNames : Ledger → List (List ℕ)
+unfoldable pub ledgerNames : {A : Type 0} → LedgerOf A → List (List ℕ)
 ledgerNames g = namesFrom (g .snapshots) (g .active .name)
 
 -- the ledger of a card: its revision, and for each descriptor its name and what a read through it gives of each logical block, n of them from l on

@@ -12,3 +12,4 @@ pub mod PlacedFormat
 pub mod PlacedAnswers
 pub mod PlacedRun
 pub mod PlacedWell
+pub mod Origins

@@ -16,8 +16,8 @@ use Rattle.calls.specs.Parts.{descriptorsOf, snapshotsOf, foundThrough, blockFo
 use Rattle.calls.specs.Effect.{staying}
 use Rattle.claims.specs.Kinds.{Kind, Formats, Leaves, Writes, Snaps, Reverts}
 use Rattle.claims.specs.History.{formats}
-use Rattle.claims.specs.Ledger.{Volume, volumeNamed, volumesKept, cellsFrom, volumeOf, volumesOf, ledgerOf, ledgerChange}
-use Rattle.places.specs.Placed.{Cell, Nil, Held, PlacedVolume, Placed, contentOf, contentsOf, forgetVolume, forgetVolumes, forget, volumeIndex, noPlaces, namedVolume, placedWrite, placedOpening, placedActive, placedChange, valuesFrom, cellFound, cellPlace, placedVolume, placedVolumes, placedOf, ForgetClaim, ForgetStepClaim}
+use Rattle.claims.specs.Ledger.{VolumeOf, Volume, volumeNamed, volumesKept, cellsFrom, volumeOf, volumesOf, ledgerOf, changeBy, ledgerChange}
+use Rattle.places.specs.Placed.{Cell, Nil, Held, PlacedVolume, Placed, contentOf, cellsBy, volumeBy, volumesBy, ledgerBy, forget, volumeIndex, noPlaces, namedVolume, placedWrite, placedOpening, placedActive, placedChange, valuesFrom, cellFound, cellPlace, placedVolume, placedVolumes, placedOf, ForgetClaim, ForgetStepClaim}
 
 -- of a card
 held-by : (r : ℕ) (b : List ℕ) (z : Bool) → contentOf (pick z Nil (Held r b)) ≡ pick z zeroBlock b
@@ -25,22 +25,22 @@ unfolding contentOf
 held-by r b true = refl
 held-by r b false = refl
 
-content-found : (c : List ℕ) (ds : List Descriptor) (f : Found) → contentOf (cellFound c ds f) ≡ blockFound c f
+pub content-found : (c : List ℕ) (ds : List Descriptor) (f : Found) → contentOf (cellFound c ds f) ≡ blockFound c f
 unfolding contentOf cellFound blockFound
 content-found c ds (Misplaced h) = refl
 content-found c ds (Entry m p) = held-by _ (blockAt c (p .0)) (eqb (p .0) 0)
 
-contents-from : (c : List ℕ) (d : Descriptor) (n l : ℕ) → contentsOf (valuesFrom (cellPlace c d) n l) ≡ cellsFrom c d n l
-unfolding contentsOf valuesFrom cellsFrom cellPlace
+contents-from : (c : List ℕ) (d : Descriptor) (n l : ℕ) → cellsBy contentOf (valuesFrom (cellPlace c d) n l) ≡ cellsFrom c d n l
+unfolding cellsBy valuesFrom cellsFrom cellPlace
 contents-from c d zero l = refl
 contents-from c d (suc n) l = rw (content-found c (descriptorsOf c) (foundThrough c d l), contents-from c d n (suc l))
 
-forget-volume : (c : List ℕ) (d : Descriptor) → forgetVolume (placedVolume c d) ≡ volumeOf c d
-unfolding forgetVolume placedVolume volumeOf
+forget-volume : (c : List ℕ) (d : Descriptor) → volumeBy contentOf (placedVolume c d) ≡ volumeOf c d
+unfolding volumeBy placedVolume volumeOf
 forget-volume c d = ap (λ (x : List (List ℕ)). record { name = d .name; cells = x }) (contents-from c d (d .volume) 0)
 
-forget-volumes : (c : List ℕ) (ds : List Descriptor) → forgetVolumes (placedVolumes c ds) ≡ volumesOf c ds
-unfolding forgetVolumes placedVolumes volumesOf
+forget-volumes : (c : List ℕ) (ds : List Descriptor) → volumesBy contentOf (placedVolumes c ds) ≡ volumesOf c ds
+unfolding volumesBy placedVolumes volumesOf
 forget-volumes c [] = refl
 forget-volumes c (d ∷ ds) = rw (forget-volume c d, forget-volumes c ds)
 
@@ -48,67 +48,74 @@ pub forget-claim : ForgetClaim
 unfolding ForgetClaim forget placedOf ledgerOf
 forget-claim c = rw (forget-volumes c (snapshotsOf (descriptorsOf c)), forget-volume c (activeOf (descriptorsOf c)))
 
--- of a step
-contents-set : (xs : List Cell) (l k : ℕ) (block : List ℕ) → contentsOf (set xs l (Held k block)) ≡ set (contentsOf xs) l block
-unfolding contentsOf contentOf
-contents-set [] l k block = refl
-contents-set (x ∷ xs) zero k block = refl
-contents-set (x ∷ xs) (suc l) k block = ap (λ (bs : List (List ℕ)). contentOf x ∷ bs) (contents-set xs l k block)
+-- of a step, whatever is kept of a cell: keep says it of a cell, put of a block that is written in region k
+module _ {A : Type 0} (keep : Cell → A) (put : ℕ → List ℕ → A) (held : (k : ℕ) (block : List ℕ) → keep (Held k block) ≡ put k block) where
+  cells-set : (xs : List Cell) (l k : ℕ) (block : List ℕ) → cellsBy keep (set xs l (Held k block)) ≡ set (cellsBy keep xs) l (put k block)
+  unfolding cellsBy
+  cells-set [] l k block = refl
+  cells-set (x ∷ xs) zero k block = ap (λ (y : A). y ∷ cellsBy keep xs) (held k block)
+  cells-set (x ∷ xs) (suc l) k block = ap (λ (ys : List A). keep x ∷ ys) (cells-set xs l k block)
 
-forget-append : (vs ws : List PlacedVolume) → forgetVolumes (vs ++ ws) ≡ forgetVolumes vs ++ forgetVolumes ws
-unfolding forgetVolumes
-forget-append [] ws = refl
-forget-append (v ∷ vs) ws = ap (λ (xs : List Volume). forgetVolume v ∷ xs) (forget-append vs ws)
+  by-length : (vs : List PlacedVolume) → length (volumesBy keep vs) ≡ length vs
+  unfolding volumesBy
+  by-length [] = refl
+  by-length (v ∷ vs) = ap suc (by-length vs)
 
--- the volumes that stay at a rollback, and the one that it goes to
-kept-by : (o b : Bool) (v : PlacedVolume) (vs : List PlacedVolume) (i : ℕ) (kept : List Volume) → forgetVolumes (take (pick o (suc i) i) vs) ≡ kept
-    → forgetVolumes (take (pick o (suc (pick b 0 (suc i))) (pick b 0 (suc i))) (v ∷ vs)) ≡ pick b (pick o (forgetVolume v ∷ []) []) (forgetVolume v ∷ kept)
-unfolding forgetVolumes
-kept-by true true v vs i kept h = refl
-kept-by false true v vs i kept h = refl
-kept-by true false v vs i kept h = ap (λ (xs : List Volume). forgetVolume v ∷ xs) h
-kept-by false false v vs i kept h = ap (λ (xs : List Volume). forgetVolume v ∷ xs) h
+  by-append : (vs ws : List PlacedVolume) → volumesBy keep (vs ++ ws) ≡ volumesBy keep vs ++ volumesBy keep ws
+  unfolding volumesBy
+  by-append [] ws = refl
+  by-append (v ∷ vs) ws = ap (λ (xs : List (VolumeOf A)). volumeBy keep v ∷ xs) (by-append vs ws)
 
-none-by : (o : Bool) → forgetVolumes (take (pick o 1 0) []) ≡ []
-unfolding forgetVolumes
-none-by true = refl
-none-by false = refl
+  -- the volumes that stay at a rollback, and the one that it goes to
+  kept-by : (o b : Bool) (v : PlacedVolume) (vs : List PlacedVolume) (i : ℕ) (kept : List (VolumeOf A)) → volumesBy keep (take (pick o (suc i) i) vs) ≡ kept
+      → volumesBy keep (take (pick o (suc (pick b 0 (suc i))) (pick b 0 (suc i))) (v ∷ vs)) ≡ pick b (pick o (volumeBy keep v ∷ []) []) (volumeBy keep v ∷ kept)
+  unfolding volumesBy
+  kept-by true true v vs i kept h = refl
+  kept-by false true v vs i kept h = refl
+  kept-by true false v vs i kept h = ap (λ (xs : List (VolumeOf A)). volumeBy keep v ∷ xs) h
+  kept-by false false v vs i kept h = ap (λ (xs : List (VolumeOf A)). volumeBy keep v ∷ xs) h
 
-forget-kept : (r : ℕ) (vs : List PlacedVolume) (name : List ℕ) → forgetVolumes (take (staying r (volumeIndex vs name)) vs) ≡ volumesKept r (forgetVolumes vs) name
-unfolding staying volumeIndex volumesKept forgetVolumes forgetVolume
-forget-kept r [] name = none-by (eqb r 1)
-forget-kept r (v ∷ vs) name = kept-by (eqb r 1) (same (v .name) name) v vs (volumeIndex vs name) (volumesKept r (forgetVolumes vs) name) (forget-kept r vs name)
+  none-by : (o : Bool) → volumesBy keep (take (pick o 1 0) []) ≡ []
+  unfolding volumesBy
+  none-by true = refl
+  none-by false = refl
 
-which-by : (b : Bool) (v : PlacedVolume) (vs : List PlacedVolume) (i : ℕ) (w : Volume) → contentsOf (getD vs i noPlaces .cells) ≡ w .cells
-    → contentsOf (getD (v ∷ vs) (pick b 0 (suc i)) noPlaces .cells) ≡ pick b (forgetVolume v) w .cells
-unfolding forgetVolume
-which-by true v vs i w h = refl
-which-by false v vs i w h = h
+  by-kept : (r : ℕ) (vs : List PlacedVolume) (name : List ℕ) → volumesBy keep (take (staying r (volumeIndex vs name)) vs) ≡ volumesKept r (volumesBy keep vs) name
+  unfolding staying volumeIndex volumesKept volumesBy volumeBy
+  by-kept r [] name = none-by (eqb r 1)
+  by-kept r (v ∷ vs) name = kept-by (eqb r 1) (same (v .name) name) v vs (volumeIndex vs name) (volumesKept r (volumesBy keep vs) name) (by-kept r vs name)
 
-forget-named : (vs : List PlacedVolume) (name : List ℕ) → contentsOf (getD vs (volumeIndex vs name) noPlaces .cells) ≡ volumeNamed (forgetVolumes vs) name .cells
-unfolding volumeIndex volumeNamed forgetVolumes forgetVolume contentsOf
-forget-named [] name = refl
-forget-named (v ∷ vs) name = which-by (same (v .name) name) v vs (volumeIndex vs name) (volumeNamed (forgetVolumes vs) name) (forget-named vs name)
+  which-by : (b : Bool) (v : PlacedVolume) (vs : List PlacedVolume) (i : ℕ) (w : VolumeOf A) → cellsBy keep (getD vs i noPlaces .cells) ≡ w .cells
+      → cellsBy keep (getD (v ∷ vs) (pick b 0 (suc i)) noPlaces .cells) ≡ pick b (volumeBy keep v) w .cells
+  unfolding volumeBy
+  which-by true v vs i w h = refl
+  which-by false v vs i w h = h
 
-active-by : (o : Bool) (p : Placed) (v : PlacedVolume) (k : ℕ) → forgetVolume (pick o (placedOpening p v k) v) ≡ forgetVolume v
-unfolding forgetVolume placedOpening
-active-by true p v k = refl
-active-by false p v k = refl
+  pub by-named : (vs : List PlacedVolume) (name : List ℕ) → cellsBy keep (getD vs (volumeIndex vs name) noPlaces .cells) ≡ volumeNamed (volumesBy keep vs) name .cells
+  unfolding volumeIndex volumeNamed volumesBy volumeBy cellsBy
+  by-named [] name = refl
+  by-named (v ∷ vs) name = which-by (same (v .name) name) v vs (volumeIndex vs name) (volumeNamed (volumesBy keep vs) name) (by-named vs name)
 
-forget-active : (p : Placed) (v : PlacedVolume) (i : ℕ) → forgetVolume (placedActive p v i) ≡ forgetVolume v
-unfolding placedActive
-forget-active p v i = active-by (eqb (p .revision) 1) p v (suc i)
+  active-by : (o : Bool) (p : Placed) (v : PlacedVolume) (k : ℕ) → volumeBy keep (pick o (placedOpening p v k) v) ≡ volumeBy keep v
+  unfolding volumeBy placedOpening
+  active-by true p v k = refl
+  active-by false p v k = refl
 
-forget-change : (x : Kind) (p : Placed) → formats x ≡ false → forget (placedChange x p) ≡ ledgerChange x (forget p)
-unfolding formats forget placedChange ledgerChange placedWrite placedOpening forgetVolume forgetVolumes
-forget-change (Formats format) p f = no (sym f)
-forget-change Leaves p f = refl
-forget-change (Writes l block) p f = rw (contents-set (p .active .cells) l (length (p .snapshots)) block)
-forget-change (Snaps name) p f = rw (forget-append (p .snapshots) (namedVolume (p .active) name ∷ []))
-forget-change (Reverts name) p f =
-    let i = volumeIndex (p .snapshots) name in
-    rw (forget-kept (p .revision) (p .snapshots) name, forget-active p (namedVolume (getD (p .snapshots) i noPlaces) (p .active .name)) i, forget-named (p .snapshots) name)
+  by-active : (p : Placed) (v : PlacedVolume) (i : ℕ) → volumeBy keep (placedActive p v i) ≡ volumeBy keep v
+  unfolding placedActive
+  by-active p v i = active-by (eqb (p .revision) 1) p v (suc i)
 
+  pub by-change : (x : Kind) (p : Placed) → formats x ≡ false → ledgerBy keep (placedChange x p) ≡ changeBy put x (ledgerBy keep p)
+  unfolding formats ledgerBy placedChange changeBy placedWrite placedOpening volumeBy volumesBy
+  by-change (Formats format) p f = no (sym f)
+  by-change Leaves p f = refl
+  by-change (Writes l block) p f = rw (by-length (p .snapshots), cells-set (p .active .cells) l (length (p .snapshots)) block)
+  by-change (Snaps name) p f = rw (by-append (p .snapshots) (namedVolume (p .active) name ∷ []))
+  by-change (Reverts name) p f =
+      let i = volumeIndex (p .snapshots) name in
+      rw (by-kept (p .revision) (p .snapshots) name, by-active p (namedVolume (getD (p .snapshots) i noPlaces) (p .active .name)) i, by-named (p .snapshots) name)
+
+-- the ledger keeps the content
 pub forget-step-claim : ForgetStepClaim
-unfolding ForgetStepClaim
-forget-step-claim x p f = forget-change x p f
+unfolding ForgetStepClaim forget ledgerChange contentOf
+forget-step-claim x p f = by-change contentOf (λ k block. block) (λ k block. refl) x p f

@@ -24,7 +24,7 @@ use Rattle.calls.specs.Parts.{descriptorsOf, snapshotsOf, isSnapshot, targetOf,
 use Rattle.calls.proofs.CardLaws.{chain-is}
 use Rattle.calls.proofs.ActiveLaws.{chain-some, volume-at, target-member}
 use Rattle.claims.specs.History.{Nowhere, At}
-use Rattle.places.specs.Placed.{Nil, PlacedVolume, homeOf, noPlaces, placedTarget, originOf, nameAt, cellFound, cellPlace, placedVolume, placedVolumes, placedOf, OriginClaim}
+use Rattle.places.specs.Placed.{Nil, PlacedVolume, homeOf, noPlaces, placedTarget, originOf, nameAt, cellFound, cellPlace, placedVolume, placedVolumes, placedOf, PlacedOriginClaim}
 use Rattle.places.proofs.PlacedLaws.{values-first, volumes-are, volumes-get, volume-index, home-by}
 
 -- what was found stands in the region that contains it
@@ -53,7 +53,7 @@ module _ (c : List ℕ) (sound : chainSound (chain c) ≡ true) where
   name-by k false = ap (λ (vs : List PlacedVolume). getD vs k noPlaces .name) (volumes-are c ds sound-c) ∙ name-get c ds k
 
   -- the volume that a read goes to is that of the descriptor that it goes through
-  target-is : (target : Target) (name : List ℕ) → (isSnapshot target && not (named (snapshotsOf ds) name)) ≡ false → placedTarget (placedOf c) target name ≡ placedVolume c (targetOf ds target name)
+  pub target-is : (target : Target) (name : List ℕ) → (isSnapshot target && not (named (snapshotsOf ds) name)) ≡ false → placedTarget (placedOf c) target name ≡ placedVolume c (targetOf ds target name)
   unfolding placedTarget placedOf targetOf
   target-is Active name h = refl
   target-is Snapshot name h =
@@ -67,7 +67,7 @@ module _ (c : List ℕ) (sound : chainSound (chain c) ≡ true) where
     abbrev b : ℕ
     b = foundBlock (foundThrough c d l)
 
-    below : l < d .volume
+    pub below : l < d .volume
     below =
         let m = target-member ds (chain-some c ds sound-c) target name standing in
         omega (arith, inside, ap (λ (x : Descriptor). x .volume) (m .2), volume-at c ds sound-c (m .0) (m .1))
@@ -82,6 +82,6 @@ module _ (c : List ℕ) (sound : chainSound (chain c) ≡ true) where
     name-is : nameAt (placedOf c) (originOf (placedOf c) target name l) ≡ pick (eqb b 0) noName (ownerOf ds b .name)
     name-is = ap (nameAt (placedOf c)) origin-is ∙ name-by (ownerIndex ds b) (eqb b 0)
 
-pub origin-claim : OriginClaim
-unfolding OriginClaim
-origin-claim c target name l sound standing inside = (origin-is c sound target name l standing inside, name-is c sound target name l standing inside)
+pub placed-origin-claim : PlacedOriginClaim
+unfolding PlacedOriginClaim
+placed-origin-claim c target name l sound standing inside = (origin-is c sound target name l standing inside, name-is c sound target name l standing inside)

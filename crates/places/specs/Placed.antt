@@ -29,7 +29,7 @@ use Rattle.calls.specs.Meaning.{answerOf}
 use Rattle.calls.specs.Step.{step, after, isAccepted}
 use Rattle.claims.specs.Kinds.{Kind, Formats, Leaves, Writes, Snaps, Reverts, kindOf}
 use Rattle.claims.specs.History.{Position, Nowhere, At, formats, formattable, formatted}
-use Rattle.claims.specs.Ledger.{Volume, Ledger, ledgerRows, ledgerOf, ledgerChange}
+use Rattle.claims.specs.Ledger.{VolumeOf, LedgerOf, Ledger, ledgerRows, ledgerOf, ledgerChange}
 
 -- a cell: nil, or the region that holds it and its content
 pub data Cell : Type 0 where
@@ -66,21 +66,25 @@ unfoldable pub isAt : ℕ → Position → Bool
 isAt k Nowhere = false
 isAt k (At i) = eqb i k
 
--- The ledger: the same without places.
+-- The ledger: the same without places. What is kept of each cell is given, since a ledger of the places alone has its use too (Origins.antt).
 
-unfoldable pub contentsOf : List Cell → List (List ℕ)
-contentsOf [] = []
-contentsOf (x ∷ xs) = contentOf x ∷ contentsOf xs
+unfoldable pub cellsBy : {A : Type 0} → (Cell → A) → List Cell → List A
+cellsBy keep [] = []
+cellsBy keep (x ∷ xs) = keep x ∷ cellsBy keep xs
 
-unfoldable pub forgetVolume : PlacedVolume → Volume
-forgetVolume v = record { name = v .name; cells = contentsOf (v .cells) }
+unfoldable pub volumeBy : {A : Type 0} → (Cell → A) → PlacedVolume → VolumeOf A
+volumeBy keep v = record { name = v .name; cells = cellsBy keep (v .cells) }
 
-unfoldable pub forgetVolumes : List PlacedVolume → List Volume
-forgetVolumes [] = []
-forgetVolumes (v ∷ vs) = forgetVolume v ∷ forgetVolumes vs
+unfoldable pub volumesBy : {A : Type 0} → (Cell → A) → List PlacedVolume → List (VolumeOf A)
+volumesBy keep [] = []
+volumesBy keep (v ∷ vs) = volumeBy keep v ∷ volumesBy keep vs
+
+unfoldable pub ledgerBy : {A : Type 0} → (Cell → A) → Placed → LedgerOf A
+ledgerBy keep p = record { revision = p .revision; snapshots = volumesBy keep (p .snapshots); active = volumeBy keep (p .active) }
 
 unfoldable pub forget : Placed → Ledger
-forget p = record { revision = p .revision; snapshots = forgetVolumes (p .snapshots); active = forgetVolume (p .active) }
+unfolding ledgerBy
+forget p = ledgerBy contentOf p
 
 -- One call.
 
@@ -277,8 +281,8 @@ PlacedNeedClaim =
 
 -- Wherever the chain is sound: the origin of what a read gives is the region that contains the block found, none where there is none, and the name of it is
 -- that of the descriptor.
-unfoldable pub OriginClaim : Type 0
-OriginClaim =
+unfoldable pub PlacedOriginClaim : Type 0
+PlacedOriginClaim =
     (c : List ℕ) (target : Target) (name : List ℕ) (l : ℕ) → chainSound (chain c) ≡ true
     → let ds = descriptorsOf c in
     (isSnapshot target && not (named (snapshotsOf ds) name)) ≡ false → l < activeOf ds .volume
