@@ -3,23 +3,23 @@ use mathlib.Core.Path.{_≡_, refl, sym, ap, _∙_, subst}
 use mathlib.Core.Logic.{_↔_}
 use mathlib.Core.Bool.{Bool, true, false, not, _&&_, _||_}
 use mathlib.Core.List.{List, []}
-use Prim.Native.Nat.{ℕ, _+_, _-_, _≤_, _<_}
+use Prim.Native.Nat.{ℕ, _-_, _≤_, _<_}
 use native.Mathlib.Omega.{arith}
 use lib.ListN.{length, getD}
 use lib.Dec.{eqb, ltb, leb}
-use borrow.Author.Tests.{eq-eqb, ne-eqb, lt-ltb, le-ltb, le-leb, eqb-true, eqb-false, ltb-true, leb-true, leb-false}
+use borrow.Author.Tests.{eq-eqb, ne-eqb, lt-ltb, le-ltb, le-leb, eqb-true, eqb-false, leb-true, leb-false}
 use Rattle.blocks.specs.Pick.{pick, allZero}
 use Rattle.blocks.specs.Bytes.{storeAll}
 use Rattle.blocks.specs.Name.{nameByte, nameLength, isName, noName}
-use Rattle.blocks.specs.Descriptor.{costOf, noDescriptor}
+use Rattle.blocks.specs.Descriptor.{noDescriptor}
 use Rattle.blocks.specs.declared.numbers.Physical.{Physical}
 use Rattle.blocks.specs.declared.descriptor.Descriptor.{Descriptor}
 use Rattle.blocks.proofs.BoolLaws.{no}
 use Rattle.blocks.proofs.DescriptorLaws.{cost-least}
-use Rattle.chains.specs.Chain.{Sound, chain, chainSound, activeOf}
-use Rattle.links.proofs.LinkedLaws.{Linked, chain-linked, linked-at, regionStart, at-long, at-alpha}
+use Rattle.chains.specs.Chain.{chain, chainSound, activeOf}
+use Rattle.links.proofs.LinkedLaws.{Linked, chain-linked, linked-at, at-long, at-alpha}
 use Rattle.links.proofs.StoredLaws.{form-name}
-use Rattle.entries.specs.InPlace.{contains, ownerIndex, ownerOf, inPlace}
+use Rattle.entries.specs.InPlace.{ownerIndex, ownerOf, inPlace}
 use Rattle.entries.specs.Entry.{find, foundBlock, locatedIn, locate}
 use Rattle.entries.specs.Naming.{Naming, among, atFault}
 use Rattle.entries.specs.declared.find.Found.{Found}
@@ -27,8 +27,8 @@ use Rattle.entries.specs.declared.find.Found.the-variants.{Misplaced, Entry}
 use Rattle.entries.proofs.EntryLaws.{find-placed, placed-below}
 use Rattle.entries.proofs.OwnerLaws.{contains-is, is-contained, owner-inside, owner-contains, owner-only, below-end, owner-upto, owner-own, in-place-owner, need-active}
 use Rattle.calls.specs.declared.answer.Target.{Target}
-use Rattle.calls.specs.Call.{Call, Ream, Read, Write, Snap, Revert, Listing, Check, Visit, Given, NoneGiven, NameGiven}
-use Rattle.calls.specs.Parts.{descriptorsOf, snapshotsOf, targetOf, foundThrough, isMisplaced}
+use Rattle.calls.specs.Call.{Call, Ream, Read, Write, Snap, Revert, Listing, Check, Visit, NoneGiven, NameGiven}
+use Rattle.calls.specs.Parts.{descriptorsOf, targetOf, foundThrough, isMisplaced}
 use Rattle.calls.specs.Ladder.{firstRow, admission, readRows, visitRows}
 use Rattle.calls.specs.Effect.{visitOf, visitGiven}
 use Rattle.calls.specs.Meaning.{rowsOf, answerOf, storesOf, filledOf, lentOf, givenOf}
@@ -37,7 +37,7 @@ use Rattle.calls.proofs.Passed.{visit-passed}
 use Rattle.calls.proofs.RowLaws.{fresh, fresh-never}
 use Rattle.calls.proofs.CardLaws.{chain-is}
 use Rattle.calls.proofs.ActiveLaws.{chain-some, target-member}
-use Rattle.claims.specs.Visits.{InRegion, OwnerFound, OwnerClaim, atFaultBy, ByOwner, ByOwnerClaim, VisitGives, VisitClaim, isVisit, GivenClaim}
+use Rattle.claims.specs.Visits.{InRegion, OwnerFound, OwnerClaim, atFaultBy, ByOwnerClaim, VisitClaim, isVisit, GivenClaim}
 
 -- a card with a sound chain
 module _ (c : List ℕ) (sound : chainSound (chain c) ≡ true) where

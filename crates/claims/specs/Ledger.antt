@@ -6,7 +6,7 @@ use Prim.Native.Nat.{ℕ, zero, suc}
 use lib.ListN.{length, getD, set}
 use lib.Dec.{eqb, ltb, leb}
 use Rattle.blocks.specs.Pick.{pick, same}
-use Rattle.blocks.specs.Name.{isName, noName}
+use Rattle.blocks.specs.Name.{noName}
 use Rattle.blocks.specs.Descriptor.{revisionOf}
 use Rattle.blocks.specs.declared.descriptor.Descriptor.{Descriptor}
 use Rattle.chains.specs.Chain.{activeOf}

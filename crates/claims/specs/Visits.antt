@@ -16,11 +16,10 @@ use Rattle.chains.specs.Chain.{chain, chainSound, activeOf}
 use Rattle.entries.specs.InPlace.{ownerIndex, ownerOf, inPlace}
 use Rattle.entries.specs.Entry.{locate, need, needBy}
 use Rattle.entries.specs.Naming.{Naming, among, atFault}
-use Rattle.entries.specs.declared.find.Found.the-variants.{Misplaced, Entry}
+use Rattle.entries.specs.declared.find.Found.the-variants.{Entry}
 use Rattle.calls.specs.declared.answer.Target.{Target}
-use Rattle.calls.specs.Call.{Call, Ream, Read, Write, Snap, Revert, Listing, Check, Visit, Given, NoneGiven, NameGiven}
+use Rattle.calls.specs.Call.{Call, Ream, Read, Write, Snap, Revert, Listing, Check, Visit, NoneGiven, NameGiven}
 use Rattle.calls.specs.Parts.{descriptorsOf, targetOf, foundThrough}
-use Rattle.calls.specs.Effect.{nameGiven}
 use Rattle.calls.specs.Meaning.{answerOf}
 use Rattle.calls.specs.Step.{step, isAccepted}
 

@@ -6,7 +6,7 @@ use Prim.Native.Nat.{ℕ, _+_, _*_, _/_, _%_, _≤_, _<_, _^_}
 use native.Mathlib.Omega.{arith}
 use lib.ListN.{length}
 use lib.Dec.{eqb, ltb, leb}
-use borrow.Author.Tests.{eq-eqb, ne-eqb, not-true, not-false, ltb-true, eqb-true, eqb-false, le-ltb, ltb-false, leb-true}
+use borrow.Author.Tests.{eq-eqb, ne-eqb, not-true, ltb-true, eqb-true, eqb-false, le-ltb, ltb-false, leb-true}
 use Rattle.blocks.specs.Pick.{pick}
 use Rattle.blocks.specs.Bytes.{blockCount}
 use Rattle.blocks.specs.Descriptor.{physical, costOf, tableCount}
@@ -18,12 +18,12 @@ use Rattle.blocks.proofs.BoolLaws.{or-false-left, or-false-both, true-or, no}
 use Rattle.links.proofs.SoundLaws.{form-most}
 use Rattle.blocks.proofs.DescriptorLaws.{cost-least, cost-one}
 use Rattle.links.proofs.LinkedLaws.{at-alpha, at-long, at-end}
-use Rattle.entries.specs.InPlace.{isDescriptor, isTable, inPlaceAt, inPlace}
+use Rattle.entries.specs.InPlace.{isDescriptor, isTable, inPlace}
 use Rattle.entries.specs.Entry.{tableOf, entryAt, entryFound, find, tableIsNew, need}
 use Rattle.entries.specs.Through.{Through}
 use Rattle.entries.specs.declared.find.Found.{Found}
 use Rattle.entries.specs.declared.find.Found.the-variants.{Misplaced, Entry}
-use Rattle.entries.proofs.RegionLaws.{through-region, in-place-region}
+use Rattle.entries.proofs.RegionLaws.{through-region}
 
 module _ (c starts : List ℕ) (count : ℕ) (d : Descriptor) (t : Through c starts count d) where
   abbrev ds : List Descriptor

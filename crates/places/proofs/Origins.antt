@@ -1,9 +1,9 @@
 -- A visit names the region in which the version that a read gives was last written, over whole lists of calls from a format.
 use mathlib.Core.Path.{_≡_, refl, sym, ap, _∙_, subst}
 use mathlib.Core.Logic.{_↔_}
-use mathlib.Core.Bool.{Bool, true, false, not, _&&_}
+use mathlib.Core.Bool.{Bool, true, false, _&&_}
 use mathlib.Core.List.{List, [], _∷_, _++_}
-use Prim.Native.Nat.{ℕ, zero, suc, _<_}
+use Prim.Native.Nat.{ℕ, zero, suc}
 use native.Mathlib.Omega.{arith}
 use lib.ListN.{length, getD, replicate}
 use lib.Seq.{take-length}
@@ -11,17 +11,14 @@ use lib.Dec.{eqb}
 use Rattle.blocks.specs.Pick.{pick}
 use Rattle.blocks.specs.Bytes.{blockCount}
 use Rattle.blocks.specs.Name.{noName}
-use Rattle.blocks.specs.Descriptor.{noDescriptor}
 use Rattle.blocks.specs.declared.descriptor.Descriptor.{Descriptor}
 use Rattle.blocks.specs.declared.descriptor.Format.{Format}
-use Rattle.blocks.proofs.BoolLaws.{no}
-use Rattle.chains.specs.Chain.{named, activeOf}
 use Rattle.entries.specs.InPlace.{ownerIndex, ownerOf}
 use Rattle.entries.specs.Entry.{find, foundBlock, locatedIn}
 use Rattle.calls.specs.declared.answer.Target.{Target}
 use Rattle.calls.specs.declared.answer.Target.the-variants.{Active, Snapshot}
 use Rattle.calls.specs.Call.{Call, Read, Visit, Block, Given, NoneGiven, NameGiven}
-use Rattle.calls.specs.Parts.{descriptorsOf, snapshotsOf, isSnapshot, targetOf, foundThrough, blockFound}
+use Rattle.calls.specs.Parts.{descriptorsOf, targetOf, foundThrough}
 use Rattle.calls.specs.Check.{Passes}
 use Rattle.calls.specs.Effect.{visitOf}
 use Rattle.calls.specs.Meaning.{answerOf, filledOf}
@@ -29,10 +26,10 @@ use Rattle.calls.specs.Step.{step, after, isAccepted}
 use Rattle.calls.proofs.Passed.{ReadPassed, read-passed, visit-passed}
 use Rattle.claims.specs.Kinds.{kindOf}
 use Rattle.claims.specs.History.{Position, Nowhere, At, Standing, none, more, formats, isReam, isFormat, formatted}
-use Rattle.claims.specs.Ledger.{VolumeOf, LedgerOf, changeBy, volumeNamed, volumeRead, namesFrom, ledgerNames}
+use Rattle.claims.specs.Ledger.{volumeNamed, volumeRead, namesFrom, ledgerNames}
 use Rattle.claims.proofs.Runs.{standing-length, step-length}
 use Rattle.claims.proofs.Visits.{given-is}
-use Rattle.places.specs.Placed.{Cell, Nil, PlacedVolume, Placed, homeOf, contentOf, cellsBy, volumeBy, volumesBy, ledgerBy, volumeIndex, noPlaces, volumesIn, opened, firstPlaced, placedStep, placedAfter, placedTarget, originOf, nameAt, cellFound, cellPlace, placedVolume, placedOf, PlacedClaim, PlacedRunClaim, PlacedOriginClaim}
+use Rattle.places.specs.Placed.{Cell, Nil, PlacedVolume, Placed, homeOf, contentOf, cellsBy, volumeBy, volumesBy, volumeIndex, noPlaces, firstPlaced, placedStep, placedAfter, placedTarget, originOf, nameAt, cellFound, cellPlace, placedVolume, placedOf, PlacedClaim, PlacedRunClaim, PlacedOriginClaim}
 use Rattle.places.specs.Origins.{Origins, firstOrigins, originsStep, originsAfter, originRead, regionName, visitIn, originsOf, LastWritten, LastWrittenClaim}
 use Rattle.places.proofs.PlacedForget.{content-found, by-change, by-named}
 use Rattle.places.proofs.PlacedLaws.{values-first}
@@ -146,7 +143,7 @@ module _ (c : List ℕ) (passing : Passes c) (target : Target) (name : List ℕ)
   read-gives block ok =
       let shown = read-passed c target name l block ok in
       let cell : getD (placedTarget (placedOf c) target name .cells) l Nil ≡ cellFound c ds (foundThrough c d l) =
-        ap (λ (v : PlacedVolume). getD (v .cells) l Nil) (target-is c (passing .sound) target name (shown .there)) ∙ values-first (cellPlace c d) (d .volume) l Nil (below c (passing .sound) target name l (shown .there) (shown .below)) in (
+      ap (λ (v : PlacedVolume). getD (v .cells) l Nil) (target-is c (passing .sound) target name (shown .there)) ∙ values-first (cellPlace c d) (d .volume) l Nil (below c (passing .sound) target name l (shown .there) (shown .below)) in (
         rw ok (ap Block (sym (ap contentOf cell ∙ content-found c ds (foundThrough c d l)))),
         read-origin (placedOf c) target name l,
       )

@@ -16,7 +16,7 @@ use Rattle.calls.specs.Parts.{descriptorsOf, snapshotsOf, foundThrough, blockFo
 use Rattle.calls.specs.Effect.{staying}
 use Rattle.claims.specs.Kinds.{Kind, Formats, Leaves, Writes, Snaps, Reverts}
 use Rattle.claims.specs.History.{formats}
-use Rattle.claims.specs.Ledger.{VolumeOf, Volume, volumeNamed, volumesKept, cellsFrom, volumeOf, volumesOf, ledgerOf, changeBy, ledgerChange}
+use Rattle.claims.specs.Ledger.{VolumeOf, volumeNamed, volumesKept, cellsFrom, volumeOf, volumesOf, ledgerOf, changeBy, ledgerChange}
 use Rattle.places.specs.Placed.{Cell, Nil, Held, PlacedVolume, Placed, contentOf, cellsBy, volumeBy, volumesBy, ledgerBy, forget, volumeIndex, noPlaces, namedVolume, placedWrite, placedOpening, placedActive, placedChange, valuesFrom, cellFound, cellPlace, placedVolume, placedVolumes, placedOf, ForgetClaim, ForgetStepClaim}
 
 -- of a card

@@ -1,6 +1,5 @@
 -- The parts of a card's Placed: lists of values, the volumes of descriptors, the place of a table block and the cell of an entry; and the same volume on two cards.
 use mathlib.Core.Path.{_≡_, refl, sym, ap, _∙_, subst}
-use mathlib.Core.Logic.{_↔_}
 use mathlib.Core.Bool.{Bool, true, false, _||_}
 use mathlib.Core.List.{List, [], _∷_, _++_}
 use Prim.Native.Nat.{ℕ, zero, suc, _+_, _*_, _-_, _≤_, _<_}
@@ -16,9 +15,9 @@ use Rattle.blocks.specs.declared.descriptor.Descriptor.{Descriptor}
 use Rattle.blocks.proofs.StoreLists.{Whole, isStored, stored-length, stored-other}
 use Rattle.chains.specs.Chain.{Sound, chain, descriptors, activeOf, indexOf}
 use Rattle.links.proofs.ChainLaws.{region-layout}
-use Rattle.links.proofs.LinkedLaws.{RegionAt, regionStart, active-at, at-alpha}
+use Rattle.links.proofs.LinkedLaws.{Linked, RegionAt, regionStart, active-at}
 use Rattle.links.proofs.SharedLaws.{Below}
-use Rattle.entries.specs.InPlace.{inPlace, contains, ownerIndex}
+use Rattle.entries.specs.InPlace.{inPlace, ownerIndex}
 use Rattle.entries.specs.Entry.{phiAt, tableOf, find}
 use Rattle.entries.specs.Rules.{entryOf, Rules}
 use Rattle.entries.proofs.EntryLaws.{placed-below}
@@ -29,7 +28,8 @@ use Rattle.calls.specs.Parts.{descriptorsOf, snapshotsOf}
 use Rattle.calls.proofs.ActiveLaws.{chain-starts, chain-some, region-at, region-below, volume-at, active-last}
 use Rattle.claims.specs.History.{Position, Nowhere, At}
 use Rattle.places.specs.Placed.{Cell, Nil, Held, PlacedVolume, Placed, homeOf, volumeIndex, noPlaces, volumesIn, opened, placeOf, cellFound, tablePlace, cellPlace, valuesFrom, placedVolume, placedVolumes, placedOf}
-use Rattle.places.proofs.OwnerLaws.{contains-from, contains-until, owner-contains, owner-is, owner-before, owner-front}
+use Rattle.entries.proofs.OwnerLaws.{is-contained, owner-only, below-end, owner-upto}
+use Rattle.places.proofs.OwnerLaws.{owner-front}
 
 -- lists of values
 values-at : {A : Type 0} (f : ℕ → A) (n i j : ℕ) (z : A) → j < n → getD (valuesFrom f n i) j z ≡ f (i + j)
@@ -180,21 +180,11 @@ module _ (c : List ℕ) (ds : List Descriptor) (sound-c : chain c ≡ Sound ds) 
   abbrev at : RegionAt c (regionStart 0 ds k) (regionStart 0 ds (suc k)) (getD ds k noDescriptor)
   at = region-at c ds sound-c k in-chain
 
+  abbrev linked : Linked c [] 0 ds
+  linked = chain-starts c ds sound-c
+
   pub owner-at : (q : ℕ) → getD ds k noDescriptor .alpha .0 ≤ q → q < getD ds k noDescriptor .beta .0 → ownerIndex ds q ≡ k
-  owner-at q a b = owner-is q (chain-starts c ds sound-c) k in-chain (omega (arith, a, at-alpha c _ _ _ at)) (omega (arith, b, at .beta))
-
-  -- a block is in region k exactly where that contains it
-  pub owner-exact : (q : ℕ) → (ownerIndex ds q ≡ k) ↔ (contains (getD ds k noDescriptor) q ≡ true)
-  owner-exact q = (
-    λ e. subst (λ (n : ℕ). contains (getD ds n noDescriptor) q ≡ true) e (owner-contains ds q (omega (arith, e, in-chain))),
-    λ e. owner-at q (contains-from (getD ds k noDescriptor) q e) (contains-until (getD ds k noDescriptor) q e),
-  )
-
-  pub owner-upto : (q : ℕ) → q < getD ds k noDescriptor .beta .0 → ownerIndex ds q ≤ k
-  owner-upto q b = omega (arith, owner-before q (chain-starts c ds sound-c) (suc k) in-chain (omega arith) (omega (arith, b, at .beta)))
-
-  pub owner-below : (q : ℕ) → q < getD ds k noDescriptor .alpha .0 → ownerIndex ds q < k
-  owner-below q b = owner-before q (chain-starts c ds sound-c) k (omega (arith, in-chain)) (omega arith) (omega (arith, b, at-alpha c _ _ _ at))
+  owner-at q a b = owner-only c ds linked q (below-end c ds linked k in-chain q b) k in-chain (is-contained (getD ds k noDescriptor) q a b)
 
   -- layout and c are one for all
   pub layout-at : getD ds k noDescriptor .layout ≡ activeOf ds .layout
@@ -230,7 +220,7 @@ same-owners c ds es xs x y ys zs sound-c split after alpha beta q h =
     let in-chain : length xs < length ds = omega (arith, ap length split, length-append xs (x ∷ ys)) in
     let is : getD ds (length xs) noDescriptor ≡ x = ap (λ (l : List Descriptor). getD l (length xs) noDescriptor) split ∙ getD-append-seam xs x ys noDescriptor in
     let low : q < getD ds (length xs) noDescriptor .beta .0 = subst (λ (d : Descriptor). q < d .beta .0) (sym is) h in
-    let upto : ownerIndex (xs ++ (x ∷ ys)) q ≤ length xs = subst (λ (l : List Descriptor). ownerIndex l q ≤ length xs) split (owner-upto c ds sound-c (length xs) in-chain q low) in
+    let upto : ownerIndex (xs ++ (x ∷ ys)) q ≤ length xs = subst (λ (l : List Descriptor). ownerIndex l q ≤ length xs) split (owner-upto c ds (chain-starts c ds sound-c) (length xs) in-chain q low) in
     ap (λ (l : List Descriptor). ownerIndex l q) after ∙ owner-front xs x y ys zs q alpha (omega (arith, h, beta)) upto ∙ ap (λ (l : List Descriptor). ownerIndex l q) (sym split)
 
 -- Two cards: a descriptor d of the first, whose region lies below b, and e of the second, with the same layout and L. The owners of the blocks below b are the

@@ -1,12 +1,12 @@
 -- The need by places is that of the card.
-use mathlib.Core.Path.{_≡_, refl, sym, ap, _∙_}
+use mathlib.Core.Path.{_≡_, refl, sym, ap, _∙_, subst}
 use mathlib.Core.Bool.{Bool, true, false, not, _&&_, _||_}
 use mathlib.Core.List.{List, [], _∷_}
 use Prim.Native.Nat.{ℕ, suc, _-_, _/_, _<_}
 use native.Mathlib.Omega.{arith}
 use lib.ListN.{length, getD, length-append}
 use lib.Dec.{eqb, ltb, leb}
-use borrow.Author.Tests.{eq-eqb, ne-eqb, eqb-true, eqb-false, lt-ltb, le-ltb, leb-true, leb-false}
+use borrow.Author.Tests.{eqb-true, eqb-false, lt-ltb, le-ltb, leb-true, leb-false}
 use Rattle.blocks.specs.Pick.{pick}
 use Rattle.blocks.specs.Bytes.{blockAt}
 use Rattle.blocks.specs.Descriptor.{tableCount, noDescriptor}
@@ -25,10 +25,11 @@ use Rattle.entries.proofs.TableLaws.{group-below}
 use Rattle.entries.proofs.LocalLaws.{Region}
 use Rattle.calls.specs.Parts.{descriptorsOf, snapshotsOf, foundThrough, isMisplaced}
 use Rattle.calls.proofs.CardLaws.{chain-is}
-use Rattle.calls.proofs.ActiveLaws.{chain-some, active-last}
+use Rattle.calls.proofs.ActiveLaws.{chain-starts, chain-some, active-last}
 use Rattle.claims.specs.History.{Nowhere, At}
 use Rattle.places.specs.Placed.{Nil, Held, homeOf, isAt, placedNeed, placeOf, cellFound, tablePlace, cellPlace, placedVolume, placedOf, PlacedNeedClaim}
-use Rattle.places.proofs.PlacedLaws.{values-first, placed-length, owner-at, owner-below, active-region}
+use Rattle.entries.proofs.OwnerLaws.{owner-own}
+use Rattle.places.proofs.PlacedLaws.{values-first, placed-length, active-region}
 
 module _ (c : List ℕ) (sound : chainSound (chain c) ≡ true) where
   abbrev ds : List Descriptor
@@ -58,13 +59,9 @@ module _ (c : List ℕ) (sound : chainSound (chain c) ≡ true) where
   region = active-region c ds sound-c
 
   -- a block of the active region, or of an earlier one
-  own-by : (q : ℕ) (b : Bool) → leb (d .alpha .0) q ≡ b → q < d .beta .0 → eqb (ownerIndex ds q) t ≡ b
-  own-by q true e h =
-      eq-eqb _ t (owner-at c ds sound-c t in-chain q (omega (arith, leb-true (d .alpha .0) q e, ap (λ (x : Descriptor). x .alpha .0) active-is)) (omega (arith, h, ap (λ (x : Descriptor). x .beta .0) active-is)))
-  own-by q false e h = ne-eqb _ t (λ r. omega (arith, r, owner-below c ds sound-c t in-chain q (omega (arith, leb-false (d .alpha .0) q e, ap (λ (x : Descriptor). x .alpha .0) active-is))))
-
   owner-active : (q : ℕ) → q < d .beta .0 → eqb (ownerIndex ds q) t ≡ leb (d .alpha .0) q
-  owner-active q h = own-by q (leb (d .alpha .0) q) refl h
+  owner-active q h =
+      subst (λ (x : Descriptor). q < x .beta .0 → eqb (ownerIndex ds q) t ≡ leb (x .alpha .0) q) active-is (owner-own c ds (chain-starts c ds sound-c) t in-chain q) h
 
   module _ (l : ℕ) (inside : l < d .volume) (m p : Physical) (is : foundThrough c d l ≡ Entry m p) where
     -- the table block of an entry that was found is below beta

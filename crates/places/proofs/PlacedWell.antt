@@ -6,7 +6,7 @@ use Prim.Native.Nat.{ℕ, suc, _/_, _%_, _≤_, _<_}
 use native.Mathlib.Omega.{arith}
 use lib.ListN.{length, getD}
 use lib.Dec.{eqb}
-use borrow.Author.Tests.{ne-eqb, eqb-false}
+use borrow.Author.Tests.{eq-eqb, ne-eqb, eqb-false, leb-true}
 use Rattle.blocks.specs.Pick.{pick}
 use Rattle.blocks.specs.Bytes.{blockAt}
 use Rattle.blocks.specs.Descriptor.{tableCount, noDescriptor}
@@ -23,11 +23,11 @@ use Rattle.entries.proofs.TableLaws.{table-own, layout-two, group-below}
 use Rattle.calls.specs.Parts.{descriptorsOf}
 use Rattle.calls.specs.Check.{Passes}
 use Rattle.calls.proofs.CardLaws.{chain-is}
-use Rattle.calls.proofs.ActiveLaws.{region-at, region-below}
+use Rattle.calls.proofs.ActiveLaws.{chain-starts, region-at, region-below}
 use Rattle.claims.specs.History.{Nowhere, At}
 use Rattle.places.specs.Placed.{Nil, PlacedVolume, homeOf, volumesIn, noPlaces, placeOf, tablePlace, cellPlace, placedVolume, placedOf, WellPlaced, WellPlacedClaim}
-use Rattle.places.proofs.OwnerLaws.{contains-from}
-use Rattle.places.proofs.PlacedLaws.{values-first, values-length, placed-length, volumes-are, volumes-get, home-by, cell-rules, table-under, owner-at, owner-upto, owner-exact, cost-at}
+use Rattle.entries.proofs.OwnerLaws.{owner-own, owner-upto}
+use Rattle.places.proofs.PlacedLaws.{values-first, values-length, placed-length, volumes-are, volumes-get, home-by, cell-rules, table-under, owner-at, cost-at}
 
 -- a place that is set
 at-is : (i j : ℕ) → At i ≡ At j → i ≡ j
@@ -73,8 +73,8 @@ module _ (c : List ℕ) (p : Passes c) where
     layout = form-layout c _ d (r .form)
 
     -- a block that region k contains is at or above its alpha
-    above : (q : ℕ) → ownerIndex ds q ≡ k → d .alpha .0 ≤ q
-    above q e = contains-from d q (owner-exact c ds sound-c k h q .0 e)
+    above : (q : ℕ) → q < d .beta .0 → ownerIndex ds q ≡ k → d .alpha .0 ≤ q
+    above q b e = leb-true (d .alpha .0) q (sym (owner-own c ds (chain-starts c ds sound-c) k h q b) ∙ eq-eqb (ownerIndex ds q) k e)
 
     -- tables and cells by their blocks
     long-cells : length (v .cells) ≡ d .volume
@@ -121,7 +121,7 @@ module _ (c : List ℕ) (p : Passes c) where
     own-table l b e =
         let s = cell-set l k b e in
         let q = tableOf c d (l / 128) in
-        let a = table-from l b (s .0) (above (entryOf c d l) (s .1)) (eqb (d .layout) 1) refl in
+        let a = table-from l b (s .0) (above (entryOf c d l) (low l b (s .0)) (s .1)) (eqb (d .layout) 1) refl in
         table-set l b (s .0) ∙ ap At (owner-at c ds sound-c k h q a (table-until (l / 128) (group-below l (d .volume) b) (some-table l (s .0))))
 
     well : WellPlaced (placedOf c) k v
@@ -131,11 +131,11 @@ module _ (c : List ℕ) (p : Passes c) where
           cells-upto = λ l i b e.
               let m : l < d .volume = omega (arith, b, long-cells) in
               let s = cell-set l i m e in
-              omega (arith, owner-upto c ds sound-c k h (entryOf c d l) (low l m (s .0)), s .1);
+              omega (arith, owner-upto c ds (chain-starts c ds sound-c) k h (entryOf c d l) (low l m (s .0)), s .1);
           tables-upto = λ g i b e.
               let m : g < tableCount (d .volume) = omega (arith, b, long-tables) in
               let s = place-is _ i (eqb (tableOf c d g) 0) (sym (table-is g m) ∙ e) in
-              omega (arith, owner-upto c ds sound-c k h (tableOf c d g) (table-until g m (eqb-false _ 0 (s .0))), s .1);
+              omega (arith, owner-upto c ds (chain-starts c ds sound-c) k h (tableOf c d g) (table-until g m (eqb-false _ 0 (s .0))), s .1);
           table-set = λ l i b e z.
               let m : l < d .volume = omega (arith, b, long-cells) in
               nowhere-not _ (sym z ∙ table-set l m (cell-set l i m e .0));
