@@ -4,7 +4,7 @@ use mathlib.Core.List.{map}
 use Prim.Native.Nat.{ℕ}
 use native.Mathlib.Omega.{arith}
 use lib.ListN.{getD}
-use Rattle.claims.specs.Bench.{Shown, Only, Beta, Bytes, Result, values, expected, computed, showing, blockOf, WrongValues}
+use Rattle.claims.specs.Bench.{Shown, Only, Beta, Bytes, Named, Result, values, expected, computed, showing, blockOf, WrongValues}
 use Rattle.claims.proofs.Running.{running}
 
 pub bench-values : map computed values ≡ map expected values
@@ -19,11 +19,19 @@ unfoldable pub betaIn : Shown → ℕ
 betaIn Only = 0
 betaIn (Beta n) = n
 betaIn (Bytes b) = 0
+betaIn (Named n) = 0
 
 unfoldable pub lastByteIn : Shown → ℕ
 lastByteIn Only = 0
 lastByteIn (Beta n) = 0
 lastByteIn (Bytes b) = getD b 511 0
+lastByteIn (Named n) = 0
+
+unfoldable pub firstLetterIn : Shown → ℕ
+firstLetterIn Only = 0
+firstLetterIn (Beta n) = 0
+firstLetterIn (Bytes b) = 0
+firstLetterIn (Named n) = getD n 0 0
 
 pub wrong-values : WrongValues
 unfolding running WrongValues expected computed showing blockOf betaIn lastByteIn

@@ -9,15 +9,17 @@ use Rattle.calls.specs.declared.answer.Answer.{Answer}
 use Rattle.calls.specs.declared.answer.Record.{Record}
 use Rattle.calls.specs.declared.answer.Target.the-variants.{Active}
 use Rattle.calls.specs.Call.{Call, Ream, Read, Write, Snap, Revert, Listing, Lent, None, Block, Records, answer}
+use Rattle.calls.specs.Effect.{nameGiven}
 use Rattle.calls.specs.Step.{Done, step}
 use Rattle.claims.specs.History.{betaOf, formatted}
 use Rattle.blocks.specs.Descriptor.{physical, asFormat}
 
--- what a value says besides number and place: nothing, the card's beta after the call, or the block that was read
+-- what a value says besides number and place: nothing, the card's beta after the call, the block that was read, or the name that was given, sixteen zeros for none
 pub data Shown : Type 0 where
   Only : Shown
   Beta : ℕ → Shown
   Bytes : List ℕ → Shown
+  Named : List ℕ → Shown
 
 -- a value: the card, the call on it, what it answers and shows
 pub record Value : Type 0 where
@@ -36,6 +38,7 @@ unfoldable pub showing : Shown → Done → Shown
 showing Only d = Only
 showing (Beta n) d = Beta (betaOf (d .card))
 showing (Bytes b) d = Bytes (blockOf (d .outcome .lent))
+showing (Named n) d = Named (nameGiven (d .outcome .given))
 
 pub record Result : Type 0 where
   pub answer : Answer

@@ -7,8 +7,8 @@ use Rattle.blocks.specs.Name.{padded, noName}
 use Rattle.blocks.specs.Descriptor.{physical, tailSize, descriptorBlock}
 use Rattle.blocks.specs.declared.descriptor.Descriptor.{Descriptor}
 use Rattle.calls.specs.declared.answer.Target.the-variants.{Active, Snapshot}
-use Rattle.calls.specs.Call.{Call, Read, answer}
-use Rattle.claims.specs.Bench.{Only, Beta, Bytes, Value, ones, fs, mon, tue, lent}
+use Rattle.calls.specs.Call.{Call, Read, Visit, answer}
+use Rattle.claims.specs.Bench.{Only, Beta, Bytes, Named, Value, ones, fs, mon, tue, lent}
 
 -- a descriptor by its numbers
 abbrev pub descriptor : ℕ → ℕ → ℕ → ℕ → ℕ → List ℕ → Descriptor
@@ -219,6 +219,38 @@ lastEntry volume = bare (descriptor 1 volume 0 3 0 fs) ++ tableEnd 2 ++ ones
 
 abbrev pub lastPhi : ℕ → List ℕ
 lastPhi volume = withTailByte 468 (descriptor 2 volume 0 3 0 fs) ++ table 2 0 ++ ones
+
+-- a descriptor's block with its revision and the first entry of Phi
+abbrev pub phiOf : ℕ → Descriptor → ℕ → List ℕ
+phiOf revision d m = descriptorBlock d (le32 revision ++ replicate 20 0 ++ le32 m ++ replicate 444 0)
+
+-- nine blocks of a revision, layout 2, L 2: the snapshot mon from block 0 on, with its table block 2, which has two entries, between two data blocks; the active store
+-- from block 4 on, with the first entry of its Phi, a table block 5 with two entries and two data blocks; block 8 is free
+abbrev pub dated : ℕ → ℕ → ℕ → ℕ → ℕ → ℕ → List ℕ
+dated revision a b m p q =
+    phiOf revision (descriptor 2 2 0 4 4 mon) 2 ++ ones ++ table a b ++ ones
+    ++ phiOf revision (descriptor 2 2 4 8 0 fs) m ++ table p q ++ lent ++ lent
+    ++ zeroBlock
+
+-- the same in layout 1, with table block 1 between descriptor and data, and table block 5 after the descriptor in block 4
+abbrev pub dated1 : ℕ → ℕ → ℕ → List ℕ
+dated1 revision p q =
+    ofRevision revision (descriptor 1 2 0 4 4 mon) ++ table 2 3 ++ ones ++ ones
+    ++ ofRevision revision (descriptor 1 2 4 8 0 fs) ++ table p q ++ lent ++ lent
+    ++ zeroBlock
+
+-- a visit of the active store; of a snapshot; a value that shows the name given; a refusal, which gives none
+abbrev pub visiting : ℕ → Call
+visiting l = Visit Active noName l
+
+abbrev pub visitingFrom : List ℕ → ℕ → Call
+visitingFrom name l = Visit Snapshot name l
+
+abbrev pub naming : List ℕ → Call → List ℕ → Value
+naming card call name = record { card = card; call = call; answer = answer 0 0; shown = Named name }
+
+abbrev pub namingNone : List ℕ → Call → ℕ → ℕ → Value
+namingNone card call number place = record { card = card; call = call; answer = answer number place; shown = Named noName }
 
 abbrev pub reading : ℕ → Call
 reading l = Read Active noName l lent

@@ -1,0 +1,2 @@
+-- Values of a visit.
+pub mod Visits
