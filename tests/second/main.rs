@@ -10,6 +10,7 @@ mod edges;
 mod ledger;
 mod make;
 mod numbers;
+mod origins;
 mod program;
 mod reserved;
 mod rng;
