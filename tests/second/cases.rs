@@ -21,7 +21,7 @@ pub struct Step {
     /// The name that a visit gives; zeros for none, and for every other call.
     visit: Name,
     /// Numbers that are put on the card before the call, by block and byte.
-    put: Vec<(usize, usize, u32)>,
+    pub put: Vec<(usize, usize, u32)>,
     /// Blocks of the card after the call.
     stored: Vec<(usize, Vec<u8>)>,
     /// So many blocks at the card's start are as they were before the call.

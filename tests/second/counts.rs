@@ -1,6 +1,7 @@
 //! Counts of answers, by the row of a table and by the answer's number; of accepted reverts; and
 //! of accepted visits.
 
+use crate::store::Name;
 use std::collections::BTreeMap;
 
 /// From how many random lists on all that can arise must have arisen.
@@ -130,6 +131,17 @@ pub enum Dated {
     Own,
     /// One before it.
     Older,
+}
+
+impl Dated {
+    /// What the name given is to a target of this name.
+    pub fn of(given: &Name, target: &Name) -> Dated {
+        match *given == Name::default() {
+            true => Dated::Never,
+            false if given == target => Dated::Own,
+            false => Dated::Older,
+        }
+    }
 }
 
 /// Accepted visits by what they name, each count for the active volume and for snapshots.

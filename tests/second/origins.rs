@@ -3,7 +3,6 @@
 //! either: a region is its place among the regions, and its name is the one that it has now.
 
 use crate::call::Call;
-use crate::counts::Dated;
 use crate::rng::Rng;
 use crate::store::{padded, Logical, Name, Target};
 
@@ -33,12 +32,7 @@ impl Origins {
     /// The origins after a call that was accepted.
     pub fn step(&mut self, call: &Call) -> Result<(), String> {
         match call {
-            Call::Ream {
-                volume,
-                revision,
-                name,
-                ..
-            } => *self = Origins::new(name, *volume, *revision),
+            Call::Ream { .. } => return Err("a format begins new origins".to_string()),
             // The active region comes after those of the frozen volumes.
             Call::Write { logical, .. } => {
                 self.active[logical.0 as usize] = Some(self.frozen.len() as u8);
@@ -58,18 +52,23 @@ impl Origins {
         self.frozen.iter().position(|pair| pair.0 == name)
     }
 
-    /// Visits of every target, about `most` of them and two of each at least: of all blocks where
-    /// they are so few, else mostly of the blocks given, which are those in use.
+    /// About `most` visits, shared out among the targets, some of them left out where they are
+    /// more: of all blocks where these are so few, else mostly of those given, which are in use.
     pub fn visits(&self, rng: &mut Rng, used: &[u64], most: u64) -> Vec<(Target, Logical)> {
         let volume = self.active.len() as u64;
-        let snapshots = self.frozen.iter();
-        let targets = snapshots.map(|pair| Target::Snapshot(pair.0.clone()));
-        let each = (most / (self.frozen.len() as u64 + 1)).max(2);
+        let snapshots = self.frozen.len() as u64;
+        let each = (most / (snapshots + 1)).clamp(1, volume);
+        let mut targets = vec![Target::Active];
+        for (name, _) in &self.frozen {
+            if rng.below(snapshots) < most {
+                targets.push(Target::Snapshot(name.clone()));
+            }
+        }
         let mut visits = Vec::new();
-        for target in targets.chain([Target::Active]) {
-            for k in 0..each.min(volume) {
+        for target in targets {
+            for k in 0..each {
                 let block = match rng.below(4) {
-                    _ if volume <= each => k,
+                    _ if each == volume => k,
                     0 => rng.below(volume),
                     _ => *rng.pick(used) % volume,
                 };
@@ -79,23 +78,16 @@ impl Origins {
         visits
     }
 
-    /// The place of the target's own region and that of the block's origin.
-    fn places(&self, target: &Target, logical: Logical) -> Result<(usize, Option<u8>), String> {
-        let own = match target {
-            Target::Active => self.frozen.len(),
-            Target::Snapshot(name) => self.position(name).ok_or("no such origins")?,
-        };
-        let blocks = match self.frozen.get(own) {
-            Some(pair) => &pair.1,
-            None => &self.active,
-        };
-        let block = blocks.get(logical.0 as usize).ok_or("no such block")?;
-        Ok((own, *block))
-    }
-
     /// The name that a visit of the target gives, zeros for none.
     pub fn name(&self, target: &Target, logical: Logical) -> Result<Name, String> {
-        let (_, place) = self.places(target, logical)?;
+        let blocks = match target {
+            Target::Active => &self.active,
+            Target::Snapshot(name) => {
+                let position = self.position(name).ok_or("no such origins")?;
+                &self.frozen[position].1
+            }
+        };
+        let place = blocks.get(logical.0 as usize).ok_or("no such block")?;
         Ok(
             match place.map(|place| self.frozen.get(usize::from(place))) {
                 None => Name::default(),
@@ -103,15 +95,5 @@ impl Origins {
                 Some(None) => padded(&self.name),
             },
         )
-    }
-
-    /// What that name is to the target.
-    pub fn dated(&self, target: &Target, logical: Logical) -> Result<Dated, String> {
-        let (own, place) = self.places(target, logical)?;
-        Ok(match place {
-            None => Dated::Never,
-            Some(place) if usize::from(place) == own => Dated::Own,
-            Some(_) => Dated::Older,
-        })
     }
 }

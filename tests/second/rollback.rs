@@ -5,7 +5,7 @@
 //! revisions, and some lists start from a card in use.
 
 use crate::call::{carry_out, Call, Said, KINDS};
-use crate::counts::{all_met, Counts, Reverts, Visits, ENOUGH};
+use crate::counts::{all_met, Counts, Dated, Reverts, Visits, ENOUGH};
 use crate::ledger::{Ledger, Word};
 use crate::numbers::*;
 use crate::origins::Origins;
@@ -17,9 +17,10 @@ use crate::Count;
 /// The weight of snaps in a list that is to meet 13.
 const MANY_SNAPS: u64 = 4_000;
 
-/// About how many visits are held against the origins after a revert, and at the end of a list.
+/// About how many visits are held against the origins after a revert, and at the end of a list,
+/// where it is at least one of every target.
 const AFTER_REVERT: u64 = 20;
-const AT_END: u64 = 400;
+const AT_END: u64 = 300;
 
 /// What the lists held, by kind of call and number.
 #[derive(Default)]
@@ -229,7 +230,7 @@ impl Run {
         Ok(())
     }
 
-    /// Holds about `most` visits of every target against the origins.
+    /// Holds about `most` visits against the origins.
     fn beside_origins(&mut self, most: u64, summary: &mut Summary) -> Result<(), String> {
         for (target, logical) in self.origins.visits(&mut self.rng, &self.hot, most) {
             let (answer, name) = store::visit(&self.card, &target, logical);
@@ -358,10 +359,12 @@ impl Run {
             }
             Call::Visit { target, logical } if number == 0 => {
                 visit = self.expected_visit(target, *logical)?;
-                let snapshot = *target != Target::Active;
-                summary
-                    .visits
-                    .add(snapshot, self.origins.dated(target, *logical)?);
+                let (snapshot, own) = match target {
+                    Target::Active => (false, &b"fs"[..]),
+                    Target::Snapshot(name) => (true, &name[..]),
+                };
+                let dated = Dated::of(&visit, &store::padded(own));
+                summary.visits.add(snapshot, dated);
                 summary.names += 1;
             }
             _ => {}
