@@ -2,7 +2,7 @@
 //! gives. No store has a part in what is said here. Those of document 02's revisions stand here.
 
 use crate::call::{Call, Said};
-use crate::store::{Answer, Logical, Name, Record, Target, NOTHING};
+use crate::store::{shown, Answer, Logical, Name, Record, Target, NOTHING};
 
 /// Calls in order on a card of so many blocks. What the blocks hold before does not matter.
 pub struct Case {
@@ -184,7 +184,7 @@ impl Step {
             return Err(format!("record {at} is another"));
         }
         if said.visit != self.visit {
-            let names = (said.visit.escape_ascii(), self.visit.escape_ascii());
+            let names = (shown(&said.visit), shown(&self.visit));
             return Err(format!("the name {} and not {}", names.0, names.1));
         }
         let kept = match self.answer.number {

@@ -170,8 +170,10 @@ fn beside_read(
         false => Some(Name::default()),
     };
     if said.0 != read || Some(said.1) != name {
+        let names = (store::shown(&said.1), name.map(|name| store::shown(&name)));
         return Err(format!(
-            "{said:?} where a read has {read:?}, and reckoned {name:?}"
+            "visit: {:?}, {} where a read has {read:?}, and {:?} is reckoned",
+            said.0, names.0, names.1
         ));
     }
     if read == store::ACCEPTED && said.1 == Name::default() && block != [0; BLOCK] {

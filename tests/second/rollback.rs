@@ -235,10 +235,12 @@ impl Run {
         for (target, logical) in self.origins.visits(&mut self.rng, &self.hot, most) {
             let (answer, name) = store::visit(&self.card, &target, logical);
             let expected = self.expected_visit(&target, logical)?;
-            if answer != store::ACCEPTED || name.unwrap_or_default() != expected {
-                let words = name.map(|name| name.escape_ascii().to_string());
+            let name = name.unwrap_or_default();
+            if answer != store::ACCEPTED || name != expected {
+                let names = (store::shown(&name), store::shown(&expected));
                 return Err(format!(
-                    "{answer:?} and {words:?} of {target:?}, {logical:?}"
+                    "visit of {target:?}, {logical:?}: {answer:?}, {} and not {}",
+                    names.0, names.1
                 ));
             }
             summary.names += 1;
@@ -373,7 +375,7 @@ impl Run {
             return Err("the list is not the ledger's".to_string());
         }
         if said.visit != visit {
-            let names = (said.visit.escape_ascii(), visit.escape_ascii());
+            let names = (store::shown(&said.visit), store::shown(&visit));
             return Err(format!("the name {} and not {}", names.0, names.1));
         }
         match number {

@@ -129,6 +129,11 @@ pub fn unpadded(name: &Name) -> &[u8] {
     &name[..length]
 }
 
+/// A name, or none by zeros, as it is shown where it is not the expected one.
+pub fn shown(name: &Name) -> String {
+    format!("\"{}\"", unpadded(name).escape_ascii())
+}
+
 /// Whether sixteen stored bytes are a name.
 fn is_stored_name(name: &Name) -> bool {
     is_name_text(unpadded(name))

@@ -8,7 +8,7 @@ use crate::lent::Lent;
 use crate::numbers::MOST_DESCRIPTORS;
 use crate::origins::Origins;
 use crate::rng::Rng;
-use crate::store::{self, padded, Name, Target, NOTHING};
+use crate::store::{self, padded, shown, Name, Target, NOTHING};
 use crate::table::Table;
 
 /// About how many visits are held against the origins after a revert, and at the end of a list,
@@ -58,8 +58,7 @@ impl Pair {
             ));
         }
         if lent.visit() != own_lent.visit() {
-            let names = (lent.visit(), own_lent.visit());
-            let names = (names.0.escape_ascii(), names.1.escape_ascii());
+            let names = (shown(&lent.visit()), shown(&own_lent.visit()));
             return Err(format!(
                 "the library gives the name {}, the own store {}",
                 names.0, names.1
@@ -102,7 +101,7 @@ impl Pair {
             (Call::Visit { target, logical }, Some(origins)) => {
                 let expected = origins.name(target, *logical)?;
                 if given != expected {
-                    let names = (given.escape_ascii(), expected.escape_ascii());
+                    let names = (shown(&given), shown(&expected));
                     return Err(format!(
                         "the name {}, and {} by the origins",
                         names.0, names.1
