@@ -13,21 +13,30 @@ pub fn all() -> Vec<Case> {
             steps,
         });
     };
-    case("visit, refusals", 8, refusals());
-    for revision in [0, 1] {
-        for (layout, ends, cost) in [(1, [5, 9, 14], 3), (2, [4, 7, 12], 1)] {
-            let name = format!("visits, layout {layout}, revision {revision}");
-            case(&name, 32, regions(layout, revision, ends, cost));
+    case("visit: refusals", 8, refusals());
+    for layout in [1, 2] {
+        let mut case = |name: &str, blocks: usize, steps: Vec<Step>| {
+            case(&format!("visit, layout {layout}: {name}"), blocks, steps);
+        };
+        case("the first block after an opening", 8, first_block(layout));
+        case("the last block below beta", 6, last_block(layout));
+        case("an overwrite stays in its region", 8, overwritten(layout));
+        case("nil entries and nil tables", 16, nil(layout));
+        case("old data in a new table", 16, old_data(layout));
+        for revision in [0, 1] {
+            let name = format!("a rollback on revision {revision}");
+            case(&name, 16, rolled_back(layout, revision));
+            let name = format!("three visits on revision {revision}");
+            case(&name, 32, three(layout, revision));
         }
+        case("255 regions", 768, most(layout));
     }
-    case("visit, names of every length", 8, names());
-    case("visits of 255 regions, layout 1", 768, most(1));
-    case("visits of 255 regions, layout 2", 768, most(2));
-    case("visit, last group", 8, last_group());
-    case("visit, entries of layout 1", 16, entries_1());
-    case("visit, entries of layout 2", 16, entries_2());
-    case("visit, entries of Phi", 16, phi());
-    case("visit, unsound chain", 16, unsound());
+    case("visit: names of every length", 8, names());
+    case("visit: the last group", 8, last_group());
+    case("visit: entries, layout 1", 16, entries_1());
+    case("visit: entries, layout 2", 16, entries_2());
+    case("visit: entries of Phi", 16, phi());
+    case("visit: unsound chain", 16, unsound());
     cases
 }
 
@@ -58,11 +67,130 @@ fn refusals() -> Vec<Step> {
     ]
 }
 
+/// In layout 1, where c is 2, data are that block: 2, then 5. In layout 2 it is a table block; an
+/// entry that names it is in place all the same.
+fn first_block(layout: u64) -> Vec<Step> {
+    if layout == 2 {
+        return vec![
+            ream(2, 1, 0, "fs"),
+            write(0, 1),
+            visit("*", 0, "fs").after(1, 0, 1),
+            snap("a"),
+            visit("*", 0, "a"),
+            visit("a", 0, "a"),
+        ];
+    }
+    vec![
+        ream(1, 1, 0, "fs"),
+        list(&[("fs", 0, 2, 0)]),
+        write(0, 1),
+        visit("*", 0, "fs"),
+        snap("a"),
+        list(&[("a", 0, 3, 3), ("fs", 3, 5, 0)]),
+        visit("*", 0, "a"),
+        write(0, 2),
+        visit("*", 0, "fs"),
+        visit("a", 0, "a"),
+    ]
+}
+
+/// In either layout data are block 2, where beta is 3, and block 5, where beta is N.
+fn last_block(layout: u64) -> Vec<Step> {
+    vec![
+        ream(layout, 1, 0, "fs"),
+        write(0, 1),
+        list(&[("fs", 0, 3, 0)]),
+        visit("*", 0, "fs"),
+        snap("a"),
+        visit("*", 0, "a"),
+        write(0, 2),
+        list(&[("a", 0, 3, 3), ("fs", 3, 6, 0)]),
+        visit("*", 0, "fs"),
+        visit("a", 0, "a"),
+    ]
+}
+
+fn overwritten(layout: u64) -> Vec<Step> {
+    let first = || list(&[("fs", 0, 3, 0)]);
+    let second = || list(&[("a", 0, 3, 3), ("fs", 3, 6, 0)]);
+    let mut steps = vec![ream(layout, 9, 0, "fs"), write(3, 1), first()];
+    steps.extend([
+        visit("*", 3, "fs"),
+        write(3, 2),
+        first(),
+        visit("*", 3, "fs"),
+    ]);
+    steps.extend([snap("a"), visit("*", 3, "a"), write(3, 3), second()]);
+    steps.extend([
+        visit("*", 3, "fs"),
+        visit("a", 3, "a"),
+        write(3, 4),
+        second(),
+    ]);
+    steps.extend([visit("*", 3, "fs"), visit("a", 3, "a"), read("a", 3, 2)]);
+    steps
+}
+
+/// L 200 has two groups. Blocks 4 and 5 are of the first, which is written, block 130 of the second,
+/// which is not: in layout 2 it has no table.
+fn nil(layout: u64) -> Vec<Step> {
+    let mut steps = vec![ream(layout, 200, 0, "fs"), visit("*", 4, "")];
+    steps.extend([write(3, 1), visit("*", 4, ""), visit("*", 130, "")]);
+    // The table is the visit's.
+    steps.extend([snap("a"), visit("*", 4, ""), visit("a", 4, "")]);
+    steps.extend([visit("*", 130, ""), visit("a", 130, "")]);
+    // The table is a new one with the old entries.
+    steps.extend([write(5, 1), visit("*", 4, ""), visit("*", 5, "fs")]);
+    steps.extend([visit("a", 5, ""), visit("*", 130, ""), read("*", 4, 0)]);
+    steps
+}
+
+/// Block 4 is written before the snap. After the write to block 3 both have the active region's
+/// table, and only block 3 has data there.
+fn old_data(layout: u64) -> Vec<Step> {
+    vec![
+        ream(layout, 9, 0, "fs"),
+        write(3, 1),
+        write(4, 2),
+        snap("a"),
+        write(3, 3),
+        visit("*", 3, "fs"),
+        visit("*", 4, "a"),
+        snap("b"),
+        visit("*", 3, "b"),
+        visit("*", 4, "a"),
+        visit("b", 3, "b"),
+        visit("b", 4, "a"),
+        visit("a", 3, "a"),
+    ]
+}
+
+/// On revision 0 the region of the visit is the active one again and has its name, until another
+/// snap. On revision 1 it is the visit's still.
+fn rolled_back(layout: u64, revision: u64) -> Vec<Step> {
+    let mut steps = vec![ream(layout, 9, revision, "fs"), write(3, 1), snap("a")];
+    steps.extend([write(3, 2), write(4, 2), visit("*", 3, "fs"), revert("a")]);
+    if revision == 0 {
+        steps.extend([visit("*", 3, "fs"), visit("a", 3, "").refused(7)]);
+        steps.extend([visit("*", 4, ""), snap("b"), visit("*", 3, "b")]);
+        steps.extend([visit("b", 3, "b"), write(3, 3), visit("*", 3, "fs")]);
+    } else {
+        steps.extend([visit("*", 3, "a"), visit("a", 3, "a"), visit("*", 4, "")]);
+        steps.extend([write(3, 3), visit("*", 3, "fs"), visit("a", 3, "a")]);
+        steps.extend([revert("a"), visit("*", 3, "a"), snap("b")]);
+        steps.extend([visit("*", 3, "a"), visit("b", 3, "a"), visit("b", 4, "")]);
+    }
+    steps
+}
+
 /// Three visits, a rollback to the second, and one to the first. L 200 has two groups. In layout 1
-/// c is 3: block 5's data are blocks 3, 8, then 12 for block 130, each the first after an opening,
-/// and 4 and 13 the last below beta. In layout 2 each write to a group in a new region takes a
-/// table block before the data: 2, 3; 6; 9, 11. `ends` are the betas of the visits.
-fn regions(layout: u64, revision: u64, ends: [u64; 3], cost: u64) -> Vec<Step> {
+/// c is 3, and the data are blocks 3 and 4, then 8, then 12 and 13. In layout 2 each first write to
+/// a group in a region takes a table block before the data: 2 and 3, then 6, then 9 and 11.
+fn three(layout: u64, revision: u64) -> Vec<Step> {
+    let (ends, cost) = match layout {
+        1 => ([5, 9, 14], 3),
+        _ => ([4, 7, 12], 1),
+    };
     let a = ("a", 0, ends[0], ends[0]);
     let b = ("b", ends[0], ends[1], ends[1]);
     let c = ("c", ends[1], ends[2], ends[2]);
