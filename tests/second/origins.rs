@@ -6,6 +6,11 @@ use crate::call::Call;
 use crate::rng::Rng;
 use crate::store::{padded, Logical, Name, Target};
 
+/// About how many visits are held against the origins after a revert, and at the end of a list,
+/// where it is one of every target at least.
+pub const AFTER_REVERT: u64 = 20;
+pub const AT_END: u64 = 300;
+
 /// For each block none, where it was never written, or the place of a region, at most 255.
 type Blocks = Vec<Option<u8>>;
 

@@ -8,7 +8,7 @@ use crate::call::{carry_out, Call, Said, KINDS};
 use crate::counts::{all_met, Counts, Dated, Reverts, Visits, ENOUGH};
 use crate::ledger::{Ledger, Word};
 use crate::numbers::*;
-use crate::origins::Origins;
+use crate::origins::{Origins, AFTER_REVERT, AT_END};
 use crate::rng::Rng;
 use crate::room::Room;
 use crate::store::{self, Logical, Name, Record, Target, NOTHING};
@@ -16,11 +16,6 @@ use crate::Count;
 
 /// The weight of snaps in a list that is to meet 13.
 const MANY_SNAPS: u64 = 4_000;
-
-/// About how many visits are held against the origins after a revert, and at the end of a list,
-/// where it is at least one of every target.
-const AFTER_REVERT: u64 = 20;
-const AT_END: u64 = 300;
 
 /// What the lists held, by kind of call and number.
 #[derive(Default)]

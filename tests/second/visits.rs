@@ -145,8 +145,8 @@ fn nil(layout: u64) -> Vec<Step> {
     steps
 }
 
-/// Block 4 is written before the snap. After the write to block 3 both have the active region's
-/// table, and only block 3 has data there.
+/// Block 4 is written before the snap alone. After the write to block 3 the active region's table
+/// names both, and only block 3 has data in that region.
 fn old_data(layout: u64) -> Vec<Step> {
     vec![
         ream(layout, 9, 0, "fs"),
@@ -255,7 +255,7 @@ fn three(layout: u64, revision: u64) -> Vec<Step> {
         visit("a", 5, "a"),
     ];
     if revision == 0 {
-        // The region of b is the active one and has its name; so has that of a after it.
+        // The region of b is the active one and has its name, and that of a after the second rollback.
         let active = ("fs", ends[0], ends[1], 0);
         steps.extend([list(&[a, active]), visit("*", 5, "fs")]);
         steps.push(visit("b", 5, "").refused(7));
@@ -301,12 +301,12 @@ fn most(layout: u64) -> Vec<Step> {
     let names: Vec<String> = (0..255).map(|k| format!("s{k}")).collect();
     let mut steps = vec![ream(layout, 128, 0, "fs")];
     for (name, k) in names.iter().zip(0..) {
-        steps.extend([write(k % 128, k as u8), snap(name)]);
+        steps.extend([write(k % 128, 1), snap(name)]);
     }
-    steps.extend([write(127, 0), write(0, 1).refused(11)]);
+    steps.extend([write(127, 2), write(0, 2).refused(11)]);
     for (logical, name) in (0..127).zip(&names[128..]) {
         steps.push(visit("*", logical, name));
-        // In the first half of the visits that block is of the first write, or not written yet.
+        // Of each of these s126 has the first write; s0 has none but its own.
         steps.push(visit("s126", logical, &names[logical as usize]));
         steps.push(visit("s0", logical, if logical == 0 { "s0" } else { "" }));
     }

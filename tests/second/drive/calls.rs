@@ -4,7 +4,8 @@ use crate::boundary::Ask;
 use crate::lent::Lent;
 use crate::lists::{random_name, started, Maker};
 use crate::numbers::{BLOCK, MOST_SNAPSHOTS};
-use crate::pair::{Pair, AFTER_REVERT, AT_END};
+use crate::origins::{AFTER_REVERT, AT_END};
+use crate::pair::Pair;
 use crate::table::Table;
 
 /// The list of a seed.

@@ -11,11 +11,6 @@ use crate::rng::Rng;
 use crate::store::{self, padded, shown, Name, Target, NOTHING};
 use crate::table::Table;
 
-/// About how many visits are held against the origins after a revert, and at the end of a list,
-/// where it is at least one of every target.
-pub const AFTER_REVERT: u64 = 20;
-pub const AT_END: u64 = 300;
-
 pub struct Pair {
     pub library: Lent,
     pub own: Lent,

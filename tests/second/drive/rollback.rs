@@ -7,7 +7,8 @@
 use crate::boundary::{by_library, listed_beta, Ask};
 use crate::lists::started;
 use crate::numbers::BLOCK;
-use crate::pair::{Pair, AFTER_REVERT, AT_END};
+use crate::origins::{AFTER_REVERT, AT_END};
+use crate::pair::Pair;
 use crate::rng::Rng;
 use crate::store::Name;
 use crate::table::Table;
