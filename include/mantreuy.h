@@ -135,8 +135,8 @@
  *   snap    the active descriptor, and the c blocks from its beta on
  *   revert  on revision 0 the descriptor of the snapshot, the active one after
  *           the call; on revision 1 the c blocks from the snapshot's beta on
- * read, visit, list and check alter none. What is said here holds once the call has
- * returned. Of a card whose memory is lost or copied out in the middle of a
+ * read, visit, list and check alter none. What is said here holds once the call
+ * has returned. Of a card whose memory is lost or copied out in the middle of a
  * call, or of a medium that has got only some of these blocks, nothing is
  * promised.
  */
