@@ -1,4 +1,4 @@
-// The seven calls in plain Rust, without proofs and written for speed: what the benchmark compares the library with.
+// The eight calls in plain Rust, without proofs and written for speed: what the benchmark compares the library with.
 use crate::declared::RECORD_SIZE;
 use crate::numbers::*;
 use std::mem::MaybeUninit;
@@ -252,14 +252,27 @@ impl Chain {
         }
     }
 
+    // Alpha and beta of the snapshot that was looked for, or of the active descriptor.
+    fn target(&self, blocks: &[Block], name: Option<&Name>) -> Result<(u32, u32), Refusal> {
+        if name.is_none() {
+            return Ok((self.alpha, self.beta));
+        }
+        let alpha = self.snapshot()?;
+        Ok((alpha, get(&blocks[alpha as usize], BETA)))
+    }
+
+    // The descriptor whose region contains block p, which is below the last beta.
+    fn region(&self, p: u32) -> u32 {
+        let starts = self.starts.all();
+        starts[starts.partition_point(|&s| s <= p) - 1]
+    }
+
     // Whether an entry of a descriptor with this beta may name block p.
     fn in_place(&self, beta: u32, p: u32) -> bool {
         if p == 0 || p >= beta {
             return p == 0;
         }
-        let starts = self.starts.all();
-        let k = starts.partition_point(|&s| s <= p);
-        starts[k - 1] + self.cost <= p
+        self.region(p) + self.cost <= p
     }
 
     // The table block and the entry of logical block l, each 0 where it is nil.
@@ -326,16 +339,26 @@ pub fn read(card: &[u8], snapshot: Option<&[u8]>, l: u32, out: &mut [u8]) -> Ans
     };
     let mut chain = Chain::new();
     chain.walk(blocks, name)?;
-    let (alpha, beta) = match name {
-        None => (chain.alpha, chain.beta),
-        Some(_) => {
-            let alpha = chain.snapshot()?;
-            (alpha, get(&blocks[alpha as usize], BETA))
-        }
-    };
+    let (alpha, beta) = chain.target(blocks, name)?;
     match chain.find(blocks, alpha, beta, l)? {
         (_, 0) => out.fill(0),
         (_, p) => *out = blocks[p as usize],
+    }
+    Ok(())
+}
+
+// The name is a part of the answer, and stored by every call: zeros where there is none.
+#[inline(never)]
+pub fn visit(card: &[u8], snapshot: Option<&[u8]>, l: u32, visit: &mut Name) -> Answer {
+    *visit = [0; NAME_SIZE];
+    let blocks = check_area(card)?;
+    let name = snapshot.map(check_name).transpose()?;
+    let mut chain = Chain::new();
+    chain.walk(blocks, name)?;
+    let (alpha, beta) = chain.target(blocks, name)?;
+    let (_, p) = chain.find(blocks, alpha, beta, l)?;
+    if p != 0 {
+        *visit = *name_of(&blocks[chain.region(p) as usize]);
     }
     Ok(())
 }

@@ -17,6 +17,10 @@ pub enum Call {
         snapshot: Option<Name>,
         block: u32,
     },
+    Visit {
+        snapshot: Option<Name>,
+        block: u32,
+    },
     Write {
         block: u32,
     },
@@ -36,12 +40,13 @@ pub enum Side {
     Baseline,
 }
 
-// What is lent besides the card.
+// What is lent besides the card, and the name that a visit stores.
 #[derive(Clone, PartialEq, Eq)]
 pub struct Lent {
     pub out: Vec<u8>,
     pub bytes: Vec<u8>,
     pub records: Vec<u8>,
+    pub visit: Name,
 }
 
 impl Lent {
@@ -50,6 +55,7 @@ impl Lent {
             out: vec![0xee; BLOCK],
             bytes: (0..BLOCK).map(|i| (i * 7 + 3) as u8).collect(),
             records: vec![0xdd; RECORD_SIZE * MOST_DESCRIPTORS],
+            visit: [0xcc; NAME_SIZE],
         }
     }
 }
@@ -84,6 +90,10 @@ macro_rules! measured {
                 Call::Read { snapshot, block } => {
                     let name = snapshot.as_ref().map(|name| name.as_slice());
                     $side::read(card, name, *block, &mut lent.out)
+                }
+                Call::Visit { snapshot, block } => {
+                    let name = snapshot.as_ref().map(|name| name.as_slice());
+                    $side::visit(card, name, *block, &mut lent.visit)
                 }
                 Call::Write { block } => $side::write(card, *block, &lent.bytes),
                 Call::Snap { name } => $side::snap(card, name),

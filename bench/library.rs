@@ -1,6 +1,7 @@
-// The seven calls of the static library, with the signatures of the baseline.
+// The eight calls of the static library, with the signatures of the baseline.
 use crate::baseline::{Answer, Refusal};
 use crate::declared::*;
+use crate::numbers::Name;
 
 fn answer(call: impl FnOnce(&mut u32) -> u32) -> Answer {
     let mut place = 0;
@@ -10,7 +11,7 @@ fn answer(call: impl FnOnce(&mut u32) -> u32) -> Answer {
     }
 }
 
-// In each call below the pointers and lengths are those of slices that do not overlap.
+// In each call below the pointers and lengths are those of slices, or of a name, that do not overlap.
 
 pub fn ream(card: &mut [u8], layout: u32, volume: u32, revision: u32, name: &[u8]) -> Answer {
     let (to, n) = (card.as_mut_ptr(), card.len());
@@ -31,6 +32,23 @@ pub fn read(card: &[u8], snapshot: Option<&[u8]>, l: u32, out: &mut [u8]) -> Ans
             l,
             out.as_mut_ptr(),
             out.len(),
+            place,
+        )
+    })
+}
+
+pub fn visit(card: &[u8], snapshot: Option<&[u8]>, l: u32, visit: &mut Name) -> Answer {
+    let name = snapshot.unwrap_or(&[]);
+    let is_snapshot = snapshot.is_some() as u32;
+    answer(|place| unsafe {
+        mantreuy_visit(
+            card.as_ptr(),
+            card.len(),
+            is_snapshot,
+            name.as_ptr(),
+            name.len(),
+            l,
+            visit.as_mut_ptr(),
             place,
         )
     })

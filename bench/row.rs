@@ -8,6 +8,8 @@ pub enum Kind {
     Ream,
     ReadActive,
     ReadMiddle,
+    VisitActive,
+    VisitMiddle,
     Overwrite,
     WriteOne,
     WriteTwo,
@@ -43,10 +45,12 @@ pub struct Row {
     pub setting: Setting,
 }
 
-const KINDS: [Kind; 10] = [
+const KINDS: [Kind; 12] = [
     Kind::Ream,
     Kind::ReadActive,
     Kind::ReadMiddle,
+    Kind::VisitActive,
+    Kind::VisitMiddle,
     Kind::Overwrite,
     Kind::WriteOne,
     Kind::WriteTwo,
@@ -105,7 +109,7 @@ fn is_row(row: &Row) -> bool {
     let s = row.setting;
     let fits = match row.kind {
         Kind::Ream => s.snapshots == 0,
-        Kind::ReadMiddle | Kind::Revert => s.snapshots > 0,
+        Kind::ReadMiddle | Kind::VisitMiddle | Kind::Revert => s.snapshots > 0,
         Kind::WriteTwo => s.layout == 2,
         Kind::Snap => s.snapshots != MOST_SNAPSHOTS,
         _ => true,
@@ -135,6 +139,16 @@ impl Row {
                 snapshot: Some(middle),
                 block: s.volume / 2,
             },
+            // the block dates from the first region
+            Kind::VisitActive => Call::Visit {
+                snapshot: None,
+                block: 1,
+            },
+            // the block dates from the snapshot's own region
+            Kind::VisitMiddle => Call::Visit {
+                snapshot: Some(middle),
+                block: s.volume / 2,
+            },
             Kind::Overwrite => Call::Write {
                 block: s.volume / 2,
             },
@@ -156,6 +170,8 @@ impl Row {
             Kind::Ream => "ream",
             Kind::ReadActive => "read, active",
             Kind::ReadMiddle => "read, middle snapshot",
+            Kind::VisitActive => "visit, active",
+            Kind::VisitMiddle => "visit, middle snapshot",
             Kind::Overwrite => "write, overwriting",
             Kind::WriteOne => "write, 1 new block",
             Kind::WriteTwo => "write, 2 new blocks",

@@ -12,6 +12,7 @@ static uint8_t *stack;
 static uint8_t *card;
 static uint8_t block[MANTREUY_BLOCK_SIZE];
 static uint8_t records[MANTREUY_MOST_RECORDS * MANTREUY_RECORD_SIZE];
+static uint8_t visit[MANTREUY_NAME_SIZE];
 static uint32_t place;
 static uint32_t number;
 static uint8_t *top;
@@ -50,6 +51,9 @@ static __attribute__((noinline)) void make(void)
 	case 21: number = mantreuy_check(card, MANTREUY_BLOCK_SIZE * 2048, &place); break;
 	case 22: number = mantreuy_revert(card, n, mon, sizeof mon, &place); break;
 	case 23: number = mantreuy_ream(card, n, 2, MANTREUY_MOST_VOLUME, 2, fs, sizeof fs, &place); break;
+	case 24: number = mantreuy_visit(card, n, 0, fs, sizeof fs, 5, visit, &place); break;
+	case 25: number = mantreuy_visit(card, n, 1, mon, sizeof mon, 5, visit, &place); break;
+	case 26: number = mantreuy_visit(card, n, 1, mon, sizeof mon, 5, visit, &place); break;
 	default: break;
 	}
 }
@@ -60,7 +64,7 @@ static void *work(void *unused)
 	return unused;
 }
 
-/* Each call, and the number that it must answer. Calls 13 and 20 find a bad entry, call 22 a card of revision 1. */
+/* Each call, and the number that it must answer. Calls 13, 20 and 26 find a bad entry, call 22 a card of revision 1. */
 static const struct {
 	const char *title;
 	uint32_t number;
@@ -71,6 +75,7 @@ static const struct {
 	{"snap, refused with 12", 12}, {"revert, refused with 7", 7}, {"list, refused with 14", 14},
 	{"check, refused with 1", 1}, {"check, refused with 6", 6}, {"check, refused with 10", 10},
 	{"check, 2,048 blocks", 0}, {"revert, revision 1", 0}, {"ream, refused with 17", 17},
+	{"visit, active", 0}, {"visit, snapshot", 0}, {"visit, refused with 10", 10},
 };
 
 static void prepare(uint32_t layout, uint32_t revision)
@@ -102,7 +107,7 @@ int main(void)
 				continue;
 			prepare(layout, which == 22 ? MANTREUY_REVISION_1 : MANTREUY_REVISION_0);
 			/* the snapshot's first entry that is set: in its first table block, or in Phi */
-			if (which == 13 || which == 20)
+			if (which == 13 || which == 20 || which == 26)
 				memset(card + (layout == 1 ? MANTREUY_BLOCK_SIZE + 4 * 5 : 64), 0xff, 4);
 			memset(stack, 0xa5, STACK);
 			pthread_attr_init(&attributes);

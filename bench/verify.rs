@@ -31,11 +31,19 @@ struct Pair {
 }
 
 // What came of the calls: how often each answer was given, by its number; how many reverts were accepted, by layout and
-// revision.
+// revision; how many visits were, by layout and by which region was named, if any.
 #[derive(Default)]
 struct Given {
     answers: BTreeMap<u32, u64>,
     reverts: BTreeMap<(u32, u32), u64>,
+    visits: BTreeMap<(u32, Option<Region>), u64>,
+}
+
+// A region as it stands to the active one.
+#[derive(Clone, Copy, PartialEq, Eq, PartialOrd, Ord, Debug)]
+enum Region {
+    Active,
+    Older,
 }
 
 // The numbers that these calls can give.
@@ -62,6 +70,16 @@ impl Pair {
         if matches!(call, Call::Revert { .. }) && number == 0 {
             let kind = (get(&self.a, 0, LAYOUT), get(&self.a, 0, REVISION));
             *self.given.reverts.entry(kind).or_default() += 1;
+        }
+        if matches!(call, Call::Visit { .. }) && number == 0 {
+            let last = BLOCK * chain(&self.a).pop().unwrap();
+            let region = match la.visit {
+                none if none == [0; NAME_SIZE] => None,
+                name if name == self.a[last + NAME..last + NAME_END] => Some(Region::Active),
+                _ => Some(Region::Older),
+            };
+            let kind = (get(&self.a, 0, LAYOUT), region);
+            *self.given.visits.entry(kind).or_default() += 1;
         }
         number == 0
     }
@@ -94,7 +112,7 @@ fn some_call(r: &mut Random, volume: u32, names: usize) -> Call {
         3 => r.below(4) as u32,
         _ => r.below(volume as usize) as u32,
     };
-    match r.below(20) {
+    match r.below(24) {
         0..=6 => Call::Write { block },
         7..=8 => Call::Read {
             snapshot: None,
@@ -111,7 +129,15 @@ fn some_call(r: &mut Random, volume: u32, names: usize) -> Call {
             name: some_name(r, names),
         },
         16..=17 => Call::List,
-        _ => Call::Check,
+        18..=19 => Call::Check,
+        20..=21 => Call::Visit {
+            snapshot: None,
+            block,
+        },
+        _ => Call::Visit {
+            snapshot: Some(some_name(r, names)),
+            block,
+        },
     }
 }
 
@@ -348,16 +374,10 @@ pub fn verify(cards: u64) -> u64 {
                 pair.b.copy_from_slice(&pair.a);
                 pair.make(&Call::Check, &lent);
                 pair.make(&Call::List, &lent);
-                pair.make(
-                    &Call::Read {
-                        snapshot: None,
-                        block,
-                    },
-                    &lent,
-                );
-                for k in 0..4 {
-                    let snapshot = Some(name(&format!("v{k}")));
+                let snapshots = (0..4).map(|k| Some(name(&format!("v{k}"))));
+                for snapshot in [None].into_iter().chain(snapshots) {
                     pair.make(&Call::Read { snapshot, block }, &lent);
+                    pair.make(&Call::Visit { snapshot, block }, &lent);
                 }
                 pair.make(&Call::Write { block }, &lent);
                 let name = name(&format!("v{}", r.below(4)));
@@ -371,7 +391,11 @@ pub fn verify(cards: u64) -> u64 {
         }
         given = pair.given;
     }
-    let Given { answers, reverts } = given;
+    let Given {
+        answers,
+        reverts,
+        visits,
+    } = given;
     assert!(
         answers.keys().eq(&NUMBERS),
         "an answer was never given, or a strange one was: {answers:?}"
@@ -379,6 +403,14 @@ pub fn verify(cards: u64) -> u64 {
     assert!(
         reverts.keys().eq(&[(1, 0), (1, 1), (2, 0), (2, 1)]),
         "a kind of revert was never made: {reverts:?}"
+    );
+    let regions = [None, Some(Region::Active), Some(Region::Older)];
+    let kinds = [1, 2]
+        .into_iter()
+        .flat_map(|layout| regions.map(|region| (layout, region)));
+    assert!(
+        visits.keys().copied().eq(kinds),
+        "a kind of visit was never made: {visits:?}"
     );
     answers.values().sum()
 }

@@ -1,5 +1,5 @@
 /*
- * A card in memory: format, write, snapshot, write again, read both, go back, read.
+ * A card in memory: format, write, snapshot, write again, read both, with the visits that they date from, go back, read.
  * Ends with status 1 where an answer is not the expected one.
  *
  *     gcc -O2 -Iinclude examples/card.c target/staticlib/libmantreuy.a -o card
@@ -42,6 +42,17 @@ static void read_block(uint32_t snapshot, uint32_t l, uint8_t wanted)
 		exit(1);
 }
 
+/* the visit that a block dates from */
+static void show_visit(uint32_t snapshot, uint32_t l, const char *wanted)
+{
+	uint8_t from[MANTREUY_NAME_SIZE];
+
+	expect("visit", mantreuy_visit(card, sizeof card, snapshot, visit, sizeof visit, l, from, &place), MANTREUY_ACCEPTED);
+	printf("%s block %u dates from %.16s\n", snapshot ? "visit " : "active", (unsigned)l, from[0] ? (const char *)from : "no visit");
+	if (strncmp((const char *)from, wanted, sizeof from) != 0)
+		exit(1);
+}
+
 int main(void)
 {
 	make_name("fs", volume_name);
@@ -52,9 +63,14 @@ int main(void)
 	write_block(5, 9);
 	read_block(1, 5, 7);
 	read_block(0, 5, 9);
+	show_visit(1, 5, "mon");
+	show_visit(0, 5, "fs");
+	show_visit(0, 6, "");
 	expect("check", mantreuy_check(card, sizeof card, &place), MANTREUY_ACCEPTED);
 	expect("revert", mantreuy_revert(card, sizeof card, visit, sizeof visit, &place), MANTREUY_ACCEPTED);
 	read_block(0, 5, 7);
+	/* on revision 0 the visit's region is the active one again, and bears its name */
+	show_visit(0, 5, "fs");
 	expect("read of the visit", mantreuy_read(card, sizeof card, 1, visit, sizeof visit, 5, block, sizeof block, &place), MANTREUY_NO_SNAPSHOT);
 	return 0;
 }

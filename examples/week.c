@@ -1,7 +1,7 @@
 /*
- * The week of examples/week.sheet on a card of revision 1, with two rollbacks to one visit. On Monday the depot formats the card,
- * on Tuesday the clinic writes the prescription, and the machine at home adds its sessions. On Friday the desk rolls the card back
- * to Tuesday's visit, tries another setting, and rolls back to the same visit again.
+ * The week of examples/week.sheet on a card of revision 1, with two rollbacks to one visit, and with the visits that pages date
+ * from. On Monday the depot formats the card, on Tuesday the clinic writes the prescription, and the machine at home adds its
+ * sessions. On Friday the desk rolls the card back to Tuesday's visit, tries another setting, and rolls back to the same visit again.
  * Ends with status 1 where an answer is not the expected one.
  *
  *     gcc -O2 -Iinclude examples/week.c target/staticlib/libmantreuy.a -o week
@@ -43,6 +43,17 @@ static void show_block(const char *visit, uint32_t l)
 
 	expect("read", number, MANTREUY_ACCEPTED);
 	printf("  %s block %u: %u\n", visit ? visit : "active", (unsigned)l, (unsigned)block[0]);
+}
+
+/* prints the visit that a block of the visit, or of the active volume where visit is NULL, dates from */
+static void show_visit(const char *visit, uint32_t l)
+{
+	uint8_t from[MANTREUY_NAME_SIZE];
+	uint32_t number = mantreuy_visit(card, sizeof card, visit != NULL, named(visit ? visit : "none"), sizeof name, l,
+	                                 from, &place);
+
+	expect("visit", number, MANTREUY_ACCEPTED);
+	printf("  %s block %u dates from %.16s\n", visit ? visit : "active", (unsigned)l, from[0] ? (const char *)from : "no visit");
 }
 
 static void take_snapshot(const char *visit, uint32_t wanted)
@@ -91,14 +102,24 @@ int main(void)
 	write_block(258, 103);
 	write_block(1, 79);
 	show_list("Thursday");
+	/* which visit's region has the current version of a page */
+	show_visit(NULL, 0);
+	show_visit(NULL, 1);
+	show_visit(NULL, 2);
+	show_visit(NULL, 256);
+	show_visit(NULL, 300);
+	show_visit("home-wed", 1);
 	/* Friday, the desk: back to the visit */
 	roll_back("visit-tue", MANTREUY_ACCEPTED);
 	show_list("Friday");
 	show_block(NULL, 1);
+	show_visit(NULL, 1);
 	show_block(NULL, 256);
+	show_visit(NULL, 256);
 	/* another setting, which does not serve either: back to the same visit */
 	write_block(1, 88);
 	show_block(NULL, 1);
+	show_visit(NULL, 1);
 	show_block("visit-tue", 1);
 	roll_back("visit-tue", MANTREUY_ACCEPTED);
 	show_list("Friday, again");

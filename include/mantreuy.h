@@ -4,11 +4,12 @@
  * A card is an area of N blocks of 512 bytes, N from 2 to 65,536, that the
  * caller lends. It holds one active volume of L logical blocks, L from 1 to
  * 14,336, and at most 255 snapshots of it. The calls format a card, read and
- * write a block, take a snapshot, go back to one, list them, and check the card.
- * Each call but a format walks the chain of snapshots anew. N is not kept on the
- * card: it is what the length says that is given with the call. A longer area
- * has more free blocks; on one that ends before the last beta every call but a
- * format is refused, with 6 at the latest.
+ * write a block, give the visit that a block dates from, take a snapshot, go
+ * back to one, list them, and check the card. Each call but a format walks the
+ * chain of snapshots anew. N is not kept on the card: it is what the length says
+ * that is given with the call. A longer area has more free blocks; on one that
+ * ends before the last beta every call but a format is refused, with 6 at the
+ * latest.
  * Link libmantreuy.a, which is built for Linux on x86-64; it needs at most
  * memcpy, memmove and memset.
  *
@@ -21,8 +22,8 @@
  *     alpha, its own block; beta, the first block after its region; next, the
  *     descriptor that follows, 0 in the last.
  *   - Its region is the blocks from alpha on, up to beta and without it. The
- *     next region starts there. The blocks from beta of the active volume on are
- *     free.
+ *     next region starts there, so that every block below the last beta is in
+ *     one region. The blocks from beta of the active volume on are free.
  *   - The chain is the descriptors from block 0 along next: the snapshots,
  *     oldest first, then the active volume.
  *   - A table block has 128 entries, one for each logical block of a group. An
@@ -48,26 +49,32 @@
  *   - An entry is in place if it is nil, or below beta of the descriptor
  *     through which it is found and neither a descriptor of the chain nor a
  *     layout 1 table block.
+ *   - A logical block, of the active volume or of a snapshot, dates from the
+ *     region that contains the block that its entry names. The visit that it
+ *     dates from is the name of that region's descriptor: a snapshot's, or the
+ *     active volume's own. Where its entry is nil, or that of its table block in
+ *     Phi, there is none.
  *
  * ARGUMENTS
  *
  * A buffer is a pointer and then its length in bytes. A call takes any length
- * and any content, and answers with a refusal where they do not serve.
+ * and any content, and answers with a refusal where they do not serve. `visit`
+ * has no length beside it: it is always 16 bytes.
  *   - No pointer may be null, even where the length is 0 or the buffer is not
  *     looked at, and it must point to as many bytes as the length says.
  *   - Buffers need no alignment. `place` is an ordinary uint32_t object.
- *   - The buffers of one call, and `place`, must not overlap, even where both
- *     are only read.
+ *   - The buffers of one call, `visit` and `place` must not overlap, even where
+ *     both are only read.
  *   - What is only filled need not be set before the call: `out`, `records`,
- *     *place, and `name` of mantreuy_pad_name.
+ *     `visit`, *place, and `name` of mantreuy_pad_name.
  *   - No call keeps a pointer after it returns, allocates memory, waits, reads
  *     or sets a global variable, or calls back.
- *   - mantreuy_read, mantreuy_list and mantreuy_check do not alter the card and
- *     may run at the same time on one card, each with its own `out`, `records`
- *     and `place`. While mantreuy_ream, mantreuy_write, mantreuy_snap or
- *     mantreuy_revert runs, no other call may use that card. Nobody else may
- *     change a buffer while a call uses it, nor read one that the call may
- *     change.
+ *   - mantreuy_read, mantreuy_visit, mantreuy_list and mantreuy_check do not
+ *     alter the card and may run at the same time on one card, each with its own
+ *     `out`, `visit`, `records` and `place`. While mantreuy_ream, mantreuy_write,
+ *     mantreuy_snap or mantreuy_revert runs, no other call may use that card.
+ *     Nobody else may change a buffer while a call uses it, nor read one that the
+ *     call may change.
  *   - A check uses at most 72 KB of stack, any other call at most 5 KB. Measured
  *     on x86-64, on cards of 4,096 blocks, a check on 2,048 too, in accepted and
  *     some refused calls: 68,952 and 3,528 bytes.
@@ -86,9 +93,10 @@
  * in *place. Accepted is number 0, place 0. Any other number is a refusal, and
  * then no byte of the card or of another buffer is altered. *place is not such
  * a buffer: it is the second half of the answer, and every call stores it,
- * accepted or refused. The place is 0 unless it is stated below; it is the
- * number of a block of the card. Where several refusals apply, the one that
- * stands first in the list of the call is given.
+ * accepted or refused. So does mantreuy_visit store `visit`, which is a part of
+ * its answer: sixteen zeros where it is refused. The place is 0 unless it is
+ * stated below; it is the number of a block of the card. Where several refusals
+ * apply, the one that stands first in the list of the call is given.
  *
  *    1  MANTREUY_BAD_AREA        the card's length is no multiple of 512, or N is
  *                                outside 2..65,536
@@ -127,8 +135,8 @@
  *   snap    the active descriptor, and the c blocks from its beta on
  *   revert  on revision 0 the descriptor of the snapshot, the active one after
  *           the call; on revision 1 the c blocks from the snapshot's beta on
- * read, list and check alter none. What is said here holds once the call has
- * returned. Of a card whose memory is lost or copied out in the middle of a
+ * read, visit, list and check alter none. What is said here holds once the call
+ * has returned. Of a card whose memory is lost or copied out in the middle of a
  * call, or of a medium that has got only some of these blocks, nothing is
  * promised.
  */
@@ -208,6 +216,30 @@ uint32_t mantreuy_ream(uint8_t *card, size_t card_length, uint32_t layout, uint3
 uint32_t mantreuy_read(const uint8_t *card, size_t card_length, uint32_t snapshot,
                        const uint8_t *name, size_t name_length, uint32_t block,
                        uint8_t *out, size_t out_length, uint32_t *place);
+
+/*
+ * Gives the visit that logical block `block` dates from: stores in `visit` the
+ * name of the descriptor, a snapshot's or the active volume's own, whose region
+ * contains the block that a read gives; or sixteen zeros, which are no name, where
+ * there is no such block since the entry is nil. Like a read, it is asked of the
+ * active volume where `snapshot` is 0, and the name is then not looked at; of the
+ * snapshot that has the name where `snapshot` is any other number. The card is not
+ * altered.
+ * On a card that these calls have made since its format, it is the region in which
+ * the version that a read gives was last written. Zeros that were written have a
+ * region as any other bytes have. On any other card it is the region that contains
+ * the block, and no more is said.
+ * The region is named as it is called now: by the active volume's name while it is
+ * the active one, and by the snapshot's once a snapshot has closed it. After a
+ * revert on a card of revision 0 the region of that snapshot is the active one and
+ * bears the active volume's name; on revision 1 it keeps the snapshot's.
+ *
+ * Refusals, in this order: 1; 4 (only where `snapshot` is not 0); 6; 7 (only
+ * where `snapshot` is not 0); 8; 10. `visit` is then sixteen zeros.
+ */
+uint32_t mantreuy_visit(const uint8_t *card, size_t card_length, uint32_t snapshot,
+                        const uint8_t *name, size_t name_length, uint32_t block,
+                        uint8_t visit[MANTREUY_NAME_SIZE], uint32_t *place);
 
 /*
  * Writes `bytes`, which must be 512 bytes long, as logical block `block` of the

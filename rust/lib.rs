@@ -1,9 +1,10 @@
 //! A snapshot store on a card in memory.
 //!
 //! A card is an area of N blocks of 512 bytes, N from 2 to 65,536. It holds one active volume of L logical blocks,
-//! L from 1 to 14,336, and at most 255 snapshots of it. [`Card`] has the seven calls: [`Card::ream`] formats the card,
-//! [`Card::read`] and [`Card::write`] move one block, [`Card::snap`] freezes the active volume under a name,
-//! [`Card::revert`] goes back to a snapshot, [`Card::list`] lists them, and [`Card::check`] checks the card.
+//! L from 1 to 14,336, and at most 255 snapshots of it. [`Card`] has the eight calls: [`Card::ream`] formats the card,
+//! [`Card::read`] and [`Card::write`] move one block, [`Card::visit`] gives the visit that a block dates from,
+//! [`Card::snap`] freezes the active volume under a name, [`Card::revert`] goes back to a snapshot, [`Card::list`] lists
+//! them, and [`Card::check`] checks the card.
 //!
 //! This is a safe interface to `libmantreuy.a`, whose functions are proved to do what their contracts say. The boundary
 //! itself is not proved: the declarations and the `unsafe` calls here are trusted. The library allocates nothing, keeps
@@ -31,6 +32,7 @@
 //! let mut block = [0; BLOCK_SIZE];
 //! card.read(Target::Snapshot(visit), 5, &mut block)?;
 //! assert_eq!(block, [7; BLOCK_SIZE]);
+//! assert_eq!(card.visit(Target::Active, 5)?, Some(visit));
 //! # Ok::<(), mantreuy::Refusal>(())
 //! ```
 #![no_std]
@@ -224,13 +226,23 @@ impl fmt::Debug for Name {
     }
 }
 
-/// What a read reads.
+/// What a read reads, and what a visit is asked of.
 #[derive(Clone, Copy, PartialEq, Eq, Hash, Debug)]
 pub enum Target {
     /// The active volume.
     Active,
     /// The snapshot that has the name.
     Snapshot(Name),
+}
+
+impl Target {
+    // The target as the library takes it.
+    fn lent(self) -> (u32, [u8; NAME_SIZE]) {
+        match self {
+            Target::Active => (0, [0; NAME_SIZE]),
+            Target::Snapshot(name) => (1, name.0),
+        }
+    }
 }
 
 /// One descriptor of a card as a listing gives it.
@@ -268,7 +280,7 @@ impl Record {
 
 /// A card: an area of blocks of 512 bytes, lent or owned.
 ///
-/// A card over `&[u8]` can be read, listed and checked, also by several threads at once. Over `&mut [u8]`, an array or a
+/// A card over `&[u8]` can be read, asked for visits, listed and checked, also by several threads at once. Over `&mut [u8]`, an array or a
 /// `Vec<u8>` it has all calls. Any area can be taken as a card: each call looks at the whole chain of descriptors anew
 /// and refuses what is no card.
 #[derive(Clone)]
@@ -297,10 +309,7 @@ impl<A: AsRef<[u8]>> Card<A> {
     /// [`Kind::NoSnapshot`], [`Kind::BadBlock`], [`Kind::BadEntry`].
     pub fn read(&self, target: Target, block: u32, out: &mut [u8; BLOCK_SIZE]) -> Answer {
         let card = self.as_bytes();
-        let (snapshot, name) = match target {
-            Target::Active => (0, [0; NAME_SIZE]),
-            Target::Snapshot(name) => (1, name.0),
-        };
+        let (snapshot, name) = target.lent();
         // SAFETY: three slices that do not overlap, and the place.
         answer(|place| unsafe {
             mantreuy_read(
@@ -315,6 +324,57 @@ impl<A: AsRef<[u8]>> Card<A> {
                 place,
             )
         })
+    }
+
+    /// The visit that logical block `block` of the target dates from: the name of the snapshot, or of the active volume,
+    /// whose region contains the block that a read gives. None where the target has no content for it.
+    ///
+    /// On a card that these calls have made since its format, it is the region in which the version that a read gives
+    /// was last written; on any other card, the region that contains the block. The region is named as it is called now:
+    /// the active one has the active volume's name. A revert on a card of [`REVISION_0`] makes the region of that
+    /// snapshot the active one; on a card of [`REVISION_1`] it keeps the snapshot's name.
+    ///
+    /// ```
+    /// # use mantreuy::{Card, Name, Target, BLOCK_SIZE, REVISION_0};
+    /// # let (fs, mon) = (Name::new("fs")?, Name::new("mon")?);
+    /// # let mut card = Card::new(vec![0; 16 * BLOCK_SIZE]);
+    /// card.ream(2, 200, REVISION_0, fs)?;
+    /// card.write(5, &[7; BLOCK_SIZE])?;
+    /// card.write(6, &[7; BLOCK_SIZE])?;
+    /// card.snap(mon)?;
+    /// card.write(5, &[9; BLOCK_SIZE])?;
+    /// assert_eq!(card.visit(Target::Active, 5)?, Some(fs));
+    /// assert_eq!(card.visit(Target::Active, 6)?, Some(mon));
+    /// assert_eq!(card.visit(Target::Active, 7)?, None);
+    /// assert_eq!(card.visit(Target::Snapshot(mon), 5)?, Some(mon));
+    ///
+    /// card.revert(mon)?;
+    /// assert_eq!(card.visit(Target::Active, 6)?, Some(fs));
+    /// # Ok::<(), mantreuy::Refusal>(())
+    /// ```
+    ///
+    /// # Errors
+    ///
+    /// [`Kind::NoSnapshot`], [`Kind::BadBlock`], [`Kind::BadEntry`].
+    pub fn visit(&self, target: Target, block: u32) -> Result<Option<Name>, Refusal> {
+        let card = self.as_bytes();
+        let (snapshot, name) = target.lent();
+        let mut visit = [0; NAME_SIZE];
+        let to = visit.as_mut_ptr();
+        // SAFETY: two slices and sixteen bytes that do not overlap, and the place.
+        answer(|place| unsafe {
+            mantreuy_visit(
+                card.as_ptr(),
+                card.len(),
+                snapshot,
+                name.as_ptr(),
+                NAME_SIZE,
+                block,
+                to,
+                place,
+            )
+        })?;
+        Ok((visit != [0; NAME_SIZE]).then_some(Name(visit)))
     }
 
     /// Lists the snapshots, oldest first, and the active volume after them.

@@ -1,7 +1,8 @@
 //! A call as a value, with its arguments and the content of what is lent to it besides the
 //! card; and what a call says: its answer and that content at exit.
 
-use crate::store::{self, Answer, Logical, Record, Target};
+use crate::numbers::NAME_SIZE;
+use crate::store::{self, Answer, Logical, Name, Record, Target};
 
 #[derive(Clone, Debug)]
 pub enum Call {
@@ -30,6 +31,10 @@ pub enum Call {
         lent: Vec<Record>,
     },
     Check,
+    Visit {
+        target: Target,
+        logical: Logical,
+    },
 }
 
 /// The kinds of calls; as a number, the row of a table.
@@ -42,10 +47,13 @@ pub enum Kind {
     Revert,
     List,
     Check,
+    Visit,
 }
 
 /// The titles of the rows.
-pub const KINDS: [&str; 7] = ["ream", "read", "write", "snap", "revert", "list", "check"];
+pub const KINDS: [&str; 8] = [
+    "ream", "read", "write", "snap", "revert", "list", "check", "visit",
+];
 
 impl Call {
     pub fn kind(&self) -> Kind {
@@ -57,6 +65,7 @@ impl Call {
             Call::Revert { .. } => Kind::Revert,
             Call::List { .. } => Kind::List,
             Call::Check => Kind::Check,
+            Call::Visit { .. } => Kind::Visit,
         }
     }
 
@@ -79,6 +88,8 @@ pub struct Said {
     pub records: Vec<Record>,
     /// How many records were filled.
     pub filled: usize,
+    /// The name that a visit gives; zeros for none, and for every other call.
+    pub visit: Name,
 }
 
 fn plain(answer: Answer) -> Said {
@@ -87,6 +98,7 @@ fn plain(answer: Answer) -> Said {
         block: Vec::new(),
         records: Vec::new(),
         filled: 0,
+        visit: [0; NAME_SIZE],
     }
 }
 
@@ -130,5 +142,12 @@ pub fn carry_out(card: &mut [u8], call: &Call) -> Said {
             }
         }
         Call::Check => plain(store::check(card)),
+        Call::Visit { target, logical } => {
+            let (answer, name) = store::visit(card, target, *logical);
+            Said {
+                visit: name.unwrap_or_default(),
+                ..plain(answer)
+            }
+        }
     }
 }

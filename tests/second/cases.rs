@@ -1,8 +1,8 @@
-//! Cases of document 02's revisions, worked out by hand from the papers: calls in order on a
-//! card, and what each of them gives. No store has a part in what is said here.
+//! Cases worked out by hand from the papers: calls in order on a card, and what each of them
+//! gives. No store has a part in what is said here. Those of document 02's revisions stand here.
 
-use crate::call::Call;
-use crate::store::{Answer, Logical, Record, Target, NOTHING};
+use crate::call::{Call, Said};
+use crate::store::{shown, Answer, Logical, Name, Record, Target, NOTHING};
 
 /// Calls in order on a card of so many blocks. What the blocks hold before does not matter.
 pub struct Case {
@@ -18,6 +18,10 @@ pub struct Step {
     /// The lent block and the lent list at exit, empty where none is lent.
     block: Vec<u8>,
     records: Vec<Record>,
+    /// The name that a visit gives; zeros for none, and for every other call.
+    visit: Name,
+    /// Numbers that are put on the card before the call, by block and byte.
+    pub put: Vec<(usize, usize, u32)>,
     /// Blocks of the card after the call.
     stored: Vec<(usize, Vec<u8>)>,
     /// So many blocks at the card's start are as they were before the call.
@@ -41,12 +45,14 @@ fn accepted(call: Call) -> Step {
         },
         block,
         records,
+        visit: Name::default(),
+        put: Vec::new(),
         stored: Vec::new(),
         kept: 0,
     }
 }
 
-fn ream(layout: u64, volume: u64, revision: u64, name: &str) -> Step {
+pub fn ream(layout: u64, volume: u64, revision: u64, name: &str) -> Step {
     accepted(Call::Ream {
         layout,
         volume,
@@ -55,21 +61,25 @@ fn ream(layout: u64, volume: u64, revision: u64, name: &str) -> Step {
     })
 }
 
-fn write(logical: u64, fill: u8) -> Step {
+pub fn write(logical: u64, fill: u8) -> Step {
     accepted(Call::Write {
         logical: Logical(logical),
         lent: vec![fill; SIZE],
     })
 }
 
-/// A read of a visit, or of the active store by `*`, that gives 512 bytes of that value.
-fn read(from: &str, logical: u64, byte: u8) -> Step {
-    let target = match from {
+/// The active store by `*`, or the snapshot that has the name.
+fn target(of: &str) -> Target {
+    match of {
         "*" => Target::Active,
-        _ => Target::Snapshot(from.as_bytes().to_vec()),
-    };
+        _ => Target::Snapshot(of.as_bytes().to_vec()),
+    }
+}
+
+/// A read of a visit, or of the active store by `*`, that gives 512 bytes of that value.
+pub fn read(from: &str, logical: u64, byte: u8) -> Step {
     let call = Call::Read {
-        target,
+        target: target(from),
         logical: Logical(logical),
         lent: vec![BEFORE; SIZE],
     };
@@ -79,20 +89,31 @@ fn read(from: &str, logical: u64, byte: u8) -> Step {
     }
 }
 
-fn snap(name: &str) -> Step {
+/// A visit of a snapshot, or of the active store by `*`, that gives the name, or none by an empty
+/// text.
+pub fn visit(of: &str, logical: u64, name: &str) -> Step {
+    let mut step = accepted(Call::Visit {
+        target: target(of),
+        logical: Logical(logical),
+    });
+    step.visit[..name.len()].copy_from_slice(name.as_bytes());
+    step
+}
+
+pub fn snap(name: &str) -> Step {
     accepted(Call::Snap {
         name: name.as_bytes().to_vec(),
     })
 }
 
-fn revert(name: &str) -> Step {
+pub fn revert(name: &str) -> Step {
     accepted(Call::Revert {
         name: name.as_bytes().to_vec(),
     })
 }
 
 /// A list that gives these names with alpha, beta and next, and leaves the other records.
-fn list(given: &[(&str, u64, u64, u64)]) -> Step {
+pub fn list(given: &[(&str, u64, u64, u64)]) -> Step {
     let mut step = accepted(Call::List {
         lent: vec![NOTHING; LENT],
     });
@@ -103,17 +124,29 @@ fn list(given: &[(&str, u64, u64, u64)]) -> Step {
     step
 }
 
-fn check() -> Step {
+pub fn check() -> Step {
     accepted(Call::Check)
 }
 
 impl Step {
     /// The call is refused, place 0.
-    fn refused(mut self, number: u64) -> Step {
-        self.answer.number = number;
+    pub fn refused(self, number: u64) -> Step {
+        self.refused_at(number, 0)
+    }
+
+    /// The call is refused.
+    pub fn refused_at(mut self, number: u64, place: u64) -> Step {
+        self.answer = Answer { number, place };
         if let Call::Read { lent, .. } = &self.call {
             self.block = lent.clone();
         }
+        self.visit = Name::default();
+        self
+    }
+
+    /// The number is put on the card before the call.
+    pub fn after(mut self, block: usize, byte: usize, number: u32) -> Step {
+        self.put.push((block, byte, number));
         self
     }
 
@@ -129,24 +162,30 @@ impl Step {
         self
     }
 
-    /// Holds what was said, and the card before and after the call, against the step.
-    pub fn compare(
-        &self,
-        answer: Answer,
-        block: &[u8],
-        records: &[Record],
-        before: &[u8],
-        after: &[u8],
-    ) -> Result<(), String> {
-        if answer != self.answer {
-            return Err(format!("{answer:?} and not {:?}", self.answer));
+    /// Puts on the card what is put there before the call.
+    pub fn prepare(&self, card: &mut [u8]) {
+        for (block, byte, number) in &self.put {
+            let at = block * SIZE + byte;
+            card[at..at + 4].copy_from_slice(&number.to_le_bytes());
         }
-        if block != self.block {
+    }
+
+    /// Holds what was said, and the card before and after the call, against the step.
+    pub fn compare(&self, said: &Said, before: &[u8], after: &[u8]) -> Result<(), String> {
+        if said.answer != self.answer {
+            return Err(format!("{:?} and not {:?}", said.answer, self.answer));
+        }
+        if said.block != self.block {
             return Err("the lent block is another".to_string());
         }
-        if records != self.records {
-            let at = (0..records.len()).find(|k| records[*k] != self.records[*k]);
-            return Err(format!("record {at:?} is another"));
+        if said.records != self.records {
+            let records = said.records.iter().zip(&self.records);
+            let at = records.take_while(|pair| pair.0 == pair.1).count();
+            return Err(format!("record {at} is another"));
+        }
+        if said.visit != self.visit {
+            let names = (shown(&said.visit), shown(&self.visit));
+            return Err(format!("the name {} and not {}", names.0, names.1));
         }
         let kept = match self.answer.number {
             0 => self.kept * SIZE,
@@ -199,7 +238,7 @@ pub fn all() -> Vec<Case> {
             steps,
         });
     };
-    case("ream, area of one block", 1, no_area());
+    case("area of one block", 1, no_area());
     case("ream, revisions", 2, reams());
     case("revert, refusals", 8, reverts());
     case("example, layout 1, revision 0", 16, example_1(0));
@@ -220,13 +259,15 @@ pub fn all() -> Vec<Case> {
     cases
 }
 
-/// 1 stands before 17.
+/// 1 stands before all others.
 fn no_area() -> Vec<Step> {
     vec![
         ream(2, 9, 2, "fs").refused(1),
         ream(0, 0, u64::from(u32::MAX), "").refused(1),
         ream(2, 9, 1, "fs").refused(1),
         revert("").refused(1),
+        visit("*", 0, "").refused(1),
+        visit("", 9, "").refused(1),
     ]
 }
 

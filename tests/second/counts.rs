@@ -1,5 +1,7 @@
-//! Counts of answers, by the row of a table and by the answer's number; and of accepted reverts.
+//! Counts of answers, by the row of a table and by the answer's number; of accepted reverts; and
+//! of accepted visits.
 
+use crate::store::Name;
 use std::collections::BTreeMap;
 
 /// From how many random lists on all that can arise must have arisen.
@@ -117,6 +119,67 @@ impl Reverts {
         let none = counts.iter().filter(|(_, count)| *count == 0);
         none.map(|(words, _)| format!("a revert, {words}"))
             .collect()
+    }
+}
+
+/// What an accepted visit names.
+#[derive(Clone, Copy)]
+pub enum Dated {
+    /// None: no content is held.
+    Never,
+    /// The target's own region.
+    Own,
+    /// One before it.
+    Older,
+}
+
+impl Dated {
+    /// What the name given is to a target of this name.
+    pub fn of(given: &Name, target: &Name) -> Dated {
+        match *given == Name::default() {
+            true => Dated::Never,
+            false if given == target => Dated::Own,
+            false => Dated::Older,
+        }
+    }
+}
+
+/// Accepted visits by what they name, each count for the active volume and for snapshots.
+#[derive(Default)]
+pub struct Visits([[u64; 3]; 2]);
+
+impl Visits {
+    pub fn add(&mut self, snapshot: bool, dated: Dated) {
+        self.0[usize::from(snapshot)][dated as usize] += 1;
+    }
+
+    /// Each count, in words.
+    fn counts(&self) -> impl Iterator<Item = (String, u64)> + '_ {
+        let targets = ["the active volume", "a snapshot"].into_iter().enumerate();
+        targets.flat_map(move |(row, target)| {
+            let named = ["none", "its own region", "an older region"]
+                .into_iter()
+                .enumerate();
+            named.map(move |(k, words)| (format!("{target}, {words}"), self.0[row][k]))
+        })
+    }
+
+    /// Prints the counts; nothing where there was no visit.
+    pub fn print(&self) {
+        let sum: u64 = self.0.iter().flatten().sum();
+        if sum == 0 {
+            return;
+        }
+        println!("{sum} accepted visits");
+        for (words, count) in self.counts() {
+            println!("of {words}: {count}");
+        }
+    }
+
+    /// The counts that are 0. Each can be above it.
+    pub fn missing(&self) -> Vec<String> {
+        let none = self.counts().filter(|(_, count)| *count == 0);
+        none.map(|(words, _)| format!("a visit, {words}")).collect()
     }
 }
 

@@ -174,6 +174,7 @@ fn every_call(count: &mut Count) {
             ("snap", store::snap(&mut card, b"mon")),
             ("revert", store::revert(&mut card, b"mon")),
             ("revert, no visit", store::revert(&mut card, b"tue")),
+            ("visit", store::visit(&card, &mon, far).0),
         ];
         for (name, said) in calls {
             let name = format!("{name} where {other} follows {revision}");

@@ -1,13 +1,14 @@
 //! Random damage to cards in use: no call may come to grief, a refused call leaves card and
-//! lent memory, and an accepted one leaves a sound chain. Damage to bytes 40 to 63 of a
-//! descriptor alone is met by 6 with its place.
+//! lent memory, and an accepted one leaves a sound chain. A visit answers as a read does, and its
+//! name is reckoned from the listing. Damage to bytes 40 to 63 of a descriptor alone is met by 6
+//! with its place.
 
 use crate::call::{carry_out, Call};
 use crate::counts::Counts;
-use crate::numbers::{ANSWERS, BLOCK, MOST_DESCRIPTORS, NUMBER, TABLE_ENTRIES};
+use crate::numbers::*;
 use crate::reserved;
 use crate::rng::Rng;
-use crate::store::{self, Logical, Target, NOTHING};
+use crate::store::{self, number_at, Answer, Logical, Name, Target, NOTHING};
 use crate::Count;
 
 /// Runs the cards of `count` seeds and prints how often each number arose.
@@ -58,6 +59,7 @@ fn reserved_bytes(rng: &mut Rng, good: &[u8]) -> Result<(), String> {
         met.push(store::write(&mut card, first, &lent));
         met.push(store::snap(&mut card, b"new"));
         met.push(store::revert(&mut card, b"v0"));
+        met.push(store::visit(&card, &Target::Active, first).0);
     }
     if let Some(answer) = met.into_iter().find(|answer| *answer != expected) {
         return Err(format!("{answer:?} and not {expected:?}"));
@@ -93,7 +95,7 @@ fn random_call(rng: &mut Rng) -> Call {
     let name = format!("v{}", rng.below(9)).into_bytes();
     let logical = Logical(rng.below(310));
     let content = vec![rng.below(4) as u8; BLOCK];
-    match rng.below(8) {
+    match rng.below(10) {
         0 => Call::Read {
             target: Target::Active,
             logical,
@@ -113,8 +115,71 @@ fn random_call(rng: &mut Rng) -> Call {
         6 => Call::List {
             lent: vec![NOTHING; rng.below(30) as usize],
         },
-        _ => Call::Check,
+        7 => Call::Check,
+        8 => Call::Visit {
+            target: Target::Active,
+            logical,
+        },
+        _ => Call::Visit {
+            target: Target::Snapshot(name),
+            logical,
+        },
     }
+}
+
+/// The region of the block that a read of the target gives, by the listing and the entries: the
+/// last that starts at or before it. Zeros where the entry is nil.
+fn reckoned(card: &[u8], target: &Target, logical: Logical) -> Option<Name> {
+    let mut records = [NOTHING; MOST_DESCRIPTORS];
+    let count = store::list(card, &mut records).1;
+    let records = &records[..count];
+    let of = match target {
+        Target::Active => records.last()?,
+        Target::Snapshot(name) => {
+            let name = store::padded(name);
+            records.iter().find(|record| record.name == name)?
+        }
+    };
+    let number = |block: u64, byte: usize| number_at(card, block as usize * BLOCK + byte);
+    let (i, j) = (logical.0 / TABLE_ENTRIES, logical.0 % TABLE_ENTRIES);
+    let table = match number(0, LAYOUT) {
+        1 => of.alpha + 1 + i,
+        _ => number(of.alpha, phi_byte(i)),
+    };
+    if table == 0 || number(table, entry_byte(j)) == 0 {
+        return Some(Name::default());
+    }
+    let data = number(table, entry_byte(j));
+    let mut regions = records.iter();
+    regions
+        .rfind(|record| record.alpha <= data)
+        .map(|record| record.name)
+}
+
+/// Holds a visit against a read of the same block, and its name against the listing.
+fn beside_read(
+    card: &[u8],
+    target: &Target,
+    logical: Logical,
+    said: (Answer, Name),
+) -> Result<(), String> {
+    let mut block = [1; BLOCK];
+    let read = store::read(card, target, logical, &mut block);
+    let name = match read == store::ACCEPTED {
+        true => reckoned(card, target, logical),
+        false => Some(Name::default()),
+    };
+    if said.0 != read || Some(said.1) != name {
+        let names = (store::shown(&said.1), name.map(|name| store::shown(&name)));
+        return Err(format!(
+            "visit: {:?}, {} where a read has {read:?}, and {:?} is reckoned",
+            said.0, names.0, names.1
+        ));
+    }
+    if read == store::ACCEPTED && said.1 == Name::default() && block != [0; BLOCK] {
+        return Err("no region for a block that holds something".to_string());
+    }
+    Ok(())
 }
 
 /// Runs some calls on one damaged card.
@@ -132,6 +197,9 @@ fn one(seed: u64, answers: &mut Counts) -> Result<(), String> {
         let refused = said.answer != store::ACCEPTED;
         if refused && (card != before || said.block != block || said.records != records) {
             return Err(format!("{:?} has changed something", said.answer));
+        }
+        if let Call::Visit { target, logical } = &call {
+            beside_read(&card, target, *logical, (said.answer, said.visit))?;
         }
         let chain = store::list(&card, &mut [NOTHING; MOST_DESCRIPTORS]).0;
         if !refused && chain != store::ACCEPTED {

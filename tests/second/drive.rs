@@ -1,5 +1,5 @@
 //! Drives the library through its C boundary beside the own store and compares, after each
-//! call, the answer, the whole card and all lent memory.
+//! call, the answer, the whole card and all lent memory; and the names of visits with the origins.
 
 #[path = "drive/boundary.rs"]
 mod boundary;
@@ -19,6 +19,7 @@ mod lists;
 #[path = "drive/names.rs"]
 mod names;
 mod numbers;
+mod origins;
 #[path = "drive/pair.rs"]
 mod pair;
 mod reserved;
@@ -30,6 +31,7 @@ mod store;
 mod table;
 #[path = "drive/values.rs"]
 mod values;
+mod visits;
 
 use counts::{all_met, ENOUGH};
 use std::process::ExitCode;
@@ -40,7 +42,7 @@ drive calls SEED COUNT       random lists of calls
 drive damaged SEED COUNT     random calls on damaged cards
 drive rollback SEED COUNT    each accepted revert beside the shorter list
 drive names SEED COUNT       lists of texts made into names
-drive values SEED COUNT      the bench value of 255 snaps and one more, and revisions
+drive values SEED COUNT      the bench value of 255 snaps and one more, and cases by hand
 ";
 
 /// One list: it counts its answers in the table, or says what differed.
@@ -51,24 +53,26 @@ struct Command {
     list: List,
     expected: table::Expected,
     enough: u64,
-    /// Whether it counts accepted reverts.
+    /// Whether it counts accepted reverts, and accepted visits.
     reverts: bool,
+    visits: bool,
 }
 
 fn command(name: &str) -> Option<Command> {
-    let (list, expected, enough, reverts): (List, table::Expected, u64, bool) = match name {
-        "calls" => (calls::one, table::CALLS, ENOUGH, false),
-        "damaged" => (damaged::one, table::DAMAGED, ENOUGH, false),
-        "rollback" => (rollback::one, table::ROLLBACK, ENOUGH, true),
-        "names" => (names::one, table::NAMES, ENOUGH, false),
-        "values" => (values::one, table::VALUES, 1, false),
+    let (list, expected, enough): (List, table::Expected, u64) = match name {
+        "calls" => (calls::one, table::CALLS, ENOUGH),
+        "damaged" => (damaged::one, table::DAMAGED, ENOUGH),
+        "rollback" => (rollback::one, table::ROLLBACK, ENOUGH),
+        "names" => (names::one, table::NAMES, ENOUGH),
+        "values" => (values::one, table::VALUES, 1),
         _ => return None,
     };
     Some(Command {
         list,
         expected,
         enough,
-        reverts,
+        reverts: name == "rollback",
+        visits: name != "names",
     })
 }
 
@@ -91,6 +95,9 @@ fn run(command: &Command, seed: u64, count: u64) -> ExitCode {
     let mut missing = table.missing(command.expected);
     if command.reverts {
         missing.extend(table.reverts.missing());
+    }
+    if command.visits {
+        missing.extend(table.visits.missing());
     }
     case(
         all_met("answers", &missing, count, command.enough),

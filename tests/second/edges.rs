@@ -117,6 +117,7 @@ fn by_hand() -> Vec<(String, Vec<u8>, String)> {
         ("longer-op", b"op=lists\n"),
         ("shorter-op", b"op=lis\n"),
         ("unknown-op", b"op=clone name=mon\n"),
+        ("no-line-for-visits", b"op=visit from=* block=1\n"),
         ("extra-pair-on-list", b"op=list name=mon\n"),
         ("extra-pair-on-snap", b"op=snap name=mon name=mon\n"),
         ("missing-name", b"op=snap\n"),

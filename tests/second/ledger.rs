@@ -3,7 +3,7 @@
 
 use crate::call::Call;
 use crate::numbers::{BLOCK, MOST_SNAPSHOTS, NAME_SIZE};
-use crate::store::Target;
+use crate::store::{Logical, Target};
 
 pub type Volume = Vec<[u8; BLOCK]>;
 
@@ -135,6 +135,23 @@ impl Ledger {
                 }
             }
             Call::Check => Word::Done,
+            Call::Visit { target, logical } => match self.refusal(target, *logical) {
+                Some(number) => Word::Refused(number),
+                None => Word::Done,
+            },
         }
+    }
+
+    /// The refusal of a visit. What it names is for the origins.
+    fn refusal(&self, target: &Target, logical: Logical) -> Option<u64> {
+        if let Target::Snapshot(name) = target {
+            if !is_name(name) {
+                return Some(4);
+            }
+            if self.position(name).is_none() {
+                return Some(7);
+            }
+        }
+        (logical.0 >= self.active.len() as u64).then_some(8)
     }
 }

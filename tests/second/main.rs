@@ -10,6 +10,7 @@ mod edges;
 mod ledger;
 mod make;
 mod numbers;
+mod origins;
 mod program;
 mod reserved;
 mod rng;
@@ -20,6 +21,7 @@ mod sheets;
 mod store;
 mod tally;
 mod values;
+mod visits;
 
 use std::io::{Read, Write};
 use std::process::ExitCode;
@@ -29,7 +31,7 @@ second run < SHEET                  run a sheet on the own reader
 second make SEED                    print the sheet of a seed
 second sheets PROGRAM SEED COUNT    compare a program on random sheets
 second edges PROGRAM                compare a program on sheets at the edges
-second values                       bench values, rules and revisions on the own store
+second values                       bench values, rules and cases by hand on the own store
 second rollback SEED COUNT          rollback and ledger on the own store
 second damaged SEED COUNT           calls on randomly damaged cards, own store
 ";

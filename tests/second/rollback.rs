@@ -1,16 +1,17 @@
 //! Rollback and the forgotten calls, on the own store: for each accepted revert of a random
 //! list of calls the shorter list is run from the same start, and the two runs are compared
-//! right after it and after each later call. Beside the run stand the ledger and the count
-//! of blocks, so that agreement of two runs alone is not enough. Cards are of both revisions,
-//! and some lists start from a card in use.
+//! right after it and after each later call. Beside the run stand the ledger, the origins and the
+//! count of blocks, so that agreement of two runs alone is not enough. Cards are of both
+//! revisions, and some lists start from a card in use.
 
 use crate::call::{carry_out, Call, Said, KINDS};
-use crate::counts::{all_met, Counts, Reverts, ENOUGH};
+use crate::counts::{all_met, Counts, Dated, Reverts, Visits, ENOUGH};
 use crate::ledger::{Ledger, Word};
 use crate::numbers::*;
+use crate::origins::{Origins, AFTER_REVERT, AT_END};
 use crate::rng::Rng;
 use crate::room::Room;
-use crate::store::{self, Logical, Record, Target, NOTHING};
+use crate::store::{self, Logical, Name, Record, Target, NOTHING};
 use crate::Count;
 
 /// The weight of snaps in a list that is to meet 13.
@@ -22,6 +23,9 @@ struct Summary {
     answers: Counts,
     reverts: Reverts,
     compared: u64,
+    visits: Visits,
+    /// How many names of visits were held against the origins.
+    names: u64,
 }
 
 /// Runs the lists of `count` seeds.
@@ -36,6 +40,10 @@ pub fn run(seed: u64, count: u64) -> Count {
     summary.reverts.print(summary.compared);
     let met = all_met("reverts", &summary.reverts.missing(), count, ENOUGH);
     sum.case("reverts of each kind", met);
+    summary.visits.print();
+    println!("{} names compared with the origins", summary.names);
+    let met = all_met("visits", &summary.visits.missing(), count, ENOUGH);
+    sum.case("visits of each kind", met);
     sum
 }
 
@@ -59,6 +67,7 @@ struct Run {
     found: Vec<Vec<u8>>,
     card: Vec<u8>,
     ledger: Ledger,
+    origins: Origins,
     room: Room,
     calls: Vec<Call>,
     /// Accepted snaps: the name and the place in the list.
@@ -131,6 +140,7 @@ impl Run {
             found: Vec::new(),
             card,
             ledger: Ledger::new(b"fs", volume, revision),
+            origins: Origins::new(b"fs", volume, revision),
             room: Room::new(layout, volume, revision, blocks),
             calls: Vec::new(),
             snaps: Vec::new(),
@@ -161,7 +171,8 @@ impl Run {
         if end != store::ACCEPTED {
             return Err(format!("check at the end: {end:?}"));
         }
-        Ok(())
+        self.beside_origins(AT_END, summary)
+            .map_err(|reason| format!("at the end: {reason}"))
     }
 
     /// Has the list start from the card as it is.
@@ -183,7 +194,7 @@ impl Run {
             .answers
             .add(call.kind() as usize, said.answer.number, 1);
         let accepted = said.answer == store::ACCEPTED;
-        self.beside_ledger(call, &said)?;
+        self.beside_ledger(call, &said, summary)?;
         let changes = matches!(
             call,
             Call::Write { .. } | Call::Snap { .. } | Call::Revert { .. }
@@ -205,10 +216,47 @@ impl Run {
         }
         match call {
             Call::Snap { name } if accepted => self.snaps.push((name.clone(), self.calls.len())),
-            Call::Revert { name } if accepted => self.reverted(call, name, summary)?,
+            Call::Revert { name } if accepted => {
+                self.reverted(call, name, summary)?;
+                self.beside_origins(AFTER_REVERT, summary)?;
+            }
             _ => {}
         }
         Ok(())
+    }
+
+    /// Holds about `most` visits against the origins.
+    fn beside_origins(&mut self, most: u64, summary: &mut Summary) -> Result<(), String> {
+        for (target, logical) in self.origins.visits(&mut self.rng, &self.hot, most) {
+            let (answer, name) = store::visit(&self.card, &target, logical);
+            let expected = self.expected_visit(&target, logical)?;
+            let name = name.unwrap_or_default();
+            if answer != store::ACCEPTED || name != expected {
+                let names = (store::shown(&name), store::shown(&expected));
+                return Err(format!(
+                    "visit of {target:?}, {logical:?}: {answer:?}, {} and not {}",
+                    names.0, names.1
+                ));
+            }
+            summary.names += 1;
+        }
+        Ok(())
+    }
+
+    /// The name that an accepted visit gives by the origins, and by the count of blocks.
+    fn expected_visit(&self, target: &Target, logical: Logical) -> Result<Name, String> {
+        let name = self.origins.name(target, logical)?;
+        let names = self.ledger.names();
+        let volume = match target {
+            Target::Active => names.len() - 1,
+            Target::Snapshot(name) => self.ledger.position(name).ok_or("no such volume")?,
+        };
+        let region = self.room.written_in(volume, logical.0);
+        let counted = region.map_or(Name::default(), |k| store::padded(&names[k]));
+        match name == counted {
+            true => Ok(name),
+            false => Err("the origins and the count of blocks differ".to_string()),
+        }
     }
 
     /// Starts the shorter list of an accepted revert on a card of its own. The forgotten calls
@@ -246,7 +294,12 @@ impl Run {
     }
 
     /// Holds what the store says against the ledger and the count of blocks.
-    fn beside_ledger(&mut self, call: &Call, said: &Said) -> Result<(), String> {
+    fn beside_ledger(
+        &mut self,
+        call: &Call,
+        said: &Said,
+        summary: &mut Summary,
+    ) -> Result<(), String> {
         let room = match call {
             Call::Write { logical, .. } => self.room.has_for_write(logical.0),
             Call::Snap { .. } => self.room.has_for_snap(),
@@ -267,6 +320,7 @@ impl Run {
             return Err(format!("{:?} where the ledger says {number}", said.answer));
         }
         let mut records = Vec::new();
+        let mut visit = Name::default();
         match call {
             Call::Read { lent, .. } => {
                 let expected = block.map_or(lent.clone(), |block| block.to_vec());
@@ -300,12 +354,29 @@ impl Run {
                     }
                 }
             }
+            Call::Visit { target, logical } if number == 0 => {
+                visit = self.expected_visit(target, *logical)?;
+                let (snapshot, own) = match target {
+                    Target::Active => (false, &b"fs"[..]),
+                    Target::Snapshot(name) => (true, &name[..]),
+                };
+                let dated = Dated::of(&visit, &store::padded(own));
+                summary.visits.add(snapshot, dated);
+                summary.names += 1;
+            }
             _ => {}
         }
         if said.records != records {
             return Err("the list is not the ledger's".to_string());
         }
-        Ok(())
+        if said.visit != visit {
+            let names = (store::shown(&said.visit), store::shown(&visit));
+            return Err(format!("the name {} and not {}", names.0, names.1));
+        }
+        match number {
+            0 => self.origins.step(call),
+            _ => Ok(()),
+        }
     }
 
     /// The records by the ledger's names and the count of blocks.
@@ -341,20 +412,19 @@ impl Run {
                 logical: self.logical(),
                 lent: self.content(),
             },
-            450..=729 => {
-                let target = if self.rng.once_in(2) {
-                    Target::Active
-                } else {
-                    Target::Snapshot(self.old_name())
-                };
+            450..=609 => {
                 let length = self.block_length();
                 let lent = (0..length).map(|k| (k * 7) as u8).collect();
                 Call::Read {
-                    target,
+                    target: self.target(),
                     logical: self.logical(),
                     lent,
                 }
             }
+            610..=729 => Call::Visit {
+                target: self.target(),
+                logical: self.logical(),
+            },
             730..=799 => Call::List {
                 lent: self.lent_list(),
             },
@@ -369,6 +439,13 @@ impl Run {
             _ => Call::Snap {
                 name: self.fresh_name(),
             },
+        }
+    }
+
+    fn target(&mut self) -> Target {
+        match self.rng.once_in(2) {
+            true => Target::Active,
+            false => Target::Snapshot(self.old_name()),
         }
     }
 
@@ -591,5 +668,6 @@ fn short(call: &Call) -> String {
         Call::Revert { name } => format!("revert {}", text(name)),
         Call::List { .. } => "list".to_string(),
         Call::Check => "check".to_string(),
+        Call::Visit { logical, .. } => format!("visit {}", logical.0),
     }
 }

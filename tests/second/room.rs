@@ -1,5 +1,5 @@
 //! A count of the blocks that a list of calls takes, made without looking at a card: what
-//! was touched in each region says what a write needs.
+//! was touched in each region says what a write needs, and where a block of a volume was written.
 
 use crate::numbers::TABLE_ENTRIES;
 use std::collections::BTreeSet;
@@ -91,6 +91,13 @@ impl Room {
         if self.stays {
             self.take_snap();
         }
+    }
+
+    /// The last of the first k + 1 regions that has a data block of this logical block: where the
+    /// k-th volume's version of it was written.
+    pub fn written_in(&self, k: usize, logical: u64) -> Option<usize> {
+        let mut regions = self.regions[..=k].iter();
+        regions.rposition(|region| region.logicals.contains(&logical))
     }
 
     /// Alpha, beta and next of each region.

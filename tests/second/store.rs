@@ -1,5 +1,5 @@
-//! The card store of document 01, with document 02's revisions, on an area of bytes of any
-//! length and content.
+//! The card store of document 01, with document 02's revisions and the visit that a block dates
+//! from, on an area of bytes of any length and content.
 //! Each call is written as its ladder of refusals, top to bottom, and then what it does.
 //! Numbers are u64 and physical unless they are `Logical`.
 
@@ -24,7 +24,7 @@ pub const ACCEPTED: Answer = Answer {
     place: 0,
 };
 
-/// What a read is of. The text of a snapshot's name may be no name.
+/// What a read or a visit is of. The text of a snapshot's name may be no name.
 #[derive(Clone, PartialEq, Eq, Debug)]
 pub enum Target {
     Active,
@@ -127,6 +127,11 @@ pub fn unpadded(name: &Name) -> &[u8] {
         length -= 1;
     }
     &name[..length]
+}
+
+/// A name, or none by zeros, as it is shown where it is not the expected one.
+pub fn shown(name: &Name) -> String {
+    format!("\"{}\"", unpadded(name).escape_ascii())
 }
 
 /// Whether sixteen stored bytes are a name.
@@ -288,6 +293,15 @@ struct Found {
     table: u64,
     /// The data block, 0 where an entry on the way is nil.
     data: u64,
+    /// The descriptor whose region contains the data block, none where that is nil.
+    region: Option<Descriptor>,
+}
+
+/// The descriptor whose region, from alpha up to beta, contains a block.
+fn region_of(chain: &[Descriptor], block: u64) -> Option<Descriptor> {
+    let mut regions = chain.iter();
+    let found = regions.find(|descriptor| descriptor.alpha <= block && block < descriptor.beta);
+    found.copied()
 }
 
 /// Follows Phi's entry, then Pi's; or the refusal 8, or 10 at the block that holds the
@@ -312,14 +326,43 @@ fn find(
         }
         entry
     };
-    if table == 0 {
-        return Ok(Found { table, data: 0 });
-    }
-    let data = table_entry(card, table, j);
+    let data = match table {
+        0 => 0,
+        _ => table_entry(card, table, j),
+    };
     if !in_place(data, descriptor, chain) {
         return Err(refusal(10, table));
     }
-    Ok(Found { table, data })
+    // Nil first: block 0 is in a region too.
+    let region = match data {
+        0 => None,
+        _ => region_of(chain, data),
+    };
+    Ok(Found {
+        table,
+        data,
+        region,
+    })
+}
+
+/// Finds a logical block of a target: the places of a read, top to bottom, without 9 where no
+/// block is lent.
+fn find_of(
+    card: &[u8],
+    target: &Target,
+    block: Option<usize>,
+    logical: Logical,
+) -> Result<Found, Answer> {
+    let name = match target {
+        Target::Active => None,
+        Target::Snapshot(name) => Some(&name[..]),
+    };
+    let opened = open(card, name, block)?;
+    let descriptor = match name {
+        None => opened.active(),
+        Some(name) => opened.snapshot(name)?,
+    };
+    find(card, &opened.chain, &descriptor, logical)
 }
 
 /// The answer of a call that was carried out or refused.
@@ -380,16 +423,7 @@ pub fn read(card: &[u8], target: &Target, logical: Logical, lent: &mut [u8]) -> 
 }
 
 fn try_read(card: &[u8], target: &Target, logical: Logical, lent: &mut [u8]) -> Result<(), Answer> {
-    let name = match target {
-        Target::Active => None,
-        Target::Snapshot(name) => Some(&name[..]),
-    };
-    let opened = open(card, name, Some(lent.len()))?;
-    let descriptor = match name {
-        None => opened.active(),
-        Some(name) => opened.snapshot(name)?,
-    };
-    let found = find(card, &opened.chain, &descriptor, logical)?;
+    let found = find_of(card, target, Some(lent.len()), logical)?;
 
     if found.data == 0 {
         lent.fill(0);
@@ -397,6 +431,15 @@ fn try_read(card: &[u8], target: &Target, logical: Logical, lent: &mut [u8]) -> 
         lent.copy_from_slice(block_at(card, found.data));
     }
     Ok(())
+}
+
+/// The name of the descriptor whose region holds what a read of the target gives; none where that
+/// is nil, and where the call is refused.
+pub fn visit(card: &[u8], target: &Target, logical: Logical) -> (Answer, Option<Name>) {
+    match find_of(card, target, None, logical) {
+        Ok(found) => (ACCEPTED, found.region.map(|descriptor| descriptor.name)),
+        Err(refused) => (refused, None),
+    }
 }
 
 /// Writes one logical block of the active store from the lent block.

@@ -1,10 +1,10 @@
-//! Document 01's bench values, the areas that are refused, the order of refusals and document
-//! 02's revisions, each with the answer that the papers give.
+//! Document 01's bench values, the areas that are refused, the order of refusals, document 02's
+//! revisions and the visits that blocks date from, each with the answer that the papers give.
 
 use crate::call::carry_out;
 use crate::numbers::{BETA, BLOCK};
 use crate::store::{self, Answer, Logical, Record, Target, ACCEPTED, NOTHING};
-use crate::{cases, damage, Count};
+use crate::{cases, damage, visits, Count};
 
 /// Counts a case whose two sides must be equal.
 pub fn same<T: PartialEq + std::fmt::Debug>(count: &mut Count, name: &str, got: T, expected: T) {
@@ -68,7 +68,7 @@ pub fn run() -> Count {
     bench(&mut count);
     areas(&mut count);
     ladders(&mut count);
-    revisions(&mut count);
+    by_hand(&mut count);
     damage::run(&mut count);
     count
 }
@@ -213,6 +213,8 @@ fn areas(count: &mut Count) {
         );
         same(count, &name, store::list(&card, &mut []).0, one);
         same(count, &name, store::check(&card), one);
+        let visit = store::visit(&card, &nowhere, Logical(0));
+        same(count, &name, visit, (one, None));
     }
     let mut card = area(65_536);
     same(
@@ -231,6 +233,9 @@ fn areas(count: &mut Count) {
         read(&card, 14_335),
         (ACCEPTED, vec![1; BLOCK]),
     );
+    let visit = store::visit(&card, &Target::Active, Logical(14_335));
+    let fs = Some(store::padded(b"fs"));
+    same(count, "visit of the last block", visit, (ACCEPTED, fs));
     same(count, "no block left", write(&mut card, 0), answer(11, 0));
     same(
         count,
@@ -340,15 +345,16 @@ fn ladders(count: &mut Count) {
     );
 }
 
-/// The cases of revisions, on an area of zeros and on one of other bytes.
-fn revisions(count: &mut Count) {
-    for case in cases::all() {
+/// The cases by hand, on an area of zeros and on one of other bytes.
+fn by_hand(count: &mut Count) {
+    for case in cases::all().into_iter().chain(visits::all()) {
         for fill in [0, 0xff] {
             let mut card = vec![fill; case.blocks * BLOCK];
             for (k, step) in case.steps.iter().enumerate() {
+                step.prepare(&mut card);
                 let before = card.clone();
                 let said = carry_out(&mut card, &step.call);
-                let result = step.compare(said.answer, &said.block, &said.records, &before, &card);
+                let result = step.compare(&said, &before, &card);
                 let name = format!("{}, on bytes of {fill}, call {k}", case.name);
                 count.case(&name, result);
             }

@@ -2,7 +2,7 @@
 
 use crate::call::{carry_out, Call};
 use crate::declared::*;
-use crate::lent::Lent;
+use crate::lent::{noise, Lent};
 use crate::numbers::{MOST_DESCRIPTORS, NAME_SIZE};
 use crate::rng::Rng;
 use crate::store::{number_at, padded, store_number, unpadded, Logical, Name, Record, Target};
@@ -36,6 +36,13 @@ pub enum Ask {
         records: Lent,
     },
     Check,
+    Visit {
+        snapshot: u32,
+        name: Lent,
+        block: u32,
+        /// Sixteen bytes: a part of the answer, which every call stores.
+        visit: Lent,
+    },
 }
 
 /// Number and place.
@@ -62,10 +69,7 @@ impl Ask {
                 block,
                 out,
             } => Call::Read {
-                target: match snapshot {
-                    0 => Target::Active,
-                    _ => Target::Snapshot(text_of(name)),
-                },
+                target: target_of(*snapshot, name),
                 logical: Logical(u64::from(*block)),
                 lent: out.part().to_vec(),
             },
@@ -87,6 +91,15 @@ impl Ask {
                     .collect(),
             },
             Ask::Check => Call::Check,
+            Ask::Visit {
+                snapshot,
+                name,
+                block,
+                ..
+            } => Call::Visit {
+                target: target_of(*snapshot, name),
+                logical: Logical(u64::from(*block)),
+            },
         }
     }
 
@@ -109,10 +122,7 @@ impl Ask {
                 logical,
                 lent,
             } => {
-                let (snapshot, name) = match target {
-                    Target::Active => (0, name_of(&[], rng)),
-                    Target::Snapshot(name) => (1, name_of(name, rng)),
-                };
+                let (snapshot, name) = lent_target(target, rng);
                 Ask::Read {
                     snapshot,
                     name,
@@ -140,6 +150,23 @@ impl Ask {
                 }
             }
             Call::Check => Ask::Check,
+            Call::Visit { target, logical } => {
+                let (snapshot, name) = lent_target(target, rng);
+                Ask::Visit {
+                    snapshot,
+                    name,
+                    block: logical.0 as u32,
+                    visit: unset_name(rng),
+                }
+            }
+        }
+    }
+
+    /// The name that a visit has stored; zeros for every other call.
+    pub fn visit(&self) -> Name {
+        match self {
+            Ask::Visit { visit, .. } => Name::try_from(visit.part()).unwrap_or_default(),
+            _ => Name::default(),
         }
     }
 
@@ -173,6 +200,15 @@ impl Ask {
             Ask::Revert { name } => format!("revert {}", text(name)),
             Ask::List { records } => format!("list length {}", records.length()),
             Ask::Check => "check".to_string(),
+            Ask::Visit {
+                snapshot,
+                name,
+                block,
+                ..
+            } => format!(
+                "visit snapshot {snapshot} name {} block {block}",
+                text(name)
+            ),
         }
     }
 }
@@ -188,7 +224,8 @@ pub fn by_library(card: &mut [u8], ask: &mut Ask) -> Answer {
     let mut place = 0x5a5a_5a5a;
     let at = &mut place;
     let (card, n) = lend(card);
-    // Safety: each pointer and length is that of one slice, and the slices are distinct.
+    // Safety: each pointer and length is that of one slice, and the slices are distinct; that of a
+    // visit has sixteen bytes.
     let number = unsafe {
         match ask {
             Ask::Ream {
@@ -227,6 +264,16 @@ pub fn by_library(card: &mut [u8], ask: &mut Ask) -> Answer {
                 mantreuy_list(card, n, records, length, at)
             }
             Ask::Check => mantreuy_check(card, n, at),
+            Ask::Visit {
+                snapshot,
+                name,
+                block,
+                visit,
+            } => {
+                let (name, length) = lend(name.part_mut());
+                let (visit, _) = lend(visit.part_mut());
+                mantreuy_visit(card, n, *snapshot, name, length, *block, visit, at)
+            }
         }
     };
     (number, place)
@@ -238,6 +285,26 @@ pub fn pad_name(text: &mut [u8], name: &mut [u8]) -> u32 {
     let (name, name_length) = lend(name);
     // Safety: as above.
     unsafe { mantreuy_pad_name(text, text_length, name, name_length) }
+}
+
+/// What a name is stored in, with some bytes there before.
+pub fn unset_name(rng: &mut Rng) -> Lent {
+    let before = noise(rng, NAME_SIZE);
+    Lent::new(rng, &before, 40)
+}
+
+fn target_of(snapshot: u32, name: &Lent) -> Target {
+    match snapshot {
+        0 => Target::Active,
+        _ => Target::Snapshot(text_of(name)),
+    }
+}
+
+fn lent_target(target: &Target, rng: &mut Rng) -> (u32, Lent) {
+    match target {
+        Target::Active => (0, name_of(&[], rng)),
+        Target::Snapshot(name) => (1, name_of(name, rng)),
+    }
 }
 
 /// The buffer of a text; one that is too long for a name stays as it is.
@@ -279,6 +346,7 @@ pub fn by_own(card: &mut [u8], ask: &mut Ask) -> Answer {
     let said = carry_out(card, &ask.call());
     match ask {
         Ask::Read { out, .. } => out.part_mut().copy_from_slice(&said.block),
+        Ask::Visit { visit, .. } => visit.part_mut().copy_from_slice(&said.visit),
         Ask::List { records } => {
             let chunks = records.part_mut().chunks_exact_mut(RECORD_SIZE);
             for (bytes, record) in chunks.zip(&said.records) {

@@ -4,6 +4,7 @@ use crate::boundary::Ask;
 use crate::lent::Lent;
 use crate::lists::{random_name, started, Maker};
 use crate::numbers::{BLOCK, MOST_SNAPSHOTS};
+use crate::origins::{AFTER_REVERT, AT_END};
 use crate::pair::Pair;
 use crate::table::Table;
 
@@ -41,8 +42,13 @@ pub fn one(seed: u64, table: &mut Table) -> Result<(), String> {
             .call(area, &ask, table)
             .map_err(|reason| named(k, &ask, area, reason))?;
         maker.after(&ask, answer.0);
+        if matches!(ask, Ask::Revert { .. }) && answer.0 == 0 {
+            pair.beside_origins(&mut maker.rng, &maker.hot, AFTER_REVERT, table)
+                .map_err(|reason| format!("{sizes}: after call {k}: {reason}"))?;
+        }
     }
-    Ok(())
+    pair.beside_origins(&mut maker.rng, &maker.hot, AT_END, table)
+        .map_err(|reason| format!("{sizes}: at the end: {reason}"))
 }
 
 /// Fills a large card with writes and snaps; all bytes are compared at the end.

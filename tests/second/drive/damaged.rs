@@ -13,7 +13,7 @@ use crate::store::{self, Logical, Record, Target, NOTHING};
 use crate::table::Table;
 
 /// The kinds of calls on a damaged card, some more often.
-const OFTEN: [Kind; 11] = [
+const OFTEN: [Kind; 13] = [
     Kind::Read,
     Kind::Read,
     Kind::Read,
@@ -25,6 +25,8 @@ const OFTEN: [Kind; 11] = [
     Kind::List,
     Kind::Check,
     Kind::Check,
+    Kind::Visit,
+    Kind::Visit,
 ];
 
 /// The list of a seed: a card in use, damage, calls, more damage, more calls.
@@ -104,7 +106,10 @@ fn in_use(maker: &mut Maker, card: &mut [u8], length: u64) {
     maker.steady = true;
     for _ in 0..length {
         let mut ask = maker.next(card);
-        if matches!(ask, Ask::Check | Ask::Read { .. } | Ask::List { .. }) {
+        if matches!(
+            ask,
+            Ask::Check | Ask::Read { .. } | Ask::List { .. } | Ask::Visit { .. }
+        ) {
             continue;
         }
         let answer = by_own(card, &mut ask);
@@ -136,6 +141,10 @@ fn reserved_bytes(rng: &mut Rng, card: &[u8], table: &mut Table) -> Result<(), S
         calls.push(Call::Write { logical, lent });
         calls.push(Call::Snap { name: name.clone() });
         calls.push(Call::Revert { name });
+        calls.push(Call::Visit {
+            target: Target::Active,
+            logical,
+        });
     }
     let mut pair = Pair::new(Lent::new(rng, &damaged, 0));
     for call in calls {

@@ -1,6 +1,6 @@
 //! A maker of random calls. It follows the names that stand on the card by the answers.
 
-use crate::boundary::Ask;
+use crate::boundary::{unset_name, Ask};
 use crate::call::Kind;
 use crate::declared::RECORD_SIZE;
 use crate::lent::{noise, Lent};
@@ -223,7 +223,8 @@ impl Maker {
         };
         let kind = match self.rng.below(1_000 + snap) {
             0..=449 => Kind::Write,
-            450..=729 => Kind::Read,
+            450..=609 => Kind::Read,
+            610..=729 => Kind::Visit,
             730..=799 => Kind::List,
             800..=839 => Kind::Check,
             840..=859 => Kind::Ream,
@@ -239,16 +240,12 @@ impl Maker {
         match kind {
             Kind::Ream => self.ream(),
             Kind::Read => {
-                let snapshot = match self.rng.below(8) {
-                    0..=3 => 0,
-                    4 => *self.rng.pick(&[2, 256, 65_536, 1 << 31, u32::MAX]),
-                    _ => 1,
-                };
+                let (snapshot, name) = self.target();
                 let length = self.block_length();
                 let before = noise(&mut self.rng, length);
                 Ask::Read {
                     snapshot,
-                    name: self.old_name(),
+                    name,
                     block: self.logical(),
                     out: self.lent(&before),
                 }
@@ -274,7 +271,31 @@ impl Maker {
                 }
             }
             Kind::Check => Ask::Check,
+            Kind::Visit => {
+                let (snapshot, name) = self.target();
+                Ask::Visit {
+                    snapshot,
+                    name,
+                    block: self.logical(),
+                    visit: unset_name(&mut self.rng),
+                }
+            }
         }
+    }
+
+    /// The number that says whether a snapshot is meant, and the name. Beside 0 it may be any bytes.
+    fn target(&mut self) -> (u32, Lent) {
+        let snapshot = match self.rng.below(8) {
+            0..=3 => 0,
+            4 => *self.rng.pick(&[2, 256, 65_536, 1 << 31, u32::MAX]),
+            _ => 1,
+        };
+        if snapshot == 0 && self.rng.once_in(4) {
+            let length = self.rng.below(2 * NAME_SIZE as u64) as usize;
+            let bytes = noise(&mut self.rng, length);
+            return (snapshot, self.lent(&bytes));
+        }
+        (snapshot, self.old_name())
     }
 
     fn logical(&mut self) -> u32 {

@@ -1,12 +1,21 @@
-//! Two cards, the library's and the own store's, and a call on both.
+//! Two cards, the library's and the own store's, and a call on both. Beside them stand the origins
+//! since the last format.
 
 use crate::boundary::{by_library, by_own, Answer, Ask};
+use crate::call::Call;
+use crate::counts::Dated;
 use crate::lent::Lent;
+use crate::numbers::MOST_DESCRIPTORS;
+use crate::origins::Origins;
+use crate::rng::Rng;
+use crate::store::{self, padded, shown, Name, Target, NOTHING};
 use crate::table::Table;
 
 pub struct Pair {
     pub library: Lent,
     pub own: Lent,
+    /// None where the card was not made by these calls since a format.
+    origins: Option<Origins>,
 }
 
 impl Pair {
@@ -14,7 +23,15 @@ impl Pair {
         Pair {
             library: card.clone(),
             own: card,
+            origins: None,
         }
+    }
+
+    /// Changes both cards by other means than calls.
+    pub fn damage(&mut self, change: impl Fn(&mut [u8])) {
+        change(self.library.part_mut());
+        change(self.own.part_mut());
+        self.origins = None;
     }
 
     /// Carries the call out on the first `length` bytes of both cards and compares answer
@@ -35,10 +52,90 @@ impl Pair {
                 "the library answers {answer:?}, the own store {own:?}"
             ));
         }
+        if lent.visit() != own_lent.visit() {
+            let names = (shown(&lent.visit()), shown(&own_lent.visit()));
+            return Err(format!(
+                "the library gives the name {}, the own store {}",
+                names.0, names.1
+            ));
+        }
         if lent != own_lent {
             return Err(format!("lent memory differs after {answer:?}"));
         }
+        if answer.0 == 0 {
+            self.accepted(length, &ask.call(), lent.visit(), table)?;
+        }
         Ok((answer, lent))
+    }
+
+    /// Takes note of an accepted call: the origins follow it, and a visit gave their name.
+    fn accepted(
+        &mut self,
+        length: usize,
+        call: &Call,
+        given: Name,
+        table: &mut Table,
+    ) -> Result<(), String> {
+        if let Call::Visit { target, .. } = call {
+            let (snapshot, own) = match target {
+                Target::Active => (false, self.active_name(length)),
+                Target::Snapshot(text) => (true, padded(text)),
+            };
+            table.visits.add(snapshot, Dated::of(&given, &own));
+        }
+        match (call, &mut self.origins) {
+            (
+                Call::Ream {
+                    volume,
+                    revision,
+                    name,
+                    ..
+                },
+                origins,
+            ) => *origins = Some(Origins::new(name, *volume, *revision)),
+            (Call::Visit { target, logical }, Some(origins)) => {
+                let expected = origins.name(target, *logical)?;
+                if given != expected {
+                    let names = (shown(&given), shown(&expected));
+                    return Err(format!(
+                        "the name {}, and {} by the origins",
+                        names.0, names.1
+                    ));
+                }
+                table.names += 1;
+            }
+            (_, Some(origins)) => origins.step(call)?,
+            (_, None) => {}
+        }
+        Ok(())
+    }
+
+    /// The active descriptor's name.
+    fn active_name(&mut self, length: usize) -> Name {
+        let mut records = [NOTHING; MOST_DESCRIPTORS];
+        let count = store::list(self.own.lend(length), &mut records).1;
+        records[count - 1].name
+    }
+
+    /// Holds about `most` visits against the origins, mostly of the blocks given.
+    pub fn beside_origins(
+        &mut self,
+        rng: &mut Rng,
+        used: &[u32],
+        most: u64,
+        table: &mut Table,
+    ) -> Result<(), String> {
+        let used: Vec<u64> = used.iter().map(|block| u64::from(*block)).collect();
+        let visits = match &self.origins {
+            Some(origins) => origins.visits(rng, &used, most),
+            None => Vec::new(),
+        };
+        for (target, logical) in visits {
+            let ask = Ask::of(&Call::Visit { target, logical }, rng);
+            self.answers(self.own.length(), &ask, table)
+                .map_err(|reason| format!("{}: {reason}", ask.words()))?;
+        }
+        self.compare()
     }
 
     /// Compares all bytes of both cards and around them.

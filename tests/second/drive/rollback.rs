@@ -1,12 +1,13 @@
 //! Rollback and the forgotten calls, by the library: for each accepted revert the shorter
 //! list is run from the same start on a card of its own, and right after the revert and
 //! after each later call beta, the bytes below beta and all that is said are compared. The
-//! run itself stands beside the own store. Cards are of both revisions, and some lists start
-//! from a card in use.
+//! run itself stands beside the own store and the origins. Cards are of both revisions, and some
+//! lists start from a card in use.
 
 use crate::boundary::{by_library, listed_beta, Ask};
 use crate::lists::started;
 use crate::numbers::BLOCK;
+use crate::origins::{AFTER_REVERT, AT_END};
 use crate::pair::Pair;
 use crate::rng::Rng;
 use crate::store::Name;
@@ -52,9 +53,16 @@ pub fn one(seed: u64, table: &mut Table) -> Result<(), String> {
             .step(&ask, &mut maker.rng, table)
             .map_err(|reason| format!("{sizes}: call {k}, {}: {reason}", ask.words()))?;
         maker.after(&ask, number);
+        if matches!(ask, Ask::Revert { .. }) && number == 0 {
+            run.pair
+                .beside_origins(&mut maker.rng, &maker.hot, AFTER_REVERT, table)
+                .map_err(|reason| format!("{sizes}: after call {k}: {reason}"))?;
+        }
         run.calls.push(ask);
     }
-    Ok(())
+    run.pair
+        .beside_origins(&mut maker.rng, &maker.hot, AT_END, table)
+        .map_err(|reason| format!("{sizes}: at the end: {reason}"))
 }
 
 struct Run {

@@ -1,7 +1,7 @@
 //! Counts of the answers by call and number.
 
 use crate::call::KINDS;
-use crate::counts::{Counts, Reverts};
+use crate::counts::{Counts, Reverts, Visits};
 use crate::numbers::ANSWERS;
 
 /// The row of mantreuy_pad_name, after those of the calls.
@@ -21,6 +21,7 @@ pub const CALLS: Expected = [
     &[0, 1, 4, 6, 7],
     &[0, 1, 6, 14],
     &[0, 1, 6],
+    &[0, 1, 4, 6, 7, 8],
     &[],
 ];
 
@@ -32,6 +33,7 @@ pub const DAMAGED: Expected = [
     &[0, 1, 4, 6, 7],
     &[0, 1, 6, 14],
     &[0, 1, 6, 10],
+    &[0, 1, 4, 6, 7, 8, 10],
     &[],
 ];
 
@@ -44,29 +46,34 @@ pub const ROLLBACK: Expected = [
     &[0, 4, 7],
     &[0, 14],
     &[0],
+    &[0, 4, 7, 8],
     &[],
 ];
 
 /// What the cases worked out by hand give.
 pub const VALUES: Expected = [
     &[0, 1, 2, 3, 4, 5, 17],
-    &[0, 7],
+    &[0, 7, 10],
     &[0, 11],
     &[0, 11, 12, 13],
     &[0, 1, 4, 6, 7],
     &[0],
     &[0],
+    &[0, 1, 4, 6, 7, 8, 10],
     &[],
 ];
 
-pub const NAMES: Expected = [&[], &[], &[], &[], &[], &[], &[], &[0, 4]];
+pub const NAMES: Expected = [&[], &[], &[], &[], &[], &[], &[], &[], &[0, 4]];
 
 #[derive(Default)]
 pub struct Table {
     counts: Counts,
-    /// What else was counted, as a last remark.
+    /// What else was counted, as last remarks.
     pub reverts: Reverts,
     pub compared: u64,
+    pub visits: Visits,
+    /// How many names of visits were held against the origins.
+    pub names: u64,
 }
 
 impl Table {
@@ -90,6 +97,10 @@ impl Table {
         let sum: u64 = self.counts.given().map(|(_, _, times)| times).sum();
         println!("{sum} calls");
         self.reverts.print(self.compared);
+        self.visits.print();
+        if self.names > 0 {
+            println!("{} names compared with the origins", self.names);
+        }
     }
 
     /// What cannot arise and did.

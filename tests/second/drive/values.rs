@@ -1,7 +1,9 @@
 //! The bench value of document 01 that is not marked, on the library and on the own store:
-//! layout 2, N 256, 255 snaps pass, the next gives 13. Then the cases of document 02's revisions.
+//! layout 2, N 256, 255 snaps pass, the next gives 13. Then the cases by hand of document 02's
+//! revisions and visits.
 
 use crate::boundary::Ask;
+use crate::call::Said;
 use crate::cases::{self, Case};
 use crate::lent::Lent;
 use crate::numbers::BLOCK;
@@ -9,6 +11,7 @@ use crate::pair::Pair;
 use crate::rng::Rng;
 use crate::store::{self, Answer};
 use crate::table::Table;
+use crate::visits;
 
 /// The value, on both revisions, and the cases, on an area of zeros and on one of other bytes.
 pub fn one(seed: u64, table: &mut Table) -> Result<(), String> {
@@ -18,7 +21,7 @@ pub fn one(seed: u64, table: &mut Table) -> Result<(), String> {
     for revision in [0, 1] {
         bench(&mut rng, volume, revision, table)?;
     }
-    for case in cases::all() {
+    for case in cases::all().into_iter().chain(visits::all()) {
         for fill in [0, 0xff] {
             by_hand(&mut rng, &case, fill, table)
                 .map_err(|reason| format!("{}, on bytes of {fill}: {reason}", case.name))?;
@@ -52,14 +55,23 @@ fn by_hand(rng: &mut Rng, case: &Case, fill: u8, table: &mut Table) -> Result<()
     for (k, step) in case.steps.iter().enumerate() {
         let ask = Ask::of(&step.call, rng);
         let named = |reason: String| format!("call {k}, {}: {reason}", ask.words());
+        if !step.put.is_empty() {
+            pair.damage(|card| step.prepare(card));
+        }
         let before = pair.library.part().to_vec();
         let (answer, lent) = pair.call(area.len(), &ask, table).map_err(named)?;
-        let answer = Answer {
-            number: u64::from(answer.0),
-            place: u64::from(answer.1),
-        };
         let (block, records) = lent.call().lent();
-        step.compare(answer, &block, &records, &before, pair.library.part())
+        let said = Said {
+            answer: Answer {
+                number: u64::from(answer.0),
+                place: u64::from(answer.1),
+            },
+            block,
+            records,
+            filled: 0,
+            visit: lent.visit(),
+        };
+        step.compare(&said, &before, pair.library.part())
             .map_err(named)?;
     }
     Ok(())
