@@ -30,7 +30,7 @@ use Rattle.calls.specs.declared.answer.Visited.{Visited}
 use Rattle.calls.specs.Call.{Call, Read, Visit, Block, answer, accepted}
 use Rattle.calls.specs.Parts.{areaBad, snapshotsOf, isSnapshot, targetOf, targetIndex, isMisplaced, holderOf, blockFound}
 use Rattle.calls.specs.Ladder.{admission, firstRow, blockRow, entryRows, readRows, visitRows}
-use Rattle.calls.specs.Effect.{Delivered, delivered, visitOf, visitGiven, nameGiven, visitedOf, visited}
+use Rattle.calls.specs.Effect.{Delivered, delivered, givenAt, visitGiven, givenBytes, asVisited, visited}
 use Rattle.calls.specs.Meaning.{rowsOf, answerOf, lentOf, filledOf, storesOf, givenOf}
 use Rattle.calls.specs.Step.{Done, step, done}
 use Rattle.calls.proofs.StepLaws.{step-refused, step-accepted, outcome-refused, outcome-barred, outcome-accepted}
@@ -99,12 +99,12 @@ module _ (c : List ℕ) (d : Descriptor) (l : ℕ) where
     visit-misplaced h e = rw (← is, e)
 
     pub visit-nil : (m p : Physical) → at .found ≡ Entry m p → p .0 ≡ 0 → _≡_ {A = Visited} (record { answer = accepted; name = noName }) (visited all (locate c all d l))
-    unfolding visited isMisplaced visitOf foundBlock nameGiven
+    unfolding visited isMisplaced givenAt foundBlock givenBytes
     visit-nil m p e z = rw (← is, e, eq-eqb (p .0) 0 z)
 
     pub visit-named : (m p : Physical) → at .found ≡ Entry m p → (p .0 ≡ 0 → ⊥) → (name : List ℕ) → name ≡ getD all (at .owner) noDescriptor .name
         → _≡_ {A = Visited} (record { answer = accepted; name = name }) (visited all (locate c all d l))
-    unfolding visited isMisplaced visitOf foundBlock nameGiven
+    unfolding visited isMisplaced givenAt foundBlock givenBytes
     visit-named m p e n name q = rw (← is, e, ne-eqb (p .0) 0 n, q)
 
 -- the rows of a read that follow admission, in the order of the code
@@ -259,23 +259,23 @@ module _ (c : List ℕ) (target : Target) (name : List ℕ) (l : ℕ) (d : Descr
   at = locate c (descriptors (chain c)) d l
 
   given-by : (t : Bool) → isMisplaced (find c (descriptors (chain c)) d l) ≡ t
-      → pick t (record { answer = answer 10 (holderOf (find c (descriptors (chain c)) d l)); name = noName }) (record { answer = accepted; name = nameGiven (visitOf (descriptors (chain c)) at) })
-      ≡ visitedOf (step (Visit target name l) c .outcome)
-  unfolding visitedOf nameGiven givenOf visitGiven
+      → pick t (record { answer = answer 10 (holderOf (find c (descriptors (chain c)) d l)); name = noName }) (record { answer = accepted; name = givenBytes (givenAt (descriptors (chain c)) at) })
+      ≡ asVisited (step (Visit target name l) c .outcome)
+  unfolding asVisited givenBytes givenOf visitGiven
   given-by true e = rw (outcome-refused (Visit target name l) c 10 (holderOf (find c (descriptors (chain c)) d l)) (rest ∙ rw e) refl)
   given-by false e = rw (outcome-accepted (Visit target name l) c (rest ∙ rw e), target-is)
 
-  pub visit-done : (v : Visited) → v ≡ visited (descriptors (chain c)) at → v ≡ visitedOf (step (Visit target name l) c .outcome)
+  pub visit-done : (v : Visited) → v ≡ visited (descriptors (chain c)) at → v ≡ asVisited (step (Visit target name l) c .outcome)
   unfolding visited locate locatedIn
   visit-done v h = h ∙ given-by (isMisplaced (find c (descriptors (chain c)) d l)) refl
 
 -- a visit that is refused gives no name
 pub visit-refused : (c : List ℕ) (target : Target) (name : List ℕ) (l n p : ℕ) → answerOf (Visit target name l) c ≡ answer n p → eqb n 0 ≡ false
-    → _≡_ {A = Visited} (record { answer = answer n p; name = noName }) (visitedOf (step (Visit target name l) c .outcome))
-unfolding visitedOf nameGiven
+    → _≡_ {A = Visited} (record { answer = answer n p; name = noName }) (asVisited (step (Visit target name l) c .outcome))
+unfolding asVisited givenBytes
 visit-refused c target name l n p e z = rw (outcome-refused (Visit target name l) c n p e z)
 
 pub visit-barred : (c : List ℕ) (target : Target) (name : List ℕ) (l : ℕ) (a : Answer) → a ≡ firstRow (admission c) → (a .number ≡ 0 → ⊥)
-    → _≡_ {A = Visited} (record { answer = a; name = noName }) (visitedOf (step (Visit target name l) c .outcome))
-unfolding visitedOf nameGiven
+    → _≡_ {A = Visited} (record { answer = a; name = noName }) (asVisited (step (Visit target name l) c .outcome))
+unfolding asVisited givenBytes
 visit-barred c target name l a asked h = rw (outcome-barred (Visit target name l) c a asked h)

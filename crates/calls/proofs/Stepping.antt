@@ -11,13 +11,13 @@ use Rattle.calls.specs.Parts.{areaBad, snapshotsOf, targetOf, isMisplace
 use Rattle.entries.specs.Naming.{tableNamings, tablesNamings, phiNamings, namings, among, atFault, firstFault, checkOne}
 use Rattle.calls.specs.Check.{orElse, checkAll, checkCard, isFault, faultHolder}
 use Rattle.calls.specs.Ladder.{firstRow, admission, reamRows, readRows, writeRows, snapRows, revertRows, listRows, checkRows, visitRows}
-use Rattle.calls.specs.Effect.{snapping, reverting, writeStores, snapStores, revertStores, listed, visitOf, visitGiven, nameGiven}
+use Rattle.calls.specs.Effect.{snapping, reverting, writeStores, snapStores, revertStores, listed, givenAt, visitGiven, givenBytes}
 use Rattle.calls.specs.Meaning.{givenOf, rowsOf, answerOf, storesOf, lentOf, filledOf}
 use Rattle.calls.specs.Step.{step, after, outcomes}
 
 unfoldable pub stepping : ℕ
 unfolding step after outcomes answerOf rowsOf admission firstRow reamRows readRows writeRows snapRows revertRows listRows checkRows visitRows
-    storesOf writeStores snapStores revertStores snapping reverting listed visitOf visitGiven nameGiven lentOf filledOf givenOf areaBad activeOf snapshotsOf targetOf isMisplaced holderOf blockFound
+    storesOf writeStores snapStores revertStores snapping reverting listed givenAt visitGiven givenBytes lentOf filledOf givenOf areaBad activeOf snapshotsOf targetOf isMisplaced holderOf blockFound
     entryAt phiAt tableOf entryFound find foundBlock locatedIn locate tableIsNew need tableWith tailWith setInTable setInNewTable writing isDescriptor isTable inPlace contains ownerIndex
     formOk regionOk indexOf named sound chainFrom chain chainSound descriptors chainPlace tableCount cost descriptorAt headBytes descriptorBlock revisionAt revisionOk reservedOk firstTail phiOk
     clearing copying opening nameByte nameLength isName isText padded splice u32At le32 blockCount blockAt storeBlock storeAll same allZero

@@ -69,23 +69,23 @@ unfoldable pub delivered : List ℕ → Found → List ℕ → Delivered
 delivered c found block = pick (isMisplaced found) (record { answer = answer 10 (holderOf found); block = block }) (record { answer = accepted; block = blockFound c found })
 
 -- what a visit gives once its entry was found: the name of the descriptor whose region contains the block, none for nil
-unfoldable pub visitOf : List Descriptor → Located → Given
-visitOf ds at = pick (eqb (foundBlock (at .found)) 0) NoneGiven (NameGiven (getD ds (at .owner) noDescriptor .name))
+unfoldable pub givenAt : List Descriptor → Located → Given
+givenAt ds at = pick (eqb (foundBlock (at .found)) 0) NoneGiven (NameGiven (getD ds (at .owner) noDescriptor .name))
 
 unfoldable pub visitGiven : List ℕ → Target → List ℕ → ℕ → Given
-visitGiven c target name l = let ds = descriptorsOf c in visitOf ds (locate c ds (targetOf ds target name) l)
+visitGiven c target name l = let ds = descriptorsOf c in givenAt ds (locate c ds (targetOf ds target name) l)
 
 -- what is given as sixteen bytes: zeros, which are no name, for none
-unfoldable pub nameGiven : Given → List ℕ
-nameGiven NoneGiven = noName
-nameGiven (NameGiven name) = name
+unfoldable pub givenBytes : Given → List ℕ
+givenBytes NoneGiven = noName
+givenBytes (NameGiven name) = name
 
 -- the outcome of a visit as its code gives it; and, once the entry was looked for, the refusal of one that is not in place, or what is given
-unfoldable pub visitedOf : Outcome → Visited
-visitedOf o = record { answer = o .answer; name = nameGiven (o .given) }
+unfoldable pub asVisited : Outcome → Visited
+asVisited o = record { answer = o .answer; name = givenBytes (o .given) }
 
 unfoldable pub visited : List Descriptor → Located → Visited
-visited ds at = pick (isMisplaced (at .found)) (record { answer = answer 10 (holderOf (at .found)); name = noName }) (record { answer = accepted; name = nameGiven (visitOf ds at) })
+visited ds at = pick (isMisplaced (at .found)) (record { answer = answer 10 (holderOf (at .found)); name = noName }) (record { answer = accepted; name = givenBytes (givenAt ds at) })
 
 -- what a write does once its entry was found: the refusal for want of room, or its stores
 pub record Written : Type 0 where

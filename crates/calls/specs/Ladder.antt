@@ -58,14 +58,19 @@ abbrev pub volumeRow : List ℕ → ℕ → Row
 volumeRow c l = row (leb (activeOf (descriptorsOf c) .volume) l) 8 0
 
 -- the rows of each call after those of admission
-unfoldable pub reamRows : List ℕ → Format → List Row
-reamRows c format =
+-- a format of n blocks: nothing of the old card matters
+unfoldable pub formatRows : ℕ → Format → List Row
+formatRows n format =
     row (not (eqb (format .layout) 1 || eqb (format .layout) 2)) 2 0
     ∷ row (eqb (format .volume) 0 || ltb mostVolume (format .volume)) 3 0
     ∷ row (not (revisionOk (format .revision))) 17 0
     ∷ nameRow (format .name)
-    ∷ row (ltb (blockCount c) (costIn format)) 5 0
+    ∷ row (ltb n (costIn format)) 5 0
     ∷ []
+
+unfoldable pub reamRows : List ℕ → Format → List Row
+unfolding formatRows
+reamRows c format = formatRows (blockCount c) format
 
 -- the rows from that of the chain on, of a call that follows the entry of a logical block through its target
 unfoldable pub entryRows : List ℕ → Target → List ℕ → ℕ → List Row

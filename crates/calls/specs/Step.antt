@@ -21,7 +21,7 @@ done a lent card = record { outcome = record { answer = a; lent = lent; given = 
 abbrev pub isAccepted : Answer → Bool
 isAccepted a = eqb (a .number) 0
 
--- a refusal alters no byte of the card or of lent memory and gives nothing; an accepted call makes its stores and fills what was lent
+-- a refusal alters no byte of the card or of lent memory and gives nothing; an accepted call makes its stores, fills what was lent and gives what its meaning says
 unfoldable pub step : Call → List ℕ → Done
 step k c =
     let a = answerOf k c in

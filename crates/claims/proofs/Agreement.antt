@@ -21,7 +21,7 @@ use Rattle.calls.specs.Call.{Read, Listing, Visit, Block}
 use Rattle.calls.specs.Parts.{descriptorsOf, snapshotsOf, isSnapshot, targetOf, isMisplaced, holderOf, blockFound}
 use Rattle.calls.specs.Check.{checkAll, checkCard}
 use Rattle.calls.specs.Ladder.{row, reamRows, entryRows, readRows, visitRows, writeRows, snapRows, revertRows, listRows, checkRows, admission}
-use Rattle.calls.specs.Effect.{visitOf, visitGiven}
+use Rattle.calls.specs.Effect.{givenAt, visitGiven}
 use Rattle.calls.specs.Meaning.{filledOf, givenOf}
 use Rattle.claims.specs.History.{betaOf, Agree}
 use Rattle.calls.proofs.CardLaws.{chain-is, area-kept}
@@ -186,7 +186,7 @@ module _ (s t : List ℕ) (agree : Agree s t) where
   -- and what a visit gives
   pub visit-given : (target : Target) (name : List ℕ) (l : ℕ) → ReadPassed s target name l → givenOf (Visit target name l) s ≡ givenOf (Visit target name l) t
   unfolding givenOf visitGiven locate
-  visit-given target name l h = rw (← agree-chain) (ap (λ (x : Found). visitOf ds (locatedIn ds x)) (found-same target name l (h .there) (h .below)))
+  visit-given target name l h = rw (← agree-chain) (ap (λ (x : Found). givenAt ds (locatedIn ds x)) (found-same target name l (h .there) (h .below)))
 
   pub list-filled : (records : List Record) → filledOf (Listing records) s ≡ filledOf (Listing records) t
   unfolding filledOf

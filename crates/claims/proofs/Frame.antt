@@ -7,8 +7,8 @@ use lib.ListN.{length}
 use Rattle.blocks.specs.Bytes.{storeAll}
 use Rattle.blocks.specs.declared.descriptor.Format.{Format}
 use Rattle.blocks.proofs.BoolLaws.{no}
-use Rattle.calls.specs.Call.{Call, Ream, Read, Write, Snap, Revert, Listing, Check, Visit}
-use Rattle.calls.specs.Meaning.{answerOf}
+use Rattle.calls.specs.Call.{Call, Ream, Read, Write, Snap, Revert, Listing, Check, Visit, NoneGiven}
+use Rattle.calls.specs.Meaning.{answerOf, givenOf}
 use Rattle.calls.specs.Step.{step, isAccepted}
 use Rattle.claims.specs.Claims.{lentAtEntry, leaves, storesNothing, fills, blocksTaken, blocksNeeded, FrameClaim, ByNameClaim}
 use Rattle.claims.specs.History.{formats, isReam, isFormat, bytesOf, writtenBy, snapsAs, isSnapOf}
@@ -51,6 +51,15 @@ frame-claim k c = (
   λ q. lent-kept k c q (isAccepted (answerOf k c)) refl,
 )
 
+-- a call that gives nothing where it is accepted gives nothing
+given-by : (k : Call) (c : List ℕ) → givenOf k c ≡ NoneGiven → (t : Bool) → isAccepted (answerOf k c) ≡ t → step k c .outcome .given ≡ NoneGiven
+unfolding step
+given-by k c q true e = rw e q
+given-by k c q false e = rw e
+
+none-given : (k : Call) (c : List ℕ) → givenOf k c ≡ NoneGiven → step k c .outcome .given ≡ NoneGiven
+none-given k c q = given-by k c q (isAccepted (answerOf k c)) refl
+
 -- a ream is a format exactly where it is accepted
 ream-formats : (format : Format) (c : List ℕ) → isFormat (Ream format) c ≡ isAccepted (answerOf (Ream format) c)
 unfolding isFormat isReam formats
@@ -58,15 +67,15 @@ ream-formats format c = refl
 
 -- what calls leave alone, and what the definitions by kind say, of each call by its name
 pub by-name-claim : ByNameClaim
-unfolding ByNameClaim FrameClaim storesNothing leaves fills lentAtEntry blocksNeeded blocksTaken writtenBy bytesOf isReam formats isFormat isSnapOf snapsAs
+unfolding ByNameClaim FrameClaim storesNothing leaves fills lentAtEntry blocksNeeded blocksTaken writtenBy bytesOf isReam formats isFormat isSnapOf snapsAs givenOf
 by-name-claim c v =
     record {
-      ream = λ format. (frame-claim (Ream format) c .2 refl, refl, refl, refl, ream-formats format c, refl);
-      read = λ target name l block. (frame-claim (Read target name l block) c .1 refl, refl, refl, refl, refl, refl);
-      write = λ l block. (frame-claim (Write l block) c .2 refl, need-most _ _, refl, refl, refl, refl);
-      snap = λ name. (frame-claim (Snap name) c .2 refl, refl, refl, refl, refl, refl);
-      revert = λ name. (frame-claim (Revert name) c .2 refl, refl, refl, refl, refl, refl);
-      list = λ records. (frame-claim (Listing records) c .1 refl, refl, refl, refl, refl, refl);
-      check = (frame-claim Check c .1 refl, frame-claim Check c .2 refl, refl, refl, refl, refl, refl);
+      ream = λ format. (frame-claim (Ream format) c .2 refl, refl, refl, refl, ream-formats format c, refl, none-given (Ream format) c refl);
+      read = λ target name l block. (frame-claim (Read target name l block) c .1 refl, refl, refl, refl, refl, refl, none-given (Read target name l block) c refl);
+      write = λ l block. (frame-claim (Write l block) c .2 refl, need-most _ _, refl, refl, refl, refl, none-given (Write l block) c refl);
+      snap = λ name. (frame-claim (Snap name) c .2 refl, refl, refl, refl, refl, refl, none-given (Snap name) c refl);
+      revert = λ name. (frame-claim (Revert name) c .2 refl, refl, refl, refl, refl, refl, none-given (Revert name) c refl);
+      list = λ records. (frame-claim (Listing records) c .1 refl, refl, refl, refl, refl, refl, none-given (Listing records) c refl);
+      check = (frame-claim Check c .1 refl, frame-claim Check c .2 refl, refl, refl, refl, refl, refl, none-given Check c refl);
       visit = λ target name l. (frame-claim (Visit target name l) c .1 refl, frame-claim (Visit target name l) c .2 refl, refl, refl, refl, refl, refl);
     }

@@ -9,7 +9,7 @@ use Rattle.calls.specs.declared.answer.Answer.{Answer}
 use Rattle.calls.specs.declared.answer.Record.{Record}
 use Rattle.calls.specs.declared.answer.Target.the-variants.{Active}
 use Rattle.calls.specs.Call.{Call, Ream, Read, Write, Snap, Revert, Listing, Lent, None, Block, Records, answer}
-use Rattle.calls.specs.Effect.{nameGiven}
+use Rattle.calls.specs.Effect.{givenBytes}
 use Rattle.calls.specs.Step.{Done, step}
 use Rattle.claims.specs.History.{betaOf, formatted}
 use Rattle.blocks.specs.Descriptor.{physical, asFormat}
@@ -38,7 +38,7 @@ unfoldable pub showing : Shown → Done → Shown
 showing Only d = Only
 showing (Beta n) d = Beta (betaOf (d .card))
 showing (Bytes b) d = Bytes (blockOf (d .outcome .lent))
-showing (Named n) d = Named (nameGiven (d .outcome .given))
+showing (Named n) d = Named (givenBytes (d .outcome .given))
 
 pub record Result : Type 0 where
   pub answer : Answer

@@ -146,22 +146,23 @@ FrameClaim =
 
 -- What the definitions by kind say of each call by its name, on a card c: which calls alter no byte of the card, which alter nothing that is lent, the
 -- blocks that each takes ("A write takes at most two blocks; a snap takes c"), the bytes that it is lent to write, whether it is a ream, whether it is an
--- accepted format of the card (a refused ream is none, and stands in lists of calls), and whether it is a snap of the visit v. Other claims go by these, and
+-- accepted format of the card (a refused ream is none, and stands in lists of calls), whether it is a snap of the visit v, and that it gives nothing besides its answer,
+-- as every call but a visit. Other claims go by these, and
 -- would say less if one were changed.
 pub record ByName (c v : List ℕ) : Type 0 where
   pub ream : (format : Format) → let k = Ream format in
-      (step k c .outcome .lent ≡ None) × (blocksNeeded k c ≡ 0) × (writtenBy k ≡ []) × (isReam k ≡ true) × (isFormat k c ≡ isAccepted (answerOf k c)) × (isSnapOf v k ≡ false)
+      (step k c .outcome .lent ≡ None) × (blocksNeeded k c ≡ 0) × (writtenBy k ≡ []) × (isReam k ≡ true) × (isFormat k c ≡ isAccepted (answerOf k c)) × (isSnapOf v k ≡ false) × (step k c .outcome .given ≡ NoneGiven)
   pub read : (target : Target) (name : List ℕ) (l : ℕ) (block : List ℕ) → let k = Read target name l block in
-      (step k c .card ≡ c) × (blocksNeeded k c ≡ 0) × (writtenBy k ≡ []) × (isReam k ≡ false) × (isFormat k c ≡ false) × (isSnapOf v k ≡ false)
+      (step k c .card ≡ c) × (blocksNeeded k c ≡ 0) × (writtenBy k ≡ []) × (isReam k ≡ false) × (isFormat k c ≡ false) × (isSnapOf v k ≡ false) × (step k c .outcome .given ≡ NoneGiven)
   pub write : (l : ℕ) (block : List ℕ) → let k = Write l block in
-      (step k c .outcome .lent ≡ Block block) × (blocksNeeded k c ≤ 2) × (writtenBy k ≡ block) × (isReam k ≡ false) × (isFormat k c ≡ false) × (isSnapOf v k ≡ false)
+      (step k c .outcome .lent ≡ Block block) × (blocksNeeded k c ≤ 2) × (writtenBy k ≡ block) × (isReam k ≡ false) × (isFormat k c ≡ false) × (isSnapOf v k ≡ false) × (step k c .outcome .given ≡ NoneGiven)
   pub snap : (name : List ℕ) → let k = Snap name in
-      (step k c .outcome .lent ≡ None) × (blocksNeeded k c ≡ costOf (activeOf (descriptorsOf c))) × (writtenBy k ≡ []) × (isReam k ≡ false) × (isFormat k c ≡ false) × (isSnapOf v k ≡ same name v)
+      (step k c .outcome .lent ≡ None) × (blocksNeeded k c ≡ costOf (activeOf (descriptorsOf c))) × (writtenBy k ≡ []) × (isReam k ≡ false) × (isFormat k c ≡ false) × (isSnapOf v k ≡ same name v) × (step k c .outcome .given ≡ NoneGiven)
   pub revert : (name : List ℕ) → let k = Revert name in
-      (step k c .outcome .lent ≡ None) × (blocksNeeded k c ≡ 0) × (writtenBy k ≡ []) × (isReam k ≡ false) × (isFormat k c ≡ false) × (isSnapOf v k ≡ false)
+      (step k c .outcome .lent ≡ None) × (blocksNeeded k c ≡ 0) × (writtenBy k ≡ []) × (isReam k ≡ false) × (isFormat k c ≡ false) × (isSnapOf v k ≡ false) × (step k c .outcome .given ≡ NoneGiven)
   pub list : (records : List Record) → let k = Listing records in
-      (step k c .card ≡ c) × (blocksNeeded k c ≡ 0) × (writtenBy k ≡ []) × (isReam k ≡ false) × (isFormat k c ≡ false) × (isSnapOf v k ≡ false)
-  pub check : (step Check c .card ≡ c) × (step Check c .outcome .lent ≡ None) × (blocksNeeded Check c ≡ 0) × (writtenBy Check ≡ []) × (isReam Check ≡ false) × (isFormat Check c ≡ false) × (isSnapOf v Check ≡ false)
+      (step k c .card ≡ c) × (blocksNeeded k c ≡ 0) × (writtenBy k ≡ []) × (isReam k ≡ false) × (isFormat k c ≡ false) × (isSnapOf v k ≡ false) × (step k c .outcome .given ≡ NoneGiven)
+  pub check : (step Check c .card ≡ c) × (step Check c .outcome .lent ≡ None) × (blocksNeeded Check c ≡ 0) × (writtenBy Check ≡ []) × (isReam Check ≡ false) × (isFormat Check c ≡ false) × (isSnapOf v Check ≡ false) × (step Check c .outcome .given ≡ NoneGiven)
   pub visit : (target : Target) (name : List ℕ) (l : ℕ) → let k = Visit target name l in
       (step k c .card ≡ c) × (step k c .outcome .lent ≡ None) × (blocksNeeded k c ≡ 0) × (writtenBy k ≡ []) × (isReam k ≡ false) × (isFormat k c ≡ false) × (isSnapOf v k ≡ false)
 

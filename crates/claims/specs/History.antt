@@ -61,7 +61,7 @@ unfoldable pub writtenBy : Call → List ℕ
 unfolding kindOf bytesOf
 writtenBy k = bytesOf (kindOf k)
 
--- the lists of calls that the claims speak of: reads, writes of bytes, snaps, reverts, lists, checks and refused reams, in any order
+-- the lists of calls that the claims speak of: reads, writes of bytes, snaps, reverts, lists, checks, visits and refused reams, in any order
 pub data Standing (c : List ℕ) : List Call → Type 0 where
   none : Standing c []
   more : {k : Call} {ks : List Call} → isFormat k c ≡ false → AreBytes (writtenBy k) → Standing c ks → Standing c (k ∷ ks)

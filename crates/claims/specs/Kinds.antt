@@ -1,4 +1,4 @@
--- What each call is to the card, in document 01's words: the list of cases by which `isReam`, `writtenBy`, `isSnapOf`, `ledgerStep`, `blocksNeeded` and `storesNothing` go.
+-- What each call is to the card, in document 01's words: the list of cases by which `isReam`, `writtenBy`, `isSnapOf`, `ledgerStep`, `blocksNeeded` and `storesNothing` go, and `placedStep`, `placedRows` and `originsStep` of the crate `places`.
 use mathlib.Core.List.{List}
 use Prim.Native.Nat.{ℕ}
 use Rattle.calls.specs.Call.{Call, Ream, Read, Write, Snap, Revert, Listing, Check, Visit}

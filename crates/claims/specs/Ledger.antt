@@ -51,7 +51,7 @@ unfoldable pub volumesKept : {A : Type 0} → ℕ → List (VolumeOf A) → List
 volumesKept revision [] name = []
 volumesKept revision (v ∷ vs) name = pick (same (v .name) name) (pick (eqb revision 1) (v ∷ []) []) (v ∷ volumesKept revision vs name)
 
--- what an accepted call makes of it, given what is kept of a block that is written while there are so many snapshots
+-- what an accepted call makes of it; put says what is kept of a written block, by the number of snapshots and its bytes
 unfoldable pub changeBy : {A : Type 0} → (ℕ → List ℕ → A) → Kind → LedgerOf A → LedgerOf A
 changeBy put (Formats format) g = g
 changeBy put Leaves g = g

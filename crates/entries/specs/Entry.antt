@@ -61,8 +61,8 @@ unfoldable pub need : ℕ → Found → ℕ
 need alpha (Misplaced h) = 0
 need alpha (Entry m p) = pick (not (eqb (p .0) 0) && leb alpha (p .0)) 0 (pick (tableIsNew alpha (m .0)) 2 1)
 
--- the same by the owner of the block, given that the active descriptor is number k of the chain: none where the entry is set and that region contains it (the
--- law `need-owner`)
+-- the same by the owner of the block, given that the active descriptor is number k of the chain: none where the entry is set and that region contains it; the
+-- table block is compared with alpha (the law `need-owner`)
 unfoldable pub needBy : ℕ → ℕ → Found → ℕ → ℕ
 needBy k alpha (Misplaced h) owner = 0
 needBy k alpha (Entry m p) owner = pick (not (eqb (p .0) 0) && eqb owner k) 0 (pick (tableIsNew alpha (m .0)) 2 1)

@@ -40,7 +40,7 @@ regionOf [] p = 0
 regionOf (s ∷ []) p = 0
 regionOf (s ∷ t ∷ starts) p = let rest = suc (regionOf (t ∷ starts) p) in pick (ltb p t) 0 rest
 
--- the same of regions in rising order: nil, or below beta and outside the opening of the region that contains it (the law `in-place-region`)
+-- 'in place' by regions in rising order: nil, or below beta and outside the opening of the region that contains it (the law `in-place-region`)
 unfoldable pub inPlaceAt : List ℕ → ℕ → ℕ → ℕ → Bool
 inPlaceAt starts cost beta p = eqb p 0 || (ltb p beta && leb (getD starts (regionOf starts p) 0 + cost) p)
 

@@ -9,8 +9,8 @@ pub enum Found {
     Entry(Physical, Physical),
 }
 
-// What finding gives beside the entry: the descriptor of the region that contains the block, by its index in the chain. It is 0 where the entry is nil or not in
-// place.
+// What finding gives: the entry and, beside it, the descriptor of the region that contains the block, by its index in the chain. The index is 0 where the entry is nil
+// or not in place.
 pub struct Located {
     pub found: Found,
     pub owner: usize,

@@ -54,7 +54,7 @@ fn locate_in(
     ensures { λ r. ⌜ r ≡ locatedIn (descriptors (chain (now (card .entry)))) (entryFound (descriptors (chain (now (card .entry)))) d (m .0) (entryAt (now (card .entry)) (m .0) j)) ⌝ }
 {
     let p = entry_at(card, m, j);
-    let owner = place::owner_of(starts, count, d, p);
+    let owner = place::owner_at(starts, count, d, p);
     if owner == count {
         return Located {
             found: Found::Misplaced(m),
@@ -77,7 +77,7 @@ pub fn locate(card: &[u8], starts: &[u32], count: usize, d: Descriptor, l: Logic
     if d.layout == 1 {
         return locate_in(card, starts, count, d, m, j);
     }
-    let owner = place::owner_of(starts, count, d, m);
+    let owner = place::owner_at(starts, count, d, m);
     if owner == count {
         let alpha = d.alpha;
         return Located {

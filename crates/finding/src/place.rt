@@ -29,7 +29,7 @@ fn region_of(starts: &[u32], count: usize, p: Physical) -> usize
 }
 
 // The region that contains block `p`, where an entry of the descriptor `d` may name it, 0 where it is nil; and `count` where it may not.
-pub fn owner_of(starts: &[u32], count: usize, d: Descriptor, p: Physical) -> usize
+pub fn owner_at(starts: &[u32], count: usize, d: Descriptor, p: Physical) -> usize
     requires { ⌜ RisingRegions (now starts) count (d .beta .0) ⌝ }
     ensures { λ r. ⌜ r ≡ ownerAt (now (starts .entry)) (costOf d) (d .beta .0) count (p .0) ⌝ }
 {

@@ -1,6 +1,6 @@
 -- Demand 3 speaks of something: two lists of calls, each in both layouts, have all that it asks, and what it says of them. In 01's worked example the visit mon is taken at
 -- position 1 and the revert to it stands at position 6; the shorter list is the write before them, then the read and the listing after them. In the second list calls of every
--- kind, refused ones too, stand between the snap of mon at position 1 and the revert to it at position 11, and six calls after that.
+-- kind, refused ones too, stand between the snap of mon at position 1 and the revert to it at position 12, and seven calls after that.
 use mathlib.Core.Path.{_≡_, refl, sym, ap, _∙_, subst}
 use mathlib.Core.Bool.{true}
 use mathlib.Core.List.{List, [], _∷_, _++_, map}
@@ -110,8 +110,8 @@ pub second-standing-1 : Standing (secondCard 1) secondCalls
 unfolding running secondCalls isFormat isReam writtenBy
 second-standing-1 =
     more refl (block-bytes 7 (omega arith)) (more refl nil-bytes (more refl nil-bytes (more refl nil-bytes (more refl nil-bytes (more refl nil-bytes
-    (more refl nil-bytes (more refl (block-bytes 9 (omega arith)) (more refl nil-bytes (more refl (block-bytes 11 (omega arith)) (more refl nil-bytes (more refl nil-bytes
-    (more refl nil-bytes (more refl nil-bytes (more refl nil-bytes (more refl (block-bytes 5 (omega arith)) (more refl nil-bytes (more refl nil-bytes none)))))))))))))))))
+    (more refl nil-bytes (more refl nil-bytes (more refl (block-bytes 9 (omega arith)) (more refl nil-bytes (more refl (block-bytes 11 (omega arith)) (more refl nil-bytes (more refl nil-bytes
+    (more refl nil-bytes (more refl nil-bytes (more refl nil-bytes (more refl nil-bytes (more refl (block-bytes 5 (omega arith)) (more refl nil-bytes (more refl nil-bytes none)))))))))))))))))))
 
 same-length : length (secondCard 1) ≡ length (secondCard 2)
 unfolding running
@@ -154,73 +154,73 @@ module _ (layout beta : ℕ) (can : formattable (area 8) (asFormat layout 1 fs) 
   second-said = ap (λ (os : List Outcome). map (λ (o : Outcome). o .answer) os) second-whole
 
   -- the revert to mon is accepted, and its visit's latest accepted snap is the first: the second is refused
-  second-reverted : RevertedAt (secondCard layout) secondCalls 11 mon
+  second-reverted : RevertedAt (secondCard layout) secondCalls 12 mon
   unfolding secondCalls secondOutcomes
-  second-reverted = reverted-by secondCalls (secondCard layout) secondAnswers second-said 11 mon (omega arith) refl refl
+  second-reverted = reverted-by secondCalls (secondCard layout) secondAnswers second-said 12 mon (omega arith) refl refl
 
-  second-latest : latestSnap mon (secondCard layout) (take 11 secondCalls) ≡ At 1
+  second-latest : latestSnap mon (secondCard layout) (take 12 secondCalls) ≡ At 1
   unfolding running secondCalls secondOutcomes latestBy isSnapOf
-  second-latest = latest-by mon 11 secondCalls (secondCard layout) secondAnswers second-said
+  second-latest = latest-by mon 12 secondCalls (secondCard layout) secondAnswers second-said
 
-  -- and of the revert to tue at position 16 the second snap of tue, at position 14, which the first revert does not reach
-  last-reverted : RevertedAt (secondCard layout) secondCalls 16 tue
+  -- and of the revert to tue at position 18 the second snap of tue, at position 16, which the first revert does not reach
+  last-reverted : RevertedAt (secondCard layout) secondCalls 18 tue
   unfolding secondCalls secondOutcomes
-  last-reverted = reverted-by secondCalls (secondCard layout) secondAnswers second-said 16 tue (omega arith) refl refl
+  last-reverted = reverted-by secondCalls (secondCard layout) secondAnswers second-said 18 tue (omega arith) refl refl
 
-  last-latest : latestSnap tue (secondCard layout) (take 16 secondCalls) ≡ At 14
+  last-latest : latestSnap tue (secondCard layout) (take 18 secondCalls) ≡ At 16
   unfolding running secondCalls secondOutcomes latestBy isSnapOf
-  last-latest = latest-by tue 16 secondCalls (secondCard layout) secondAnswers second-said
+  last-latest = latest-by tue 18 secondCalls (secondCard layout) secondAnswers second-said
 
   -- demand 3 of the second list
-  second-matched : Matched (secondCard layout) secondCalls 12 (without secondCalls 1 11) 1
+  second-matched : Matched (secondCard layout) secondCalls 13 (without secondCalls 1 12) 1
   unfolding staying
-  second-matched = matched 8 (asFormat layout 1 fs) can secondCalls standing 11 mon second-reverted 1 second-latest
+  second-matched = matched 8 (asFormat layout 1 fs) can secondCalls standing 12 mon second-reverted 1 second-latest
 
-  -- of the revert at position 16
-  last-matched : Matched (secondCard layout) secondCalls 17 (without secondCalls 14 16) 14
+  -- of the revert at position 18
+  last-matched : Matched (secondCard layout) secondCalls 19 (without secondCalls 16 18) 16
   unfolding staying
-  last-matched = matched 8 (asFormat layout 1 fs) can secondCalls standing 16 tue last-reverted 14 last-latest
+  last-matched = matched 8 (asFormat layout 1 fs) can secondCalls standing 18 tue last-reverted 16 last-latest
 
 pub second-outcomes : (outcomes secondCalls (secondCard 1) ≡ secondOutcomes 5) × (outcomes secondCalls (secondCard 2) ≡ secondOutcomes 4)
 second-outcomes = (second-whole 1 5 second-can-1 second-standing-1 computed-1, second-whole 2 4 second-can-2 second-standing-2 computed-2)
 
-pub second-reverted-1 : RevertedAt (secondCard 1) secondCalls 11 mon
+pub second-reverted-1 : RevertedAt (secondCard 1) secondCalls 12 mon
 second-reverted-1 = second-reverted 1 5 second-can-1 second-standing-1 computed-1
 
-pub second-reverted-2 : RevertedAt (secondCard 2) secondCalls 11 mon
+pub second-reverted-2 : RevertedAt (secondCard 2) secondCalls 12 mon
 second-reverted-2 = second-reverted 2 4 second-can-2 second-standing-2 computed-2
 
-pub second-forgotten-1 : Matched (secondCard 1) secondCalls 12 (without secondCalls 1 11) 1
+pub second-forgotten-1 : Matched (secondCard 1) secondCalls 13 (without secondCalls 1 12) 1
 second-forgotten-1 = second-matched 1 5 second-can-1 second-standing-1 computed-1
 
-pub second-forgotten-2 : Matched (secondCard 2) secondCalls 12 (without secondCalls 1 11) 1
+pub second-forgotten-2 : Matched (secondCard 2) secondCalls 13 (without secondCalls 1 12) 1
 second-forgotten-2 = second-matched 2 4 second-can-2 second-standing-2 computed-2
 
-pub last-forgotten-1 : Matched (secondCard 1) secondCalls 17 (without secondCalls 14 16) 14
+pub last-forgotten-1 : Matched (secondCard 1) secondCalls 19 (without secondCalls 16 18) 16
 last-forgotten-1 = last-matched 1 5 second-can-1 second-standing-1 computed-1
 
-pub last-forgotten-2 : Matched (secondCard 2) secondCalls 17 (without secondCalls 14 16) 14
+pub last-forgotten-2 : Matched (secondCard 2) secondCalls 19 (without secondCalls 16 18) 16
 last-forgotten-2 = last-matched 2 4 second-can-2 second-standing-2 computed-2
 
 -- right after the revert to mon, and after the last call of the list, the two cards agree
-second-after : (layout : ℕ) → Matched (secondCard layout) secondCalls 12 (without secondCalls 1 11) 1
-    → Agree (after (take 12 secondCalls) (secondCard layout)) (after (take 1 secondCalls) (secondCard layout))
+second-after : (layout : ℕ) → Matched (secondCard layout) secondCalls 13 (without secondCalls 1 12) 1
+    → Agree (after (take 13 secondCalls) (secondCard layout)) (after (take 1 secondCalls) (secondCard layout))
 unfolding secondCalls without
 second-after layout m = m .agree 0 (omega arith)
 
-second-end : (layout : ℕ) → Matched (secondCard layout) secondCalls 12 (without secondCalls 1 11) 1
-    → Agree (after secondCalls (secondCard layout)) (after (without secondCalls 1 11) (secondCard layout))
+second-end : (layout : ℕ) → Matched (secondCard layout) secondCalls 13 (without secondCalls 1 12) 1
+    → Agree (after secondCalls (secondCard layout)) (after (without secondCalls 1 12) (secondCard layout))
 unfolding secondCalls without
-second-end layout m = m .agree 6 (omega arith)
+second-end layout m = m .agree 7 (omega arith)
 
-pub second-end-1 : Agree (after secondCalls (secondCard 1)) (after (without secondCalls 1 11) (secondCard 1))
+pub second-end-1 : Agree (after secondCalls (secondCard 1)) (after (without secondCalls 1 12) (secondCard 1))
 second-end-1 = second-end 1 second-forgotten-1
 
-pub second-end-2 : Agree (after secondCalls (secondCard 2)) (after (without secondCalls 1 11) (secondCard 2))
+pub second-end-2 : Agree (after secondCalls (secondCard 2)) (after (without secondCalls 1 12) (secondCard 2))
 second-end-2 = second-end 2 second-forgotten-2
 
-pub second-after-1 : Agree (after (take 12 secondCalls) (secondCard 1)) (after (take 1 secondCalls) (secondCard 1))
+pub second-after-1 : Agree (after (take 13 secondCalls) (secondCard 1)) (after (take 1 secondCalls) (secondCard 1))
 second-after-1 = second-after 1 second-forgotten-1
 
-pub second-after-2 : Agree (after (take 12 secondCalls) (secondCard 2)) (after (take 1 secondCalls) (secondCard 2))
+pub second-after-2 : Agree (after (take 13 secondCalls) (secondCard 2)) (after (take 1 secondCalls) (secondCard 2))
 second-after-2 = second-after 2 second-forgotten-2

@@ -19,7 +19,7 @@ use walking::chain;
 use writes::write;
 ghost use mathlib.Core.Path.{_≡_};
 ghost use Rattle.calls.specs.Call.{Ream, Read, Write, Snap, Revert, Check, Visit, None, Block, answer};
-ghost use Rattle.calls.specs.Effect.{visitedOf};
+ghost use Rattle.calls.specs.Effect.{asVisited};
 ghost use Rattle.calls.specs.Step.{step};
 ghost use Rattle.blocks.specs.Descriptor.{formatOf};
 ghost use Rattle.boundary.specs.Exported.{exported, exportedVisit, nameIn, targetIn, paddingOf};
@@ -77,7 +77,7 @@ pub extern "C" fn mantreuy_visit(
     visit: &mut [u8; NAME_SIZE],
     place: &mut u32,
 ) -> u32
-    ensures { λ r. ⌜ exportedVisit r (now (place .exit)) (now (visit .exit)) ≡ visitedOf (step (Visit (targetIn snapshot) (nameIn (now (name .entry))) block) (now (card .entry)) .outcome) ⌝ }
+    ensures { λ r. ⌜ exportedVisit r (now (place .exit)) (now (visit .exit)) ≡ asVisited (step (Visit (targetIn snapshot) (nameIn (now (name .entry))) block) (now (card .entry)) .outcome) ⌝ }
 {
     let target = argument::target_in(snapshot);
     let v = visit::visit(card, target, argument::name_in(name), Logical(block));

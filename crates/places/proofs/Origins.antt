@@ -20,7 +20,7 @@ use Rattle.calls.specs.declared.answer.Target.the-variants.{Active, Snapshot}
 use Rattle.calls.specs.Call.{Call, Read, Visit, Block, Given, NoneGiven, NameGiven}
 use Rattle.calls.specs.Parts.{descriptorsOf, targetOf, foundThrough}
 use Rattle.calls.specs.Check.{Passes}
-use Rattle.calls.specs.Effect.{visitOf}
+use Rattle.calls.specs.Effect.{givenAt}
 use Rattle.calls.specs.Meaning.{answerOf, filledOf}
 use Rattle.calls.specs.Step.{step, after, isAccepted}
 use Rattle.calls.proofs.Passed.{ReadPassed, read-passed, visit-passed}
@@ -29,8 +29,8 @@ use Rattle.claims.specs.History.{Position, Nowhere, At, Standing, none, more, f
 use Rattle.claims.specs.Ledger.{volumeNamed, volumeRead, namesFrom, ledgerNames}
 use Rattle.claims.proofs.Runs.{standing-length, step-length}
 use Rattle.claims.proofs.Visits.{given-is}
-use Rattle.places.specs.Placed.{Cell, Nil, PlacedVolume, Placed, homeOf, contentOf, cellsBy, volumeBy, volumesBy, volumeIndex, noPlaces, firstPlaced, placedStep, placedAfter, placedTarget, originOf, nameAt, cellFound, cellPlace, placedVolume, placedOf, PlacedClaim, PlacedRunClaim, PlacedOriginClaim}
-use Rattle.places.specs.Origins.{Origins, firstOrigins, originsStep, originsAfter, originRead, regionName, visitIn, originsOf, LastWritten, LastWrittenClaim}
+use Rattle.places.specs.Placed.{Cell, Nil, PlacedVolume, Placed, homeOf, contentOf, cellsBy, volumeBy, volumesBy, volumeIndex, noPlaces, firstPlaced, placedStep, placedAfter, placedTarget, originOf, nameAt, cellFound, cellPlace, placedVolume, placedOf, placedVisit, PlacedClaim, PlacedRunClaim, PlacedOriginClaim, PlacedGivesClaim}
+use Rattle.places.specs.Origins.{Origins, firstOrigins, originsStep, originsAfter, originRead, regionName, originGiven, originsOf, LastWritten, OriginsClaim, LastWrittenClaim}
 use Rattle.places.proofs.PlacedForget.{content-found, by-change, by-named}
 use Rattle.places.proofs.PlacedLaws.{values-first}
 use Rattle.places.proofs.PlacedOrigin.{target-is, below, placed-origin-claim}
@@ -124,46 +124,64 @@ module _ (c : List ℕ) (passing : Passes c) (target : Target) (name : List ℕ)
     unfolding PlacedOriginClaim
     name-is = placed-origin-claim c target name l (passing .sound) (shown .there) (shown .below) .1
 
-    visit-by : (z : Bool) → eqb b 0 ≡ z → visitOf ds (locatedIn ds (find c ds d l)) ≡ visitIn (originsOf (placedOf c)) (pick z Nowhere (At (ownerIndex ds b)))
-    unfolding visitOf locatedIn visitIn
+    visit-by : (z : Bool) → eqb b 0 ≡ z → givenAt ds (locatedIn ds (find c ds d l)) ≡ originGiven (originsOf (placedOf c)) (pick z Nowhere (At (ownerIndex ds b)))
+    unfolding givenAt locatedIn originGiven
     visit-by true e = rw e
     visit-by false e =
         let named-so : nameAt (placedOf c) (At (ownerIndex ds b)) ≡ ownerOf ds b .name = ap (λ (z : Bool). nameAt (placedOf c) (pick z Nowhere (At (ownerIndex ds b)))) (sym e) ∙ ap (nameAt (placedOf c)) (sym origin-is) ∙ name-is ∙ rw e in
         rw e (ap NameGiven (sym (name-origin (placedOf c) (ownerIndex ds b) ∙ named-so)))
 
-  visit-gives : isAccepted (answerOf (Visit target name l) c) ≡ true → step (Visit target name l) c .outcome .given ≡ visitIn (originsOf (placedOf c)) (originRead (originsOf (placedOf c)) target name l)
+  visit-gives : isAccepted (answerOf (Visit target name l) c) ≡ true → step (Visit target name l) c .outcome .given ≡ originGiven (originsOf (placedOf c)) (originRead (originsOf (placedOf c)) target name l)
   visit-gives ok =
       let shown = visit-passed c target name l ok in
-      given-is c target name l ok ∙ visit-by shown (eqb b 0) refl ∙ ap (visitIn (originsOf (placedOf c))) (sym (origin-is shown) ∙ sym (read-origin (placedOf c) target name l))
+      given-is c target name l ok ∙ visit-by shown (eqb b 0) refl ∙ ap (originGiven (originsOf (placedOf c))) (sym (origin-is shown) ∙ sym (read-origin (placedOf c) target name l))
 
   read-gives : (block : List ℕ) → isAccepted (answerOf (Read target name l block) c) ≡ true
-      → let x = getD (placedTarget (placedOf c) target name .cells) l Nil in
-      (step (Read target name l block) c .outcome .lent ≡ Block (contentOf x)) × (originRead (originsOf (placedOf c)) target name l ≡ homeOf x)
-  unfolding step filledOf placedVolume cellPlace originOf
+      → step (Read target name l block) c .outcome .lent ≡ Block (contentOf (getD (placedTarget (placedOf c) target name .cells) l Nil))
+  unfolding step filledOf placedVolume cellPlace
   read-gives block ok =
       let shown = read-passed c target name l block ok in
       let cell : getD (placedTarget (placedOf c) target name .cells) l Nil ≡ cellFound c ds (foundThrough c d l) =
-      ap (λ (v : PlacedVolume). getD (v .cells) l Nil) (target-is c (passing .sound) target name (shown .there)) ∙ values-first (cellPlace c d) (d .volume) l Nil (below c (passing .sound) target name l (shown .there) (shown .below)) in (
-        rw ok (ap Block (sym (ap contentOf cell ∙ content-found c ds (foundThrough c d l)))),
-        read-origin (placedOf c) target name l,
-      )
+      ap (λ (v : PlacedVolume). getD (v .cells) l Nil) (target-is c (passing .sound) target name (shown .there)) ∙ values-first (cellPlace c d) (d .volume) l Nil (below c (passing .sound) target name l (shown .there) (shown .below)) in
+      rw ok (ap Block (sym (ap contentOf cell ∙ content-found c ds (foundThrough c d l))))
+
+-- by Placed and by its origins the same is given
+given-same : (p : Placed) (x : Position) → originGiven (originsOf p) x ≡ placedVisit p x
+unfolding originGiven placedVisit
+given-same p Nowhere = refl
+given-same p (At k) = ap NameGiven (name-origin p k)
+
+pub placed-gives-claim : PlacedGivesClaim
+unfolding PlacedGivesClaim
+placed-gives-claim c passing target name l = (
+  read-gives c passing target name l,
+  λ ok. visit-gives c passing target name l ok ∙ ap (originGiven (originsOf (placedOf c))) (read-origin (placedOf c) target name l) ∙ given-same (placedOf c) (originOf (placedOf c) target name l),
+)
+
+pub origins-claim : OriginsClaim
+unfolding OriginsClaim
+origins-claim c ks passing s = origins-after ks c (originsOf (placedOf c)) passing s refl
 
 -- none exactly where there is no origin
-none-only : (o : Origins) (x : Position) → (visitIn o x ≡ NoneGiven) ↔ (x ≡ Nowhere)
-unfolding visitIn
+none-only : (o : Origins) (x : Position) → (originGiven o x ≡ NoneGiven) ↔ (x ≡ Nowhere)
+unfolding originGiven
 none-only o Nowhere = (λ e. refl, λ e. refl)
 none-only o (At k) = (λ e. let z : _≡_ {A = ℕ} 0 1 = cc in absurd (omega arith), λ e. let z : _≡_ {A = ℕ} 0 1 = cc in absurd (omega arith))
 
 module _ (c : List ℕ) (passing : Passes c) (o : Origins) (p : Placed) (origins-are : originsOf (placedOf c) ≡ o) (placed-is : placedOf c ≡ p) (target : Target) (name : List ℕ) (l : ℕ) where
-  gives : isAccepted (answerOf (Visit target name l) c) ≡ true → step (Visit target name l) c .outcome .given ≡ visitIn o (originRead o target name l)
-  gives ok = visit-gives c passing target name l ok ∙ ap (λ (x : Origins). visitIn x (originRead x target name l)) origins-are
+  gives : isAccepted (answerOf (Visit target name l) c) ≡ true → step (Visit target name l) c .outcome .given ≡ originGiven o (originRead o target name l)
+  gives ok = visit-gives c passing target name l ok ∙ ap (λ (x : Origins). originGiven x (originRead x target name l)) origins-are
+
+  home-read : originRead (originsOf (placedOf c)) target name l ≡ homeOf (getD (placedTarget (placedOf c) target name .cells) l Nil)
+  unfolding originOf
+  home-read = read-origin (placedOf c) target name l
 
   last-written : LastWritten c o p target name l
   last-written =
       record {
         given = gives;
         none = λ ok. subst (λ (g : Given). (g ≡ NoneGiven) ↔ (originRead o target name l ≡ Nowhere)) (sym (gives ok)) (none-only o (originRead o target name l));
-        version = λ block ok. rw (← origins-are, ← placed-is) (read-gives c passing target name l block ok);
+        version = λ block ok. rw (← origins-are, ← placed-is) (read-gives c passing target name l block ok, home-read);
       }
 
 pub last-written-claim : LastWrittenClaim

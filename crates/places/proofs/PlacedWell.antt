@@ -23,7 +23,7 @@ use Rattle.entries.proofs.TableLaws.{table-own, layout-two, group-below}
 use Rattle.calls.specs.Parts.{descriptorsOf}
 use Rattle.calls.specs.Check.{Passes}
 use Rattle.calls.proofs.CardLaws.{chain-is}
-use Rattle.calls.proofs.ActiveLaws.{chain-starts, region-at, region-below}
+use Rattle.calls.proofs.ActiveLaws.{chain-starts, region-at, region-below, volume-at as one-volume}
 use Rattle.claims.specs.History.{Nowhere, At}
 use Rattle.places.specs.Placed.{Nil, PlacedVolume, homeOf, volumesIn, noPlaces, placeOf, tablePlace, cellPlace, placedVolume, placedOf, WellPlaced, WellPlacedClaim}
 use Rattle.entries.proofs.OwnerLaws.{owner-own, owner-upto}
@@ -124,10 +124,16 @@ module _ (c : List ℕ) (p : Passes c) where
         let a = table-from l b (s .0) (above (entryOf c d l) (low l b (s .0)) (s .1)) (eqb (d .layout) 1) refl in
         table-set l b (s .0) ∙ ap At (owner-at c ds sound-c k h q a (table-until (l / 128) (group-below l (d .volume) b) (some-table l (s .0))))
 
+    -- L is one for all
+    l-is : d .volume ≡ activeOf ds .volume
+    l-is = one-volume c ds sound-c k h
+
     well : WellPlaced (placedOf c) k v
     unfolding placedVolume placedOf
     well =
         record {
+          long-cells = long-cells ∙ l-is ∙ sym (values-length (cellPlace c (activeOf ds)) (activeOf ds .volume) 0);
+          long-tables = long-tables ∙ ap tableCount (sym long-cells);
           cells-upto = λ l i b e.
               let m : l < d .volume = omega (arith, b, long-cells) in
               let s = cell-set l i m e in

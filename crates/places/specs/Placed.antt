@@ -1,7 +1,8 @@
 -- Where the content of a card that passes check stands: its volumes as the ledger has them, and for each cell and each table the region that holds it. A region
--- is named by its index in the chain. Nothing above `A card's` knows bytes of a card, alpha, or the number of a block; beta and N are counts.
+-- is named by its index in the chain. Nothing above `A card's` knows alpha, the number of a block or a byte of a table; beta and N are counts, and a cell's content is
+-- what a write put there. Which entries of two descriptors differ is no function of it: two cards that pass can have one Placed and different entries.
 use mathlib.Core.Path.{_≡_}
-use mathlib.Core.Bool.{Bool, true, false, not, _&&_, _||_}
+use mathlib.Core.Bool.{Bool, true, false, not, _&&_}
 use mathlib.Core.List.{List, [], _∷_, _++_}
 use Prim.Native.Nat.{ℕ, zero, suc, _+_, _/_, _<_, _≤_}
 use lib.ListN.{length, take, getD, set, replicate}
@@ -9,7 +10,7 @@ use lib.Dec.{eqb, ltb}
 use Rattle.blocks.specs.Pick.{pick, same}
 use Rattle.blocks.specs.Bytes.{blockCount, blockAt, zeroBlock}
 use Rattle.blocks.specs.Name.{noName}
-use Rattle.blocks.specs.Descriptor.{tableSize, mostVolume, tableCount, costOf, costIn, revisionOf, revisionOk}
+use Rattle.blocks.specs.Descriptor.{tableSize, tableCount, costOf, costIn, revisionOf}
 use Rattle.blocks.specs.declared.descriptor.Descriptor.{Descriptor}
 use Rattle.blocks.specs.declared.descriptor.Format.{Format}
 use Rattle.chains.specs.Chain.{mostDescriptors, chain, chainSound, named, activeOf}
@@ -20,10 +21,10 @@ use Rattle.entries.specs.declared.find.Found.the-variants.{Misplaced, Entry}
 use Rattle.calls.specs.declared.answer.Answer.{Answer}
 use Rattle.calls.specs.declared.answer.Target.{Target}
 use Rattle.calls.specs.declared.answer.Target.the-variants.{Active, Snapshot}
-use Rattle.calls.specs.Call.{Call, Check}
+use Rattle.calls.specs.Call.{Call, Read, Check, Visit, Block, Given, NoneGiven, NameGiven}
 use Rattle.calls.specs.Parts.{descriptorsOf, snapshotsOf, isSnapshot, targetOf, foundThrough, isMisplaced}
 use Rattle.calls.specs.Check.{Passes}
-use Rattle.calls.specs.Ladder.{Row, row, firstRow, nameRow}
+use Rattle.calls.specs.Ladder.{Row, row, firstRow, formatRows}
 use Rattle.calls.specs.Effect.{staying}
 use Rattle.calls.specs.Meaning.{answerOf}
 use Rattle.calls.specs.Step.{step, after, isAccepted}
@@ -106,7 +107,7 @@ abbrev pub activeIndex : Placed → ℕ
 activeIndex p = length (p .snapshots)
 
 -- the tables of a volume as the opening of region k leaves them: layout 1 has a table for each group in every opening, layout 2 keeps those that there are.
--- This alone tells the layouts apart
+-- This, and c, tell the layouts apart
 unfoldable pub opened : ℕ → ℕ → List Position → List Position
 opened layout k tables = pick (eqb layout 1) (replicate (length tables) (At k)) tables
 
@@ -176,19 +177,14 @@ roomRow p n = row (ltb (p .blocks) (p .active .beta + n)) 11 0
 
 -- the rows that a ledger cannot judge: 11, and all those of a format
 unfoldable pub placeRows : Kind → Placed → List Row
-placeRows (Formats format) p =
-    row (not (eqb (format .layout) 1 || eqb (format .layout) 2)) 2 0
-    ∷ row (eqb (format .volume) 0 || ltb mostVolume (format .volume)) 3 0
-    ∷ row (not (revisionOk (format .revision))) 17 0
-    ∷ nameRow (format .name)
-    ∷ row (ltb (p .blocks) (costIn format)) 5 0
-    ∷ []
+unfolding formatRows
+placeRows (Formats format) p = formatRows (p .blocks) format
 placeRows Leaves p = []
 placeRows (Writes l block) p = roomRow p (placedNeed p l) ∷ []
 placeRows (Snaps name) p = roomRow p (p .cost) ∷ []
 placeRows (Reverts name) p = []
 
--- the rows of 01's table that it can judge: all but 1, 6 and 10, which a card that passes does not meet. The ledger's come first
+-- the rows of the calls that it can judge: all but 1, 6 and 10, which a card that passes does not meet. The ledger's come first
 unfoldable pub placedRows : Call → Placed → List Row
 unfolding kindOf placeRows
 placedRows k p = ledgerRows k (forget p) ++ placeRows (kindOf k) p
@@ -290,12 +286,24 @@ PlacedOriginClaim =
     let origin = originOf (placedOf c) target name l in
     (origin ≡ pick (eqb b 0) Nowhere (At (ownerIndex ds b))) × (nameAt (placedOf c) origin ≡ pick (eqb b 0) noName (ownerOf ds b .name))
 
+-- what a visit gives by it: the present name of the region, none where there is none
+unfoldable pub placedVisit : Placed → Position → Given
+placedVisit p Nowhere = NoneGiven
+placedVisit p (At k) = NameGiven (nameAt p (At k))
+
 -- On a card that passes it gives every answer, number and place, and is carried by its own step; formats included.
 unfoldable pub PlacedClaim : Type 0
 PlacedClaim =
     (k : Call) (c : List ℕ) → Passes c
     → (answerOf k c ≡ placedAnswer k (placedOf c))
     × (isAccepted (answerOf k c) ≡ true → placedOf (step k c .card) ≡ placedStep k (placedOf c))
+
+-- And it gives what is answered besides: the block of an accepted read, and what an accepted visit gives.
+unfoldable pub PlacedGivesClaim : Type 0
+PlacedGivesClaim =
+    (c : List ℕ) → Passes c → (target : Target) (name : List ℕ) (l : ℕ)
+    → ((block : List ℕ) → isAccepted (answerOf (Read target name l block) c) ≡ true → step (Read target name l block) c .outcome .lent ≡ Block (contentOf (getD (placedTarget (placedOf c) target name .cells) l Nil)))
+    × (isAccepted (answerOf (Visit target name l) c) ≡ true → step (Visit target name l) c .outcome .given ≡ placedVisit (placedOf c) (originOf (placedOf c) target name l))
 
 -- A format leaves the first, whatever the area held.
 unfoldable pub FirstPlacedClaim : Type 0
@@ -314,8 +322,11 @@ PlacedRunClaim =
     ((c : List ℕ) → Passes c → (ks : List Call) → FollowsPlaced c ks (placedOf c))
     × ((area : List ℕ) (format : Format) → formattable area format ≡ true → (ks : List Call) → FollowsPlaced (formatted area format) ks (firstPlaced (blockCount area) format))
 
--- What is true of every card that passes and is used where no card is at hand: volume k is that of region k.
+-- What is true of the Placed of every card that passes, for laws of Placed alone to ask: volume k is that of region k.
 pub record WellPlaced (p : Placed) (k : ℕ) (v : PlacedVolume) : Type 0 where
+  -- every volume has L cells, and a table for each group of them
+  pub long-cells : length (v .cells) ≡ length (p .active .cells)
+  pub long-tables : length (v .tables) ≡ tableCount (length (v .cells))
   -- nothing stands in a later region
   pub cells-upto : (l i : ℕ) → l < length (v .cells) → homeOf (getD (v .cells) l Nil) ≡ At i → i ≤ k
   pub tables-upto : (g i : ℕ) → g < length (v .tables) → getD (v .tables) g Nowhere ≡ At i → i ≤ k

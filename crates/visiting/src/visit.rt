@@ -21,7 +21,7 @@ ghost use Rattle.chains.specs.Chain.{chain as chainOf, descriptors};
 ghost use Rattle.entries.specs.Through.{Through};
 ghost use Rattle.entries.specs.Entry.{locate as locating};
 ghost use Rattle.calls.specs.Call.{Visit};
-ghost use Rattle.calls.specs.Effect.{visitedOf, visited};
+ghost use Rattle.calls.specs.Effect.{asVisited, visited};
 ghost use Rattle.calls.specs.Step.{step};
 
 // An answer that gives no name: a refusal, or that of a nil entry.
@@ -64,7 +64,7 @@ fn name_owner(card: &[u8], starts: &[u32], count: usize, d: Descriptor, l: Logic
 
 // Names the visit that a block dates from, of the active store or of the snapshot that has the name.
 pub fn visit(card: &[u8], target: Target, name: [u8; NAME_SIZE], l: Logical) -> Visited
-    ensures { λ r. ⌜ r ≡ visitedOf (step (Visit target name (l .0)) (now (card .entry)) .outcome) ⌝ }
+    ensures { λ r. ⌜ r ≡ asVisited (step (Visit target name (l .0)) (now (card .entry)) .outcome) ⌝ }
 {
     let admitted = area::admit(card);
     if admitted.number != 0 {

@@ -1,14 +1,13 @@
 -- Values of the visit that a block dates from (document 02, W2) on small cards that are written out block by block: which region is named, at the edges of the regions, through
 -- old tables and own ones, on damaged cards and after a rollback of either revision; and each refusal. The cards after a call are computed.
 use mathlib.Core.List.{List, [], _∷_, _++_}
-use Prim.Native.Nat.{ℕ}
 use lib.ListN.{replicate}
 use Rattle.blocks.specs.Name.{noName}
-use Rattle.calls.specs.declared.answer.Target.the-variants.{Active, Snapshot}
+use Rattle.calls.specs.declared.answer.Target.the-variants.{Active}
 use Rattle.calls.specs.Call.{Visit, Write, Revert, Check}
 use Rattle.calls.specs.Step.{step}
 use Rattle.claims.specs.Bench.{Value, Differs, area, ones, fs, mon, tue}
-use Rattle.samples.specs.Samples.{wed, visits, visits1, oneBlock, dated, dated1, only, visiting, visitingFrom, naming, namingNone}
+use Rattle.samples.specs.Samples.{wed, long, descriptor, phiOf, table, visits, visits1, oneBlock, dated, dated1, only, visiting, visitingFrom, naming, namingNone}
 
 -- layout 2. Mon's table names blocks 1 and 3; the active table is block 5
 unfoldable pub regionValues : List Value
@@ -37,6 +36,8 @@ regionValues =
     -- an old table with an entry in the active region, against check's rule: the data's region, not the table's; through mon it is not in place
     ∷ naming (dated 0 7 3 2 6 7) (visiting 0) fs
     ∷ namingNone (dated 0 7 3 2 6 7) (visitingFrom mon 0) 10 2
+    -- a name of sixteen letters, whole
+    ∷ naming (phiOf 0 (descriptor 2 1 0 3 3 (long 98)) 1 ++ table 2 0 ++ ones ++ phiOf 0 (descriptor 2 1 3 4 0 fs) 1) (visiting 0) (long 98)
     -- three snapshots without a block
     ∷ naming (visits 0) (visiting 0) noName
     ∷ naming (visits 1) (visitingFrom wed 0) noName

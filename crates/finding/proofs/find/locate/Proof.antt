@@ -17,8 +17,8 @@ locate-in-requires c κs =
 returns : tie.Need-returns
 returns c = search locate-layout-1
 
-owner-of-requires : tie.Need-owner-of-requires
-owner-of-requires c κs = search through-rising
+owner-at-requires : tie.Need-owner-at-requires
+owner-at-requires c κs = search through-rising
 
 returns-2 : tie.Need-returns-2
 returns-2 c = search locate-misplaced
@@ -39,7 +39,7 @@ locate-spec =
     table-of-requires
     locate-in-requires
     returns
-    owner-of-requires
+    owner-at-requires
     returns-2
     returns-3
     locate-in-requires-2

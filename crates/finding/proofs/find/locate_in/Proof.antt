@@ -8,8 +8,8 @@ use Rattle.finding.proofs.find.locate_in.Tie as tie
 entry-at-requires : tie.Need-entry-at-requires
 entry-at-requires c κs = search needs
 
-owner-of-requires : tie.Need-owner-of-requires
-owner-of-requires c κs = search through-rising
+owner-at-requires : tie.Need-owner-at-requires
+owner-at-requires c κs = search through-rising
 
 returns : tie.Need-returns
 returns c = search entry-misplaced
@@ -18,4 +18,4 @@ returns-2 : tie.Need-returns-2
 returns-2 c = search entry-placed
 
 pub locate-in-spec : {M : Type 1} → statement M
-locate-in-spec = tie.close (tie.spec entry-at-requires owner-of-requires returns returns-2)
+locate-in-spec = tie.close (tie.spec entry-at-requires owner-at-requires returns returns-2)

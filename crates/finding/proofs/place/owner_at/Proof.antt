@@ -1,9 +1,9 @@
--- `owner_of` meets its contract, by its tests.
+-- `owner_at` meets its contract, by its tests.
 use native.Mathlib.Omega.{arith}
 use Rattle.entries.proofs.PlaceLaws.{owner-nil, owner-past, owner-opening, owner-found}
 use borrow.Author.Needs.{needs}
-use Rattle.finding.proofs.place.owner_of.Statement.{statement}
-use Rattle.finding.proofs.place.owner_of.Tie as tie
+use Rattle.finding.proofs.place.owner_at.Statement.{statement}
+use Rattle.finding.proofs.place.owner_at.Tie as tie
 
 returns : tie.Need-returns
 returns c = search owner-nil
@@ -41,8 +41,8 @@ returns-3 c = search owner-opening
 returns-4 : tie.Need-returns-4
 returns-4 c = search owner-found
 
-pub owner-of-spec : {M : Type 1} → statement M
-owner-of-spec =
+pub owner-at-spec : {M : Type 1} → statement M
+owner-at-spec =
     tie.close
     (tie.spec
     returns
