@@ -319,8 +319,14 @@ module _ (c starts : List ℕ) (count : ℕ) (d : Descriptor) (t : Through c sta
     pub located-counted : at .owner < count
     located-counted = omega (arith, located-owner, owner-counted (p .0) (placed-below ds d (p .0) (find-placed c ds d l m p (sym (located-found c ds d l at is) ∙ entry)) set))
 
-    pub located-inside : (at .owner < length starts) × (512 * getD starts (at .owner) 0 + 512 ≤ length c)
-    located-inside = let r = found-inside c (t .active) count starts (t .regions) (at .owner) located-counted in (omega (arith, r .0), r .1)
+    inside : (at .owner + 1 < length starts) × (512 * getD starts (at .owner) 0 + 512 ≤ length c)
+    inside = found-inside c (t .active) count starts (t .regions) (at .owner) located-counted
+
+    pub located-index : at .owner < length starts
+    located-index = omega (arith, inside .0)
+
+    pub located-block : 512 * getD starts (at .owner) 0 + 512 ≤ length c
+    located-block = inside .1
 
     pub located-name : (name : List ℕ) → name ≡ descriptorAt c (getD starts (at .owner) 0) .name → name ≡ getD ds (at .owner) noDescriptor .name
     located-name name e = e ∙ ap (λ (x : Descriptor). x .name) (sym (through-at c starts count d t (at .owner) located-counted .is))

@@ -1,11 +1,6 @@
 -- `name_owner` meets its contract, case by case.
-use mathlib.Core.Path.{_≡_, _∙_}
-use Prim.Native.Nat.{_+_, _*_, _≤_, _<_}
-use native.Mathlib.Omega.{arith}
-use lib.ListN.{length, getD}
-use Rattle.blocks.specs.declared.numbers.Physical.{Physical}
-use Rattle.entries.specs.declared.find.Found.the-variants.{Entry}
-use Rattle.entries.proofs.OwnerLaws.{located-inside, located-name}
+use mathlib.Core.Path.{_∙_}
+use Rattle.entries.proofs.OwnerLaws.{located-index, located-block, located-name}
 use Rattle.calls.proofs.ReadLaws.{visit-misplaced, visit-nil, visit-named}
 use borrow.Author.Needs.{needs}
 use Rattle.visiting.proofs.visit.name_owner.Statement.{statement}
@@ -26,40 +21,23 @@ enum-known-found-2 c = search needs
 without-name-requires-2 : tie.Need-without-name-requires-2
 without-name-requires-2 c κs = search needs
 
--- the region that was found is one of the chain's, and its descriptor is on the card
-inside : (c : tie.After-locate) (m p : Physical) → c .locate .result .found ≡ Entry m p → (p .0 ≡ 0 → ⊥)
-    → let s = c .before .before .before .args in (c .locate .result .owner < length (s .starts .now)) × (512 * getD (s .starts .now) (c .locate .result .owner) 0 + 512 ≤ length (s .card .now))
-inside c m p e n = located-inside _ _ _ _ (c .before .before .before .pre .0) _ _ (c .locate .ensures) m p e n
-
 returns : tie.Need-returns
-returns c =
-    let e = c .before .before .before .before .found2 .given .0 in
-    c .without-name2 .ensures ∙ visit-nil _ _ _ _ (c .before .before .before .before .before .before .locate .ensures) (e .0) (e .1 .0) (cc) (c .before .if1 .taken)
+returns c = c .without-name2 .ensures ∙ search visit-nil
 
 mul-start : tie.Need-mul-start
-mul-start c =
-    let e = c .before .before .before .found2 .given .0 in
-    omega (arith, inside (c .before .before .before .before .before) (e .0) (e .1 .0) (cc) (c .if1 .left) .0)
+mul-start c = search (needs, located-index)
 
 shared-slice-read-start : tie.Need-shared-slice-read-start
-shared-slice-read-start c =
-    let e = c .before .before .before .before .found2 .given .0 in
-    inside (c .before .before .before .before .before .before) (e .0) (e .1 .0) (cc) (c .before .if1 .left) .0
+shared-slice-read-start c = search located-index
 
 name-at-requires : tie.Need-name-at-requires
-name-at-requires c κs =
-    let e = c .before .before .before .before .found2 .given .0 in
-    inside (c .before .before .before .before .before .before) (e .0) (e .1 .0) (cc) (c .before .if1 .left) .1
+name-at-requires c κs = search located-block
 
 returns-2 : tie.Need-returns-2
-returns-2 c = c .without-name .ensures ∙ visit-misplaced _ _ _ _ (c .before .before .before .before .locate .ensures) (c .before .before .found .given .0 .0) (cc)
+returns-2 c = c .without-name .ensures ∙ search visit-misplaced
 
 returns-3 : tie.Need-returns-3
-returns-3 c =
-    let w = c .before .before .before .before .before .before .before in
-    let s = w .before .before .before in
-    let e = c .before .before .before .before .before .found2 .given .0 in
-    visit-named _ _ _ _ (w .locate .ensures) (e .0) (e .1 .0) (cc) (c .before .before .if1 .left) _ (located-name _ _ _ _ (s .pre .0) _ _ (w .locate .ensures) (e .0) (e .1 .0) (cc) (c .before .before .if1 .left) _ (c .name-at .ensures))
+returns-3 c = search (visit-named, located-name)
 
 pub name-owner-spec : {M : Type 1} → statement M
 name-owner-spec =
