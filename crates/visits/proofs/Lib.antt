@@ -1,2 +1,2 @@
 -- The values of a visit, computed.
-pub mod Visits
+pub mod VisitValues

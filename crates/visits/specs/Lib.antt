@@ -1,2 +1,2 @@
 -- Values of a visit.
-pub mod Visits
+pub mod VisitValues

@@ -7,7 +7,7 @@ use Rattle.claims.proofs.Bench.{apart, firstLetterIn}
 use Rattle.claims.proofs.Running.{running}
 use Rattle.samples.proofs.FastCheck.{runningOnce}
 use Rattle.samples.proofs.AsSaid.{AsSaid, _and_, quickly}
-use Rattle.visits.specs.Visits.{regionValues, refusedVisits, revertedVisits, tabledVisits, visitValues, WrongVisits}
+use Rattle.visits.specs.VisitValues.{regionValues, refusedVisits, revertedVisits, tabledVisits, visitValues, WrongVisits}
 
 region-values : AsSaid regionValues
 unfolding runningOnce regionValues
