@@ -224,20 +224,18 @@ lastPhi volume = withTailByte 468 (descriptor 2 volume 0 3 0 fs) ++ table 2 0 ++
 abbrev pub phiOf : ℕ → Descriptor → ℕ → List ℕ
 phiOf revision d m = descriptorBlock d (le32 revision ++ replicate 20 0 ++ le32 m ++ replicate 444 0)
 
--- nine blocks of a revision, layout 2, L 2: the snapshot mon from block 0 on, with its table block 2, which has two entries, between two data blocks; the active store
--- from block 4 on, with the first entry of its Phi, a table block 5 with two entries and two data blocks; block 8 is free
+-- eight blocks of a revision, layout 2, L 2: the snapshot mon from block 0 on, with its table block 2, which has two entries, between two data blocks; the active store
+-- from block 4 on, with the first entry of its Phi, a table block 5 with two entries and two data blocks
 abbrev pub dated : ℕ → ℕ → ℕ → ℕ → ℕ → ℕ → List ℕ
 dated revision a b m p q =
     phiOf revision (descriptor 2 2 0 4 4 mon) 2 ++ ones ++ table a b ++ ones
     ++ phiOf revision (descriptor 2 2 4 8 0 fs) m ++ table p q ++ lent ++ lent
-    ++ zeroBlock
 
 -- the same in layout 1, with table block 1 between descriptor and data, and table block 5 after the descriptor in block 4
 abbrev pub dated1 : ℕ → ℕ → ℕ → List ℕ
 dated1 revision p q =
     ofRevision revision (descriptor 1 2 0 4 4 mon) ++ table 2 3 ++ ones ++ ones
     ++ ofRevision revision (descriptor 1 2 4 8 0 fs) ++ table p q ++ lent ++ lent
-    ++ zeroBlock
 
 -- a visit of the active store; of a snapshot; a value that shows the name given; a refusal, which gives none
 abbrev pub visiting : ℕ → Call

@@ -2,12 +2,13 @@
 -- old tables and own ones, on damaged cards and after a rollback of either revision; and each refusal. The cards after a call are computed.
 use mathlib.Core.List.{List, [], _∷_, _++_}
 use lib.ListN.{replicate}
+use Rattle.blocks.specs.Bytes.{zeroBlock}
 use Rattle.blocks.specs.Name.{noName}
 use Rattle.calls.specs.declared.answer.Target.the-variants.{Active}
 use Rattle.calls.specs.Call.{Visit, Write, Revert, Check}
 use Rattle.calls.specs.Step.{step}
 use Rattle.claims.specs.Bench.{Value, Differs, area, ones, fs, mon, tue}
-use Rattle.samples.specs.Samples.{wed, long, descriptor, phiOf, table, visits, visits1, oneBlock, dated, dated1, only, visiting, visitingFrom, naming, namingNone}
+use Rattle.samples.specs.Samples.{wed, long, descriptor, phiOf, table, snapped, shared4, visits, visits1, oneBlock, dated, dated1, only, visiting, visitingFrom, naming, namingNone}
 
 -- layout 2. Mon's table names blocks 1 and 3; the active table is block 5
 unfoldable pub regionValues : List Value
@@ -53,18 +54,19 @@ refusedVisits =
     ∷ namingNone (area 2) (visitingFrom mon 0) 6 0
     -- the name beside the active store is not looked at; the active name is no snapshot's
     ∷ naming (dated 0 1 3 5 3 7) (Visit Active mon 1) fs
-    ∷ namingNone (dated 0 1 3 5 3 7) (visitingFrom fs 0) 7 0
-    ∷ namingNone (dated 0 1 3 5 3 7) (visitingFrom tue 2) 7 0
-    ∷ namingNone (dated 0 1 3 5 3 7) (visitingFrom (replicate 16 65) 0) 4 0
+    ∷ namingNone shared4 (visitingFrom fs 0) 7 0
+    ∷ namingNone shared4 (visitingFrom tue 1) 7 0
+    ∷ namingNone shared4 (visitingFrom (replicate 16 65) 0) 4 0
     -- the last logical number and the first past it; 8 before 10
-    ∷ namingNone (dated 0 1 3 5 3 7) (visiting 2) 8 0
-    ∷ namingNone (dated 0 1 3 8 3 7) (visitingFrom mon 2) 8 0
-    -- an entry at beta, in the active descriptor, in the snapshot's; Phi's entry at beta and in an opening, charged to the descriptor
-    ∷ namingNone (dated 0 1 3 5 8 7) (visiting 0) 10 5
-    ∷ namingNone (dated 0 1 3 5 4 7) (visiting 0) 10 5
+    ∷ naming shared4 (visiting 0) mon
+    ∷ namingNone shared4 (visiting 1) 8 0
+    ∷ namingNone (snapped 4 3) (visiting 1) 8 0
+    -- an entry at beta, and one that names the active descriptor, of the active store and of the snapshot; Phi's entry at beta and in an opening, charged to the descriptor
+    ∷ namingNone (snapped 2 4) (visiting 0) 10 2
+    ∷ namingNone (snapped 2 1) (visiting 0) 10 2
     ∷ namingNone (dated 0 4 3 5 3 7) (visitingFrom mon 0) 10 2
-    ∷ namingNone (dated 0 1 3 8 3 7) (visiting 0) 10 4
-    ∷ namingNone (dated 0 1 3 4 3 7) (visiting 0) 10 4
+    ∷ namingNone (snapped 4 3) (visiting 0) 10 1
+    ∷ namingNone (snapped 1 3) (visiting 0) 10 1
     ∷ []
 
 -- after a rollback to mon: on revision 0 its region has the active name; on revision 1 it keeps its own, and the active region opens after it
@@ -81,7 +83,7 @@ revertedVisits =
     ∷ naming (step (Write 0 ones) (step (Revert mon) (dated 1 1 3 5 3 7) .card) .card) (visitingFrom mon 0) mon
     -- an overwrite stays in its region, and a block that was in an older one moves
     ∷ naming (step (Write 1 ones) (dated 0 1 3 5 3 7) .card) (visiting 1) fs
-    ∷ naming (step (Write 0 ones) (dated 0 1 3 5 3 6) .card) (visiting 0) fs
+    ∷ naming (step (Write 0 ones) (dated 0 1 3 5 3 6 ++ zeroBlock) .card) (visiting 0) fs
     ∷ []
 
 -- layout 1: the table block of each region stands in its opening, which no entry may name
