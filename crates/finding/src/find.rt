@@ -1,5 +1,4 @@
 // Finding the entry of a logical block through a descriptor, and the region that contains the block that it names.
-use crate::place;
 use blocks::bytes;
 use blocks::descriptor::Descriptor;
 use blocks::numbers::Logical;
@@ -9,15 +8,15 @@ use blocks::sizes::PHI_START;
 use blocks::sizes::TABLE_SIZE;
 use entries::find::Found;
 use entries::find::Located;
+use owning::place;
 ghost use mathlib.Core.Path.{_≡_};
 ghost use Prim.Native.Nat.{_+_, _*_, _≤_, _<_, _^_};
 ghost use lib.ListN.{length};
-ghost use Rattle.blocks.specs.Pick.{pick};
 ghost use Rattle.blocks.specs.Bytes.{blockSize};
 ghost use Rattle.blocks.specs.Descriptor.{tableSize, phiSize, physical};
 ghost use Rattle.chains.specs.Chain.{chain, descriptors};
 ghost use Rattle.entries.specs.Through.{Through};
-ghost use Rattle.entries.specs.Entry.{tableOf, entryAt, entryFound, locatedIn, locate as locating, tableIsNew, needBy};
+ghost use Rattle.entries.specs.Entry.{tableOf, entryAt, entryFound, locatedIn, locate as locating};
 
 // The table block of group `i` of 128 logical blocks: the i-th after the descriptor in layout 1, as Phi names it in layout 2.
 pub fn table_of(card: &[u8], d: Descriptor, i: u32) -> Physical
@@ -92,40 +91,4 @@ pub fn locate(card: &[u8], starts: &[u32], count: usize, d: Descriptor, l: Logic
         };
     }
     locate_in(card, starts, count, d, m, j)
-}
-
-// The blocks that a write through what was found takes, in the region that starts at `alpha` and is number `active` of the chain.
-pub fn need(active: usize, alpha: Physical, found: Found, owner: usize) -> u32
-    ensures { λ r. ⌜ r ≡ needBy active (alpha .0) found owner ⌝ }
-{
-    match found {
-        Found::Misplaced(_) => 0,
-        Found::Entry(m, p) => entry_need(active, alpha, m, p, owner),
-    }
-}
-
-// The same for the table block `m` and the entry `p`.
-fn entry_need(active: usize, alpha: Physical, m: Physical, p: Physical, owner: usize) -> u32
-    ensures { λ r. ⌜ r ≡ needBy active (alpha .0) (Found.Entry m p) owner ⌝ }
-{
-    if p.0 == 0 {
-        return fresh_need(alpha, m);
-    }
-    if owner == active {
-        return 0;
-    }
-    fresh_need(alpha, m)
-}
-
-// The data block, and the table block where that is new.
-fn fresh_need(alpha: Physical, m: Physical) -> u32
-    ensures { λ r. ⌜ r ≡ pick (tableIsNew (alpha .0) (m .0)) 2 1 ⌝ }
-{
-    if m.0 == 0 {
-        return 2;
-    }
-    if m.0 < alpha.0 {
-        return 2;
-    }
-    1
 }

@@ -8,6 +8,7 @@ use calls::answer;
 use calls::answer::Answer;
 use entries::find::Found;
 use finding::find;
+use needing::need;
 use placing::put;
 use walking::chain;
 ghost use mathlib.Core.Path.{_≡_};
@@ -61,7 +62,7 @@ pub fn write(card: &mut [u8], l: Logical, block: &[u8]) -> Answer
     }
     let at = find::locate(card, &found.starts, count, d, l);
     let entry = at.found;
-    let taken = find::need(count - 1, d.alpha, entry, at.owner);
+    let taken = need::need(count - 1, d.alpha, entry, at.owner);
     match entry {
         Found::Misplaced(h) => Answer {
             number: 10,

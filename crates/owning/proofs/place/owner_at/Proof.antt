@@ -2,8 +2,8 @@
 use native.Mathlib.Omega.{arith}
 use Rattle.entries.proofs.PlaceLaws.{owner-nil, owner-past, owner-opening, owner-found}
 use borrow.Author.Needs.{needs}
-use Rattle.finding.proofs.place.owner_at.Statement.{statement}
-use Rattle.finding.proofs.place.owner_at.Tie as tie
+use Rattle.owning.proofs.place.owner_at.Statement.{statement}
+use Rattle.owning.proofs.place.owner_at.Tie as tie
 
 returns : tie.Need-returns
 returns c = search owner-nil

@@ -3,8 +3,8 @@ use Prim.Native.Nat.{_≤_, _-_, _<_}
 use native.Mathlib.Omega.{arith}
 use lib.ListN.{getD}
 use Rattle.entries.proofs.PlaceLaws.{region-found}
-use Rattle.finding.proofs.place.region_of.Statement.{statement}
-use Rattle.finding.proofs.place.region_of.Tie as tie
+use Rattle.owning.proofs.place.region_of.Statement.{statement}
+use Rattle.owning.proofs.place.region_of.Tie as tie
 
 abbrev Inv-loop : tie.InvT-loop
 Inv-loop starts count p low₀ high₀ low high = (low < high) × (high ≤ count) × (getD starts low 0 ≤ p .0) × (p .0 < getD starts high 0)

@@ -2,8 +2,8 @@
 use Rattle.blocks.proofs.Tests.{tests}
 use Rattle.entries.specs.Entry.{needBy}
 use borrow.Author.Needs.{needs}
-use Rattle.finding.proofs.find.entry_need.Statement.{statement}
-use Rattle.finding.proofs.find.entry_need.Tie as tie
+use Rattle.needing.proofs.need.entry_need.Statement.{statement}
+use Rattle.needing.proofs.need.entry_need.Tie as tie
 
 fresh-need-requires : tie.Need-fresh-need-requires
 fresh-need-requires c κs = search needs

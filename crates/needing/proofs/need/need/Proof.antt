@@ -1,8 +1,8 @@
 -- `need` meets its contract, case by case.
 use Rattle.entries.specs.Entry.{needBy}
 use borrow.Author.Needs.{needs}
-use Rattle.finding.proofs.find.need.Statement.{statement}
-use Rattle.finding.proofs.find.need.Tie as tie
+use Rattle.needing.proofs.need.need.Statement.{statement}
+use Rattle.needing.proofs.need.need.Tie as tie
 
 enum-told : tie.Need-enum-told
 enum-told c = search needs

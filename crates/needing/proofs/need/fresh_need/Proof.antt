@@ -1,8 +1,8 @@
 -- `fresh_need` meets its contract, by its tests.
 use Rattle.blocks.proofs.Tests.{tests}
 use Rattle.entries.specs.Entry.{tableIsNew}
-use Rattle.finding.proofs.find.fresh_need.Statement.{statement}
-use Rattle.finding.proofs.find.fresh_need.Tie as tie
+use Rattle.needing.proofs.need.fresh_need.Statement.{statement}
+use Rattle.needing.proofs.need.fresh_need.Tie as tie
 
 returns : tie.Need-returns
 unfolding tableIsNew

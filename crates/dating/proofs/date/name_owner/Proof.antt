@@ -3,8 +3,8 @@ use mathlib.Core.Path.{_∙_}
 use Rattle.entries.proofs.OwnerLaws.{located-index, located-block, located-name}
 use Rattle.calls.proofs.ReadLaws.{visit-misplaced, visit-nil, visit-named}
 use borrow.Author.Needs.{needs}
-use Rattle.visiting.proofs.visit.name_owner.Statement.{statement}
-use Rattle.visiting.proofs.visit.name_owner.Tie as tie
+use Rattle.dating.proofs.date.name_owner.Statement.{statement}
+use Rattle.dating.proofs.date.name_owner.Tie as tie
 
 locate-requires : tie.Need-locate-requires
 locate-requires c κs = search needs
