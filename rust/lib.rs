@@ -280,9 +280,9 @@ impl Record {
 
 /// A card: an area of blocks of 512 bytes, lent or owned.
 ///
-/// A card over `&[u8]` can be read, asked for visits, listed and checked, also by several threads at once. Over `&mut [u8]`, an array or a
-/// `Vec<u8>` it has all calls. Any area can be taken as a card: each call looks at the whole chain of descriptors anew
-/// and refuses what is no card.
+/// A card over `&[u8]` can be read, asked for visits, listed and checked, also by several threads at once. Over
+/// `&mut [u8]`, an array or a `Vec<u8>` it has all calls. Any area can be taken as a card: each call looks at the whole
+/// chain of descriptors anew and refuses what is no card.
 #[derive(Clone)]
 pub struct Card<A>(A);
 
