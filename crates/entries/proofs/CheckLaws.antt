@@ -5,7 +5,7 @@ use mathlib.Core.Bool.{Bool, true, false, not, _&&_, _||_}
 use mathlib.Core.List.{List, [], _∷_, _++_}
 use Prim.Native.Nat.{ℕ, zero, suc, _+_, _*_, _-_, _^_, _≤_, _<_}
 use native.Mathlib.Numerals.{add-one}
-use native.Mathlib.Nat.{add-assoc}
+use native.Mathlib.Nat.{add-assoc, add-zero, zero-add, add-suc, suc-add}
 use native.Mathlib.Omega.{arith}
 use lib.ListN.{length, getD, set, length-set}
 use lib.Seq.{getD-set-same, getD-set-other, drop-cons}
@@ -20,8 +20,8 @@ use Rattle.blocks.proofs.BoolLaws.{no, or-false-left, or-false-right, or-true, 
 use Rattle.blocks.proofs.Tests.{and-left, and-right}
 use Rattle.entries.specs.InPlace.{isDescriptor, isTable, inPlace}
 use Rattle.entries.specs.Entry.{entryAt, phiAt, tableOf}
-use Rattle.entries.specs.Naming.{Naming, among, atFault, tableNamings, tablesNamings, phiNamings, firstFault}
-use Rattle.entries.specs.Marks.{isFlagged, takes, taking, Marks, limitOf, Taken, takingAll, namedTable, TableReady, TablesReady, PhiReady}
+use Rattle.entries.specs.Naming.{Naming, among, atFault, tableNamings, entryNaming, entryNamings, tablesNamings, phiNamings, firstFault}
+use Rattle.entries.specs.Marks.{isFlagged, takes, taking, Marks, limitOf, Taken, takingAll, namedTable, TableReady, EntriesReady, TablesReady, PhiReady}
 use Rattle.entries.proofs.MarkLaws.{takes-below, takes-free, taking-refused, length-taking}
 use Rattle.entries.specs.declared.check.Verdict.{Verdict}
 use Rattle.entries.specs.declared.check.Verdict.the-variants.{Passed, Fault}
@@ -260,14 +260,16 @@ module _ (d : Descriptor) (turn : ℕ) (ys : List Naming) where
       let next = taking seen turn (limitOf d e) (e .counted) (e .value) in
       append-by (takingAll d turn next (xs ++ ys)) (takingAll d turn next xs) (physical (e .holder)) seen (takes seen turn (limitOf d e) (e .counted) (e .value)) (taking-append xs next)
 
-  module _ (xs : List Naming) (seen seen′ : List ℕ) where
-    taking-through : record { verdict = Passed; flags = seen′ } ≡ takingAll d turn seen xs → takingAll d turn seen (xs ++ ys) ≡ takingAll d turn seen′ ys
+  -- r says whether the first passed
+  module _ (xs : List Naming) (w : Taken) (seen : List ℕ) (walk : w ≡ takingAll d turn seen (xs ++ ys)) (r : Bool) (h : Physical) (seen′ : List ℕ)
+      (took : record { verdict = pick r Passed (Fault h); flags = seen′ } ≡ takingAll d turn seen xs) where
+    walk-more : r ≡ true → w ≡ takingAll d turn seen′ ys
     unfolding onward
-    taking-through e = taking-append xs seen ∙ ap (λ (t : Taken). onward (t .verdict) (t .flags)) (sym e)
+    walk-more e = walk ∙ taking-append xs seen ∙ ap (λ (t : Taken). onward (t .verdict) (t .flags)) (sym (rw e at took))
 
-    taking-within : (h : Physical) → record { verdict = Fault h; flags = seen′ } ≡ takingAll d turn seen xs → takingAll d turn seen (xs ++ ys) ≡ record { verdict = Fault h; flags = seen′ }
+    walk-stop : r ≡ false → record { verdict = Fault h; flags = seen′ } ≡ w
     unfolding onward
-    taking-within h e = taking-append xs seen ∙ ap (λ (t : Taken). onward (t .verdict) (t .flags)) (sym e)
+    walk-stop e = sym (walk ∙ taking-append xs seen ∙ ap (λ (t : Taken). onward (t .verdict) (t .flags)) (sym (rw e at took)))
 
 -- whether the blocks that hold some entries are at or above alpha
 pub above-all : ℕ → List Naming → Bool
@@ -331,47 +333,105 @@ above-tables c d e (suc k) i =
     let q : tableOf c d i ≡ d .alpha .0 + 1 + i = rw (eq-eqb (d .layout) 1 e) in
     above-table c d i (tableOf c d i) (omega arith) 128 0 (tablesNamings c d k (suc i)) (above-tables c d e k (suc i))
 
--- the walk over the entries of table block m, as the code makes it
-module _ (c : List ℕ) (d : Descriptor) (turn i m : ℕ) where
-  -- the next entry
-  next-naming : (j : ℕ) → j < 128
-      → tableNamings c d i m (128 - j) j ≡ record { holder = m; value = entryAt c m j; counted = ltb (128 * i + j) (d .volume); phi = false } ∷ tableNamings c d i m (128 - (j + 1)) (j + 1)
-  unfolding tableNamings
-  next-naming j h = let e : 128 - j ≡ suc (128 - (j + 1)) = omega arith in rw (e, ← (add-one j))
+-- one entry of table block m, as the code takes it
+module _ (c : List ℕ) (d : Descriptor) (turn m j : ℕ) (counted : Bool) (seen : List ℕ) where
+  abbrev limit-here : ℕ
+  limit-here = pick (ltb m (d .alpha .0)) (d .alpha .0) (d .beta .0)
 
-  module _ (w : Taken) (seen : List ℕ) (j : ℕ) (walk : w ≡ takingAll d turn seen (tableNamings c d i m (128 - j) j)) where
-    pub table-end : 128 ≤ j → record { verdict = Passed; flags = seen } ≡ w
-    unfolding tableNamings takingAll
-    table-end h = let z : 128 - j ≡ zero = omega arith in sym (rw z at walk)
+  alone-by : (t : Bool) → takes seen turn limit-here counted (entryAt c m j) ≡ t
+      → record { verdict = pick t Passed (Fault (physical m)); flags = taking seen turn limit-here counted (entryAt c m j) } ≡ takingAll d turn seen (entryNaming c m counted j ∷ [])
+  unfolding takingAll limitOf
+  alone-by true e = rw e
+  alone-by false e = rw (e, taking-refused seen turn limit-here counted (entryAt c m j) e)
 
-    module _ (more : j < 128) (limit : ℕ) (limit-is : limit ≡ pick (ltb m (d .alpha .0)) (d .alpha .0) (d .beta .0)) (left : ℕ) (left-is : left ≡ d .volume - 128 * i)
-        (v : Physical) (v-is : v ≡ physical (entryAt c m j)) (r : Bool) (seen′ : List ℕ) (took : (r ≡ takes seen turn limit (ltb j left) (v .0)) × (seen′ ≡ taking seen turn limit (ltb j left) (v .0))) where
-      abbrev entry-here : Naming
-      entry-here = record { holder = m; value = v .0; counted = ltb j left; phi = false }
+  pub entry-alone : (limit v : Physical) → limit ≡ physical limit-here → v ≡ physical (entryAt c m j)
+      → (r : Bool) (seen′ : List ℕ) → (r ≡ takes seen turn (limit .0) counted (v .0)) × (seen′ ≡ taking seen turn (limit .0) counted (v .0))
+      → record { verdict = pick r Passed (Fault (physical m)); flags = seen′ } ≡ takingAll d turn seen (entryNaming c m counted j ∷ [])
+  entry-alone limit v limit-is v-is r seen′ took = rw (took .0, took .1, limit-is, v-is) (alone-by (takes seen turn limit-here counted (entryAt c m j)) refl)
 
-      counted-is : (t : Bool) → ltb j left ≡ t → ltb (128 * i + j) (d .volume) ≡ ltb j left
-      counted-is true e = lt-ltb (128 * i + j) (d .volume) (omega (arith, ltb-true j left e, left-is)) ∙ sym e
-      counted-is false e = le-ltb (128 * i + j) (d .volume) (omega (arith, ltb-false j left e, left-is)) ∙ sym e
+-- the entries of table block m, some of them at a time
+module _ (c : List ℕ) (m left : ℕ) where
+  entries-join : (n k j : ℕ) → entryNamings c m left (n + k) j ≡ entryNamings c m left n j ++ entryNamings c m left k (j + n)
+  unfolding entryNamings
+  entries-join zero k j = rw (zero-add k, add-zero j)
+  entries-join (suc n) k j = rw (suc-add n k, entries-join n k (suc j), suc-add j n, add-suc j n)
 
-      here : w ≡ takingAll d turn seen (entry-here ∷ tableNamings c d i m (128 - (j + 1)) (j + 1))
-      here =
-          let value : v .0 ≡ entryAt c m j = ap (λ (x : Physical). x .0) v-is in
-          rw (value, ← (counted-is (ltb j left) refl), ← (next-naming j more)) walk
+  entries-at : (n j : ℕ) → j + n ≤ 128 → entryNamings c m left (128 - j) j ≡ entryNamings c m left n j ++ entryNamings c m left (128 - (j + n)) (j + n)
+  entries-at n j h = let e : 128 - j ≡ n + (128 - (j + n)) = omega arith in rw e (entries-join n (128 - (j + n)) j)
 
-      limit-here : limitOf d entry-here ≡ limit
-      unfolding limitOf
-      limit-here = sym limit-is
+  entries-none : (j : ℕ) → 128 ≤ j → entryNamings c m left (128 - j) j ≡ []
+  unfolding entryNamings
+  entries-none j h = let e : 128 - j ≡ zero = omega arith in rw e
 
-      pub table-more : r ≡ true → w ≡ takingAll d turn seen′ (tableNamings c d i m (128 - (j + 1)) (j + 1))
-      table-more e =
-          rw (took .1, ← limit-here)
-          (here ∙ taking-first d turn seen entry-here (tableNamings c d i m (128 - (j + 1)) (j + 1)) (rw limit-here (sym (took .0) ∙ e)))
+-- the walk over one entry, by whether it is counted
+module _ (c : List ℕ) (d : Descriptor) (turn m left j : ℕ) (seen : List ℕ) (w : Taken) where
+  pub entries-one : (counted : Bool) → ltb j left ≡ counted → w ≡ takingAll d turn seen (entryNaming c m counted j ∷ []) → w ≡ takingAll d turn seen (entryNamings c m left 1 j)
+  unfolding entryNamings
+  entries-one counted e walk = rw e walk
 
-      pub table-stop : r ≡ false → record { verdict = Fault (physical m); flags = seen′ } ≡ w
-      table-stop e =
-          let f : takes seen turn limit (ltb j left) (v .0) ≡ false = sym (took .0) ∙ e in
-          rw (took .1, taking-refused seen turn limit (ltb j left) (v .0) f)
-          (sym (here ∙ taking-stop d turn seen entry-here (tableNamings c d i m (128 - (j + 1)) (j + 1)) (rw limit-here f)))
+  pub entries-one-counted : j < left → w ≡ takingAll d turn seen (entryNaming c m true j ∷ []) → w ≡ takingAll d turn seen (entryNamings c m left 1 j)
+  entries-one-counted h = entries-one true (lt-ltb j left h)
+
+-- what the walk over some entries needs still holds where the flags are as many
+pub entries-ready : (c : List ℕ) (d : Descriptor) (m : ℕ) (seen₀ seen : List ℕ) → EntriesReady c d m seen₀ → length seen ≡ length seen₀ → EntriesReady c d m seen
+entries-ready c d m seen₀ seen ready long = record { on-card = ready .on-card; flags = omega (arith, ready .flags); rising = ready .rising }
+
+-- the walk over the entries of table block m, some of them at a time, as the code makes it
+module _ (c : List ℕ) (d : Descriptor) (turn m left : ℕ) (w : Taken) (seen : List ℕ) (j : ℕ) (walk : w ≡ takingAll d turn seen (entryNamings c m left (128 - j) j)) where
+  pub entries-end : 128 ≤ j → record { verdict = Passed; flags = seen } ≡ w
+  unfolding takingAll
+  entries-end h = sym (rw (entries-none c m left j h) at walk)
+
+  module _ (n : ℕ) (more : j + n ≤ 128) (r : Bool) (seen′ : List ℕ) (took : record { verdict = pick r Passed (Fault (physical m)); flags = seen′ } ≡ takingAll d turn seen (entryNamings c m left n j)) where
+    abbrev after : List Naming
+    after = entryNamings c m left (128 - (j + n)) (j + n)
+
+    pub entries-more : r ≡ true → w ≡ takingAll d turn seen′ after
+    entries-more = walk-more d turn after (entryNamings c m left n j) w seen (rw (← (entries-at c m left n j more)) walk) r (physical m) seen′ took
+
+    pub entries-stop : r ≡ false → record { verdict = Fault (physical m); flags = seen′ } ≡ w
+    entries-stop = walk-stop d turn after (entryNamings c m left n j) w seen (rw (← (entries-at c m left n j more)) walk) r (physical m) seen′ took
+
+-- the walk over 2 n entries, n of them at a time, as the code makes it
+module _ (c : List ℕ) (d : Descriptor) (turn m left n : ℕ) (seen : List ℕ) (j : ℕ) (r : Bool) (seen′ : List ℕ)
+    (took : record { verdict = pick r Passed (Fault (physical m)); flags = seen′ } ≡ takingAll d turn seen (entryNamings c m left n j)) where
+  abbrev both : Taken
+  both = takingAll d turn seen (entryNamings c m left (n + n) j)
+
+  halves : both ≡ takingAll d turn seen (entryNamings c m left n j ++ entryNamings c m left n (j + n))
+  halves = rw (entries-join c m left n n j)
+
+  pub halves-stop : r ≡ false → record { verdict = Fault (physical m); flags = seen′ } ≡ both
+  halves-stop = walk-stop d turn (entryNamings c m left n (j + n)) (entryNamings c m left n j) both seen halves r (physical m) seen′ took
+
+  pub halves-more : r ≡ true → (w : Taken) → w ≡ takingAll d turn seen′ (entryNamings c m left n (j + n)) → w ≡ both
+  halves-more e w rest = rest ∙ sym (walk-more d turn (entryNamings c m left n (j + n)) (entryNamings c m left n j) both seen halves r (physical m) seen′ took e)
+
+-- the entries of the table of group i, by how many of them are counted
+module _ (c : List ℕ) (d : Descriptor) (i m left : ℕ) (left-is : left ≡ d .volume - 128 * i) where
+  counted-is : (j : ℕ) (t : Bool) → ltb j left ≡ t → ltb (128 * i + j) (d .volume) ≡ t
+  counted-is j true e = lt-ltb (128 * i + j) (d .volume) (omega (arith, ltb-true j left e, left-is))
+  counted-is j false e = le-ltb (128 * i + j) (d .volume) (omega (arith, ltb-false j left e, left-is))
+
+  table-entries : (k j : ℕ) → tableNamings c d i m k j ≡ entryNamings c m left k j
+  unfolding tableNamings entryNamings
+  table-entries zero j = refl
+  table-entries (suc k) j = rw (counted-is j (ltb j left) refl, table-entries k (suc j))
+
+  full-entries : 128 ≤ left → (k j : ℕ) → j + k ≤ 128 → entryNamings c m left k j ≡ entryNamings c m 128 k j
+  unfolding entryNamings
+  full-entries h zero j l = refl
+  full-entries h (suc k) j l = rw (lt-ltb j left (omega arith), lt-ltb j 128 (omega arith), full-entries h k (suc j) (omega arith))
+
+  module _ (turn : ℕ) (seen : List ℕ) (w : Taken) where
+    pub table-part : w ≡ takingAll d turn seen (entryNamings c m left 128 0) → w ≡ takingAll d turn seen (tableNamings c d i m 128 0)
+    table-part walk = rw (table-entries 128 0) walk
+
+    pub table-full : 128 ≤ left → w ≡ takingAll d turn seen (entryNamings c m 128 128 0) → w ≡ takingAll d turn seen (tableNamings c d i m 128 0)
+    table-full h walk = table-part (rw (full-entries h 128 0 (omega arith)) walk)
+
+pub table-ready : (c : List ℕ) (d : Descriptor) (i m : ℕ) (seen : List ℕ) → TableReady c d i m seen → EntriesReady c d m seen
+table-ready c d i m seen ready = record { on-card = ready .on-card; flags = ready .flags; rising = ready .rising }
 
 -- a table block that may be nil
 module _ (c : List ℕ) (d : Descriptor) (turn i m : ℕ) (seen : List ℕ) where
@@ -439,10 +499,10 @@ module _ (c : List ℕ) (d : Descriptor) (n turn : ℕ) where
       split = let q : m .0 ≡ tableOf c d i = ap (λ (x : Physical). x .0) is in rw (q, ← (tables-next c d n i more)) walk
 
       pub tables-more : b ≡ true → w ≡ takingAll d turn seen′ later
-      tables-more e = split ∙ taking-through d turn later (tableNamings c d i (m .0) 128 0) seen seen′ (rw e at one)
+      tables-more = walk-more d turn later (tableNamings c d i (m .0) 128 0) w seen split b m seen′ one
 
       pub tables-fault : b ≡ false → record { verdict = Fault m; flags = seen′ } ≡ w
-      tables-fault e = sym (split ∙ taking-within d turn later (tableNamings c d i (m .0) 128 0) seen seen′ m (rw e at one))
+      tables-fault = walk-stop d turn later (tableNamings c d i (m .0) 128 0) w seen split b m seen′ one
 
 -- bytes are all zero where the number of the first four is 0 and the others are zero
 module _ (w x y z v : ℕ) (is : v ≡ w + 256 * x + 65536 * y + 16777216 * z) (r : Bool) where
@@ -563,7 +623,7 @@ module _ (c : List ℕ) (d : Descriptor) (n : ℕ) (seen₀ : List ℕ) (ready :
 
         module _ (a : Bool) (seen″ : List ℕ) (one : record { verdict = pick a Passed (Fault m); flags = seen″ } ≡ takingAll d turn seen′ (namedTable c d i (m .0))) where
           pub phi-fault : a ≡ false → record { verdict = Fault m; flags = seen″ } ≡ w
-          phi-fault f = sym (after-entry ∙ taking-within d turn phi-later (namedTable c d i (m .0)) seen′ seen″ m (rw f at one))
+          phi-fault = walk-stop d turn phi-later (namedTable c d i (m .0)) w seen′ after-entry a m seen″ one
 
           pub phi-more : a ≡ true → w ≡ takingAll d turn seen″ phi-later
-          phi-more f = after-entry ∙ taking-through d turn phi-later (namedTable c d i (m .0)) seen′ seen″ (rw f at one)
+          phi-more = walk-more d turn phi-later (namedTable c d i (m .0)) w seen′ after-entry a m seen″ one

@@ -72,6 +72,12 @@ pub record TableReady (c : List ℕ) (d : Descriptor) (i m : ℕ) (seen : List �
   pub rising : d .alpha .0 ≤ d .beta .0
   pub group : i < phiSize
 
+-- what the walk over some entries of table block m needs: the same but for the group
+pub record EntriesReady (c : List ℕ) (d : Descriptor) (m : ℕ) (seen : List ℕ) : Type 0 where
+  pub on-card : blockSize * m + blockSize ≤ length c
+  pub flags : d .beta .0 ≤ length seen
+  pub rising : d .alpha .0 ≤ d .beta .0
+
 -- the namings of the table block m, none where it is nil
 unfoldable pub namedTable : List ℕ → Descriptor → ℕ → ℕ → List Naming
 namedTable c d i m = pick (eqb m 0) [] (tableNamings c d i m tableSize 0)

@@ -11,14 +11,15 @@ use entries::check::Verdict;
 use finding::find;
 use flagging::flags;
 ghost use mathlib.Core.Path.{_≡_};
+ghost use mathlib.Core.List.{[], _∷_};
 ghost use Prim.Native.Nat.{_+_, _*_, _-_, _≤_, _<_};
 ghost use lib.ListN.{length};
 ghost use lib.Dec.{ltb};
 ghost use Rattle.blocks.specs.Pick.{pick, allZero};
 ghost use Rattle.blocks.specs.Bytes.{blockSize, part};
 ghost use Rattle.blocks.specs.Descriptor.{physical, tableSize, phiSize, phiStart, phiBytes};
-ghost use Rattle.entries.specs.Naming.{tableNamings, tablesNamings, phiNamings, namings};
-ghost use Rattle.entries.specs.Marks.{takingAll, namedTable, TableReady, TablesReady, PhiReady, CheckReady};
+ghost use Rattle.entries.specs.Naming.{tableNamings, entryNaming, entryNamings, tablesNamings, phiNamings, namings};
+ghost use Rattle.entries.specs.Marks.{takingAll, namedTable, EntriesReady, TableReady, TablesReady, PhiReady, CheckReady};
 ghost use Rattle.entries.specs.declared.check.Verdict.the-variants.{Passed, Fault};
 
 // Where the set entries of table block `m` must stay below: alpha if the table is an old one, else beta.
@@ -41,6 +42,77 @@ fn counted_from(volume: u32, first: Logical) -> u32
     volume - first.0
 }
 
+// Takes entry `j` of table block `m`, which stands before L if it is counted.
+fn check_entry(
+    card: &[u8],
+    d: Descriptor,
+    m: Physical,
+    j: u32,
+    counted: bool,
+    seen: &mut [u8],
+    turn: u8,
+) -> bool
+    requires { ⌜ EntriesReady (now card) d (m .0) (now seen) × (j < tableSize) ⌝ }
+    ensures { λ r. ⌜ record { verdict = pick r Passed (Fault m); flags = now (seen .exit) } ≡ takingAll d turn (now (seen .entry)) (entryNaming (now (card .entry)) (m .0) counted j ∷ []) ⌝ }
+{
+    let limit = limit_of(d.alpha, d.beta, m);
+    let v = find::entry_at(card, m, j);
+    flags::take_entry(seen, turn, limit, counted, v)
+}
+
+// Takes the two entries of table block `m` from entry `j` on, both counted, up to the first at fault.
+fn check_two(card: &[u8], d: Descriptor, m: Physical, j: u32, seen: &mut [u8], turn: u8) -> bool
+    requires { ⌜ EntriesReady (now card) d (m .0) (now seen) × (j + 2 ≤ tableSize) ⌝ }
+    ensures { λ r. ⌜ record { verdict = pick r Passed (Fault m); flags = now (seen .exit) } ≡ takingAll d turn (now (seen .entry)) (entryNamings (now (card .entry)) (m .0) tableSize 2 j) ⌝ }
+{
+    if !check_entry(card, d, m, j, true, seen, turn) {
+        return false;
+    }
+    check_entry(card, d, m, j + 1, true, seen, turn)
+}
+
+// Takes the four entries of table block `m` from entry `j` on, all counted, up to the first at fault.
+fn check_four(card: &[u8], d: Descriptor, m: Physical, j: u32, seen: &mut [u8], turn: u8) -> bool
+    requires { ⌜ EntriesReady (now card) d (m .0) (now seen) × (j + 4 ≤ tableSize) ⌝ }
+    ensures { λ r. ⌜ record { verdict = pick r Passed (Fault m); flags = now (seen .exit) } ≡ takingAll d turn (now (seen .entry)) (entryNamings (now (card .entry)) (m .0) tableSize 4 j) ⌝ }
+{
+    if !check_two(card, d, m, j, seen, turn) {
+        return false;
+    }
+    check_two(card, d, m, j + 2, seen, turn)
+}
+
+// Takes the 128 entries of table block `m`, all counted, four at a time, up to the first at fault.
+fn check_full(card: &[u8], d: Descriptor, m: Physical, seen: &mut [u8], turn: u8) -> bool
+    requires { ⌜ EntriesReady (now card) d (m .0) (now seen) ⌝ }
+    ensures { λ r. ⌜ record { verdict = pick r Passed (Fault m); flags = now (seen .exit) } ≡ takingAll d turn (now (seen .entry)) (entryNamings (now (card .entry)) (m .0) tableSize tableSize 0) ⌝ }
+{
+    let mut j: u32 = 0;
+    while j < TABLE_SIZE {
+        if !check_four(card, d, m, j, seen, turn) {
+            return false;
+        }
+        j += 4;
+    }
+    true
+}
+
+// Takes the 128 entries of table block `m`, of which the first `left` are counted, up to the first at fault.
+fn check_part(card: &[u8], d: Descriptor, m: Physical, left: u32, seen: &mut [u8], turn: u8) -> bool
+    requires { ⌜ EntriesReady (now card) d (m .0) (now seen) ⌝ }
+    ensures { λ r. ⌜ record { verdict = pick r Passed (Fault m); flags = now (seen .exit) } ≡ takingAll d turn (now (seen .entry)) (entryNamings (now (card .entry)) (m .0) left tableSize 0) ⌝ }
+{
+    let mut j: u32 = 0;
+    while j < TABLE_SIZE {
+        let counted = j < left;
+        if !check_entry(card, d, m, j, counted, seen, turn) {
+            return false;
+        }
+        j += 1;
+    }
+    true
+}
+
 // Takes the 128 entries of table block `m`, the table of group `i`, up to the first at fault.
 fn check_table(card: &[u8], d: Descriptor, i: u32, m: Physical, seen: &mut [u8], turn: u8) -> bool
     requires { ⌜ TableReady (now card) d i (m .0) (now seen) ⌝ }
@@ -48,17 +120,10 @@ fn check_table(card: &[u8], d: Descriptor, i: u32, m: Physical, seen: &mut [u8],
 {
     let first = TABLE_SIZE * i;
     let left = counted_from(d.volume, Logical(first));
-    let limit = limit_of(d.alpha, d.beta, m);
-    let mut j: u32 = 0;
-    while j < TABLE_SIZE {
-        let v = find::entry_at(card, m, j);
-        let counted = j < left;
-        if !flags::take_entry(seen, turn, limit, counted, v) {
-            return false;
-        }
-        j += 1;
+    if left < TABLE_SIZE {
+        return check_part(card, d, m, left, seen, turn);
     }
-    true
+    check_full(card, d, m, seen, turn)
 }
 
 // Takes the entries of table block `m`, the table of group `i`, unless it is nil.
