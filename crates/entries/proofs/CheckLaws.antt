@@ -20,7 +20,7 @@ use Rattle.blocks.proofs.BoolLaws.{no, or-false-left, or-false-right, or-true, 
 use Rattle.blocks.proofs.Tests.{and-left, and-right}
 use Rattle.entries.specs.InPlace.{isDescriptor, isTable, inPlace}
 use Rattle.entries.specs.Entry.{entryAt, phiAt, tableOf}
-use Rattle.entries.specs.Naming.{Naming, among, atFault, tableNamings, entryNaming, entryNamings, tablesNamings, phiNamings, firstFault}
+use Rattle.entries.specs.Naming.{Naming, among, atFault, tableNamings, entryNamings, tablesNamings, phiNamings, firstFault}
 use Rattle.entries.specs.Marks.{isFlagged, takes, taking, Marks, limitOf, Taken, takingAll, namedTable, TableReady, EntriesReady, TablesReady, PhiReady}
 use Rattle.entries.proofs.MarkLaws.{takes-below, takes-free, taking-refused, length-taking}
 use Rattle.entries.specs.declared.check.Verdict.{Verdict}
@@ -333,64 +333,64 @@ above-tables c d e (suc k) i =
     let q : tableOf c d i ≡ d .alpha .0 + 1 + i = rw (eq-eqb (d .layout) 1 e) in
     above-table c d i (tableOf c d i) (omega arith) 128 0 (tablesNamings c d k (suc i)) (above-tables c d e k (suc i))
 
--- one entry of table block m, as the code takes it
-module _ (c : List ℕ) (d : Descriptor) (turn m j : ℕ) (counted : Bool) (seen : List ℕ) where
+-- one entry of table block m that is counted, as the code takes it
+module _ (c : List ℕ) (d : Descriptor) (turn m left j : ℕ) (seen : List ℕ) (counted : j < left) where
   abbrev limit-here : ℕ
   limit-here = pick (ltb m (d .alpha .0)) (d .alpha .0) (d .beta .0)
 
-  alone-by : (t : Bool) → takes seen turn limit-here counted (entryAt c m j) ≡ t
-      → record { verdict = pick t Passed (Fault (physical m)); flags = taking seen turn limit-here counted (entryAt c m j) } ≡ takingAll d turn seen (entryNaming c m counted j ∷ [])
-  unfolding takingAll limitOf
-  alone-by true e = rw e
-  alone-by false e = rw (e, taking-refused seen turn limit-here counted (entryAt c m j) e)
+  entry-by : (t : Bool) → takes seen turn limit-here true (entryAt c m j) ≡ t
+      → record { verdict = pick t Passed (Fault (physical m)); flags = taking seen turn limit-here true (entryAt c m j) } ≡ takingAll d turn seen (entryNamings c m left 1 j)
+  unfolding entryNamings takingAll limitOf
+  entry-by true e = rw (lt-ltb j left counted, e)
+  entry-by false e = rw (lt-ltb j left counted, e, taking-refused seen turn limit-here true (entryAt c m j) e)
 
-  pub entry-alone : (limit v : Physical) → limit ≡ physical limit-here → v ≡ physical (entryAt c m j)
-      → (r : Bool) (seen′ : List ℕ) → (r ≡ takes seen turn (limit .0) counted (v .0)) × (seen′ ≡ taking seen turn (limit .0) counted (v .0))
-      → record { verdict = pick r Passed (Fault (physical m)); flags = seen′ } ≡ takingAll d turn seen (entryNaming c m counted j ∷ [])
-  entry-alone limit v limit-is v-is r seen′ took = rw (took .0, took .1, limit-is, v-is) (alone-by (takes seen turn limit-here counted (entryAt c m j)) refl)
+  pub entry-one : (limit v : Physical) → limit ≡ physical limit-here → v ≡ physical (entryAt c m j)
+      → (r : Bool) (seen′ : List ℕ) → (r ≡ takes seen turn (limit .0) true (v .0)) × (seen′ ≡ taking seen turn (limit .0) true (v .0))
+      → record { verdict = pick r Passed (Fault (physical m)); flags = seen′ } ≡ takingAll d turn seen (entryNamings c m left 1 j)
+  entry-one limit v limit-is v-is r seen′ took = rw (took .0, took .1, limit-is, v-is) (entry-by (takes seen turn limit-here true (entryAt c m j)) refl)
 
--- the entries of table block m, some of them at a time
+-- what the walk over some entries needs, where the flags are as many, and for a table
+pub entries-ready : (c : List ℕ) (d : Descriptor) (m : ℕ) (seen₀ seen : List ℕ) → EntriesReady c d m seen₀ → length seen ≡ length seen₀ → EntriesReady c d m seen
+entries-ready c d m seen₀ seen ready long = record { on-card = ready .on-card; flags = omega (arith, ready .flags); rising = ready .rising }
+
+pub table-ready : (c : List ℕ) (d : Descriptor) (i m : ℕ) (seen : List ℕ) → TableReady c d i m seen → EntriesReady c d m seen
+table-ready c d i m seen ready = record { on-card = ready .on-card; flags = ready .flags; rising = ready .rising }
+
+-- some entries of table block m, and those after them
 module _ (c : List ℕ) (m left : ℕ) where
   entries-join : (n k j : ℕ) → entryNamings c m left (n + k) j ≡ entryNamings c m left n j ++ entryNamings c m left k (j + n)
   unfolding entryNamings
   entries-join zero k j = rw (zero-add k, add-zero j)
   entries-join (suc n) k j = rw (suc-add n k, entries-join n k (suc j), suc-add j n, add-suc j n)
 
-  entries-at : (n j : ℕ) → j + n ≤ 128 → entryNamings c m left (128 - j) j ≡ entryNamings c m left n j ++ entryNamings c m left (128 - (j + n)) (j + n)
-  entries-at n j h = let e : 128 - j ≡ n + (128 - (j + n)) = omega arith in rw e (entries-join n (128 - (j + n)) j)
+  entries-next : (n j end : ℕ) → j + n ≤ end → entryNamings c m left (end - j) j ≡ entryNamings c m left n j ++ entryNamings c m left (end - (j + n)) (j + n)
+  entries-next n j end h = let e : end - j ≡ n + (end - (j + n)) = omega arith in rw e (entries-join n (end - (j + n)) j)
 
-  entries-none : (j : ℕ) → 128 ≤ j → entryNamings c m left (128 - j) j ≡ []
+  entries-none : (j end : ℕ) → end ≤ j → entryNamings c m left (end - j) j ≡ []
   unfolding entryNamings
-  entries-none j h = let e : 128 - j ≡ zero = omega arith in rw e
+  entries-none j end h = let e : end - j ≡ zero = omega arith in rw e
 
--- the walk over one entry, by whether it is counted
-module _ (c : List ℕ) (d : Descriptor) (turn m left j : ℕ) (seen : List ℕ) (w : Taken) where
-  pub entries-one : (counted : Bool) → ltb j left ≡ counted → w ≡ takingAll d turn seen (entryNaming c m counted j ∷ []) → w ≡ takingAll d turn seen (entryNamings c m left 1 j)
-  unfolding entryNamings
-  entries-one counted e walk = rw e walk
-
-  pub entries-one-counted : j < left → w ≡ takingAll d turn seen (entryNaming c m true j ∷ []) → w ≡ takingAll d turn seen (entryNamings c m left 1 j)
-  entries-one-counted h = entries-one true (lt-ltb j left h)
-
--- what the walk over some entries needs still holds where the flags are as many
-pub entries-ready : (c : List ℕ) (d : Descriptor) (m : ℕ) (seen₀ seen : List ℕ) → EntriesReady c d m seen₀ → length seen ≡ length seen₀ → EntriesReady c d m seen
-entries-ready c d m seen₀ seen ready long = record { on-card = ready .on-card; flags = omega (arith, ready .flags); rising = ready .rising }
-
--- the walk over the entries of table block m, some of them at a time, as the code makes it
-module _ (c : List ℕ) (d : Descriptor) (turn m left : ℕ) (w : Taken) (seen : List ℕ) (j : ℕ) (walk : w ≡ takingAll d turn seen (entryNamings c m left (128 - j) j)) where
-  pub entries-end : 128 ≤ j → record { verdict = Passed; flags = seen } ≡ w
+-- the walk over the entries of table block m up to entry end, n at a time, as the code makes it
+module _ (c : List ℕ) (d : Descriptor) (turn m left end : ℕ) (w : Taken) (seen : List ℕ) (j : ℕ) (walk : w ≡ takingAll d turn seen (entryNamings c m left (end - j) j)) where
+  pub entries-end : end ≤ j → record { verdict = Passed; flags = seen } ≡ w
   unfolding takingAll
-  entries-end h = sym (rw (entries-none c m left j h) at walk)
+  entries-end h = sym (rw (entries-none c m left j end h) at walk)
 
-  module _ (n : ℕ) (more : j + n ≤ 128) (r : Bool) (seen′ : List ℕ) (took : record { verdict = pick r Passed (Fault (physical m)); flags = seen′ } ≡ takingAll d turn seen (entryNamings c m left n j)) where
+  module _ (n : ℕ) (more : j + n ≤ end) (r : Bool) (seen′ : List ℕ) (took : record { verdict = pick r Passed (Fault (physical m)); flags = seen′ } ≡ takingAll d turn seen (entryNamings c m left n j)) where
     abbrev after : List Naming
-    after = entryNamings c m left (128 - (j + n)) (j + n)
+    after = entryNamings c m left (end - (j + n)) (j + n)
+
+    here : w ≡ takingAll d turn seen (entryNamings c m left n j ++ after)
+    here = rw (← (entries-next c m left n j end more)) walk
 
     pub entries-more : r ≡ true → w ≡ takingAll d turn seen′ after
-    entries-more = walk-more d turn after (entryNamings c m left n j) w seen (rw (← (entries-at c m left n j more)) walk) r (physical m) seen′ took
+    entries-more = walk-more d turn after (entryNamings c m left n j) w seen here r (physical m) seen′ took
 
     pub entries-stop : r ≡ false → record { verdict = Fault (physical m); flags = seen′ } ≡ w
-    entries-stop = walk-stop d turn after (entryNamings c m left n j) w seen (rw (← (entries-at c m left n j more)) walk) r (physical m) seen′ took
+    entries-stop = walk-stop d turn after (entryNamings c m left n j) w seen here r (physical m) seen′ took
+
+pub entries-start : (c : List ℕ) (d : Descriptor) (turn m left end : ℕ) (seen : List ℕ) → takingAll d turn seen (entryNamings c m left end 0) ≡ takingAll d turn seen (entryNamings c m left (end - 0) 0)
+entries-start c d turn m left end seen = let e : end - 0 ≡ end = omega arith in rw e
 
 -- the walk over 2 n entries, n of them at a time, as the code makes it
 module _ (c : List ℕ) (d : Descriptor) (turn m left n : ℕ) (seen : List ℕ) (j : ℕ) (r : Bool) (seen′ : List ℕ)
@@ -407,6 +407,12 @@ module _ (c : List ℕ) (d : Descriptor) (turn m left n : ℕ) (seen : List ℕ)
   pub halves-more : r ≡ true → (w : Taken) → w ≡ takingAll d turn seen′ (entryNamings c m left n (j + n)) → w ≡ both
   halves-more e w rest = rest ∙ sym (walk-more d turn (entryNamings c m left n (j + n)) (entryNamings c m left n j) both seen halves r (physical m) seen′ took e)
 
+-- entries before left are counted, as all 128 are in a full table
+pub entries-counted : (c : List ℕ) (m left : ℕ) (k j : ℕ) → j + k ≤ left → j + k ≤ 128 → entryNamings c m left k j ≡ entryNamings c m 128 k j
+unfolding entryNamings
+entries-counted c m left zero j h l = refl
+entries-counted c m left (suc k) j h l = rw (lt-ltb j left (omega arith), lt-ltb j 128 (omega arith), entries-counted c m left k (suc j) (omega arith) (omega arith))
+
 -- the entries of the table of group i, by how many of them are counted
 module _ (c : List ℕ) (d : Descriptor) (i m left : ℕ) (left-is : left ≡ d .volume - 128 * i) where
   counted-is : (j : ℕ) (t : Bool) → ltb j left ≡ t → ltb (128 * i + j) (d .volume) ≡ t
@@ -418,20 +424,12 @@ module _ (c : List ℕ) (d : Descriptor) (i m left : ℕ) (left-is : left ≡ d 
   table-entries zero j = refl
   table-entries (suc k) j = rw (counted-is j (ltb j left) refl, table-entries k (suc j))
 
-  full-entries : 128 ≤ left → (k j : ℕ) → j + k ≤ 128 → entryNamings c m left k j ≡ entryNamings c m 128 k j
-  unfolding entryNamings
-  full-entries h zero j l = refl
-  full-entries h (suc k) j l = rw (lt-ltb j left (omega arith), lt-ltb j 128 (omega arith), full-entries h k (suc j) (omega arith))
-
   module _ (turn : ℕ) (seen : List ℕ) (w : Taken) where
     pub table-part : w ≡ takingAll d turn seen (entryNamings c m left 128 0) → w ≡ takingAll d turn seen (tableNamings c d i m 128 0)
     table-part walk = rw (table-entries 128 0) walk
 
     pub table-full : 128 ≤ left → w ≡ takingAll d turn seen (entryNamings c m 128 128 0) → w ≡ takingAll d turn seen (tableNamings c d i m 128 0)
-    table-full h walk = table-part (rw (full-entries h 128 0 (omega arith)) walk)
-
-pub table-ready : (c : List ℕ) (d : Descriptor) (i m : ℕ) (seen : List ℕ) → TableReady c d i m seen → EntriesReady c d m seen
-table-ready c d i m seen ready = record { on-card = ready .on-card; flags = ready .flags; rising = ready .rising }
+    table-full h walk = table-part (rw (entries-counted c m left 128 0 h (omega arith)) walk)
 
 -- a table block that may be nil
 module _ (c : List ℕ) (d : Descriptor) (turn i m : ℕ) (seen : List ℕ) where
@@ -527,24 +525,77 @@ zero-bytes c at m n e h =
     rw (q, zero-byte c at (suc (suc (suc m))) (omega arith), zero-byte c (at + 1) (suc (suc m)) (omega arith), add-assoc at 1 1, zero-byte c (at + 2) (suc m) (omega arith), add-assoc at 2 1, zero-byte c (at + 3) m (omega arith), add-assoc at 3 1)
     (number-zero (getD c at 0) (getD c (at + 1) 0) (getD c (at + 2) 0) (getD c (at + 3) 0) _ refl (allZero (part c (at + 4) m)))
 
--- the bytes of Phi from entry n on, as the code lends them
-pub clear-past : (c : List ℕ) (a n : ℕ) (r : Bool) → n ≤ 112 → r ≡ allZero (part c (512 * a + 64 + 4 * n) (512 * a + 512 - (512 * a + 64 + 4 * n))) → r ≡ allZero (part c (512 * a + 64 + 4 * n) (448 - 4 * n))
-clear-past c a n r h e = let q : 448 - 4 * n ≡ 512 * a + 512 - (512 * a + 64 + 4 * n) = omega arith in rw q e
+-- the bytes of block p from byte n on, as the code lends them
+pub clear-from : (c : List ℕ) (p n : ℕ) (r : Bool) → r ≡ allZero (part c (512 * p + n) (512 * p + 512 - (512 * p + n))) → r ≡ allZero (part c (512 * p + n) (512 - n))
+clear-from c p n r e = let q : 512 - n ≡ 512 * p + 512 - (512 * p + n) = omega arith in rw q e
+
+-- the bytes of Phi from entry n on
+pub clear-past : (c : List ℕ) (a n : ℕ) (r : Bool) → n ≤ 112 → r ≡ allZero (part c (512 * a + (64 + 4 * n)) (512 - (64 + 4 * n))) → r ≡ allZero (part c (512 * a + 64 + 4 * n) (448 - 4 * n))
+clear-past c a n r h e =
+    let p : 512 * a + 64 + 4 * n ≡ 512 * a + (64 + 4 * n) = omega arith in
+    let q : 448 - 4 * n ≡ 512 - (64 + 4 * n) = omega arith in
+    rw (p, q) e
+
+-- an entry that is not counted is refused where it is set
+past-step : (d : Descriptor) (turn : ℕ) (seen : List ℕ) (h v : ℕ) (phi : Bool) (rest : List Naming) (r : Bool) → takingAll d turn seen rest ≡ record { verdict = pick r Passed (Fault (physical h)); flags = seen } → (z : Bool) → eqb v 0 ≡ z
+    → takingAll d turn seen (record { holder = h; value = v; counted = false; phi = phi } ∷ rest) ≡ record { verdict = pick (z && r) Passed (Fault (physical h)); flags = seen }
+unfolding takingAll takes taking
+past-step d turn seen h v phi rest r f true e = rw e f
+past-step d turn seen h v phi rest r f false e = rw e
+
+-- k entries of table block m from entry j on, none of them counted: nil where their bytes are zero, and else the first that is set is refused
+module _ (c : List ℕ) (d : Descriptor) (turn m left : ℕ) (seen : List ℕ) where
+  entries-past : (k j : ℕ) → left ≤ j → 512 * m + 4 * j + 4 * k ≤ length c
+      → takingAll d turn seen (entryNamings c m left k j) ≡ record { verdict = pick (allZero (part c (512 * m + 4 * j) (4 * k))) Passed (Fault (physical m)); flags = seen }
+  unfolding takingAll entryNamings entryAt allZero
+  entries-past zero j h l = refl
+  entries-past (suc k) j h l =
+      let next : 512 * m + 4 * suc j ≡ 512 * m + 4 * j + 4 = omega arith in
+      let rest = entries-past k (suc j) (omega arith) (omega arith) in
+      ap (λ (t : Bool). takingAll d turn seen (record { holder = m; value = entryAt c m j; counted = t; phi = false } ∷ entryNamings c m left k (suc j))) (le-ltb j left h)
+      ∙ past-step d turn seen m (entryAt c m j) false (entryNamings c m left k (suc j)) (allZero (part c (512 * m + 4 * j + 4) (4 * k))) (rw next at rest) (eqb (entryAt c m j) 0) refl
+      ∙ ap (λ (z : Bool). record { verdict = pick z Passed (Fault (physical m)); flags = seen }) (sym (zero-bytes c (512 * m + 4 * j) (4 * k) (4 * suc k) (omega arith) (omega arith)))
+
+-- the walk over a table block of which the first left entries are counted, as the code makes it: n of those, the others of those, and the entries past them
+module _ (c : List ℕ) (d : Descriptor) (turn m left n : ℕ) (low : n ≤ left) (high : left ≤ 128) (seen : List ℕ) (r : Bool) (seen′ : List ℕ)
+    (took : record { verdict = pick r Passed (Fault (physical m)); flags = seen′ } ≡ takingAll d turn seen (entryNamings c m 128 n 0)) where
+  abbrev part-all : Taken
+  part-all = takingAll d turn seen (entryNamings c m left 128 0)
+
+  abbrev part-rest : List Naming
+  part-rest = entryNamings c m 128 (left - n) n
+
+  abbrev part-past : List Naming
+  part-past = entryNamings c m left (128 - left) left
+
+  part-is : entryNamings c m left 128 0 ≡ entryNamings c m 128 n 0 ++ (part-rest ++ part-past)
+  part-is =
+      let e : 128 ≡ n + (left - n + (128 - left)) = omega arith in
+      let z : n + (left - n) ≡ left = omega arith in
+      ap (λ (k : ℕ). entryNamings c m left k 0) e
+      ∙ entries-join c m left n (left - n + (128 - left)) 0
+      ∙ rw (zero-add n, entries-join c m left (left - n) (128 - left) n, z, entries-counted c m left n 0 (omega arith) (omega arith), entries-counted c m left (left - n) n (omega arith) (omega arith))
+
+  pub part-stop : r ≡ false → record { verdict = Fault (physical m); flags = seen′ } ≡ part-all
+  part-stop = walk-stop d turn (part-rest ++ part-past) (entryNamings c m 128 n 0) part-all seen (ap (takingAll d turn seen) part-is) r (physical m) seen′ took
+
+  module _ (e : r ≡ true) (r′ : Bool) (seen″ : List ℕ) (took′ : record { verdict = pick r′ Passed (Fault (physical m)); flags = seen″ } ≡ takingAll d turn seen′ part-rest) where
+    part-more : part-all ≡ takingAll d turn seen′ (part-rest ++ part-past)
+    part-more = walk-more d turn (part-rest ++ part-past) (entryNamings c m 128 n 0) part-all seen (ap (takingAll d turn seen) part-is) r (physical m) seen′ took e
+
+    pub rest-stop : r′ ≡ false → record { verdict = Fault (physical m); flags = seen″ } ≡ part-all
+    rest-stop = walk-stop d turn part-past part-rest part-all seen′ part-more r′ (physical m) seen″ took′
+
+    pub rest-more : r′ ≡ true → 512 * m + 512 ≤ length c → (z : Bool) → z ≡ allZero (part c (512 * m + 4 * left) (512 - 4 * left)) → record { verdict = pick z Passed (Fault (physical m)); flags = seen″ } ≡ part-all
+    rest-more f l z clear =
+        let q : 512 - 4 * left ≡ 4 * (128 - left) = omega arith in
+        rw (clear, q) (sym (walk-more d turn part-past part-rest part-all seen′ part-more r′ (physical m) seen″ took′ f ∙ entries-past c d turn m left seen″ (128 - left) left (omega arith) (omega arith)))
 
 -- the entries of Phi past n, which are refused where they are set
 module _ (c : List ℕ) (d : Descriptor) (turn : ℕ) (seen : List ℕ) where
-  abbrev past-entry : ℕ → Naming
-  past-entry v = record { holder = d .alpha .0; value = v; counted = false; phi = true }
-
-  past-next : (k i : ℕ) → tableCount (d .volume) ≤ i → phiNamings c d (suc k) i ≡ past-entry (phiAt c d i) ∷ phiNamings c d k (i + 1)
+  past-next : (k i : ℕ) → tableCount (d .volume) ≤ i → phiNamings c d (suc k) i ≡ record { holder = d .alpha .0; value = phiAt c d i; counted = false; phi = true } ∷ phiNamings c d k (i + 1)
   unfolding phiNamings
   past-next k i h = rw (le-ltb i (tableCount (d .volume)) h, ← (add-one i))
-
-  past-step : (v : ℕ) (rest : List Naming) (r : Bool) → takingAll d turn seen rest ≡ record { verdict = pick r Passed (Fault (d .alpha)); flags = seen } → (z : Bool) → eqb v 0 ≡ z
-      → takingAll d turn seen (past-entry v ∷ rest) ≡ record { verdict = pick (z && r) Passed (Fault (d .alpha)); flags = seen }
-  unfolding takingAll takes taking
-  past-step v rest r f true e = rw e f
-  past-step v rest r f false e = rw e
 
   abbrev phi-place : ℕ → ℕ
   phi-place i = 512 * d .alpha .0 + 64 + 4 * i
@@ -558,7 +609,7 @@ module _ (c : List ℕ) (d : Descriptor) (turn : ℕ) (seen : List ℕ) where
       let next : phi-place (i + 1) ≡ phi-place i + 4 = omega arith in
       let rest = phi-past k (i + 1) (omega arith) (omega arith) in
       ap (takingAll d turn seen) (past-next k i h)
-      ∙ past-step (phiAt c d i) (phiNamings c d k (i + 1)) (allZero (part c (phi-place i + 4) (4 * k))) (rw next at rest) (eqb (phiAt c d i) 0) refl
+      ∙ past-step d turn seen (d .alpha .0) (phiAt c d i) true (phiNamings c d k (i + 1)) (allZero (part c (phi-place i + 4) (4 * k))) (rw next at rest) (eqb (phiAt c d i) 0) refl
       ∙ ap (λ (z : Bool). record { verdict = pick z Passed (Fault (d .alpha)); flags = seen }) (sym (zero-bytes c (phi-place i) (4 * k) (4 * suc k) (omega arith) (omega arith)))
 
 -- the walk over Phi of a layout 2 descriptor, as the code makes it

@@ -24,13 +24,10 @@ tableNamings c d i m zero j = []
 tableNamings c d i m (suc k) j =
     record { holder = m; value = entryAt c m j; counted = ltb (tableSize * i + j) (d .volume); phi = false } ∷ tableNamings c d i m k (suc j)
 
--- entry j of table block m, and k entries from entry j on, of which those before entry left are counted
-abbrev pub entryNaming : List ℕ → ℕ → Bool → ℕ → Naming
-entryNaming c m counted j = record { holder = m; value = entryAt c m j; counted = counted; phi = false }
-
+-- the same, where those before entry left are counted
 unfoldable pub entryNamings : List ℕ → ℕ → ℕ → ℕ → ℕ → List Naming
 entryNamings c m left zero j = []
-entryNamings c m left (suc k) j = entryNaming c m (ltb j left) j ∷ entryNamings c m left k (suc j)
+entryNamings c m left (suc k) j = record { holder = m; value = entryAt c m j; counted = ltb j left; phi = false } ∷ entryNamings c m left k (suc j)
 
 -- layout 1: k tables from that of group i on
 unfoldable pub tablesNamings : List ℕ → Descriptor → ℕ → ℕ → List Naming

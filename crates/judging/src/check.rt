@@ -11,14 +11,13 @@ use entries::check::Verdict;
 use finding::find;
 use flagging::flags;
 ghost use mathlib.Core.Path.{_≡_};
-ghost use mathlib.Core.List.{[], _∷_};
-ghost use Prim.Native.Nat.{_+_, _*_, _-_, _≤_, _<_};
+ghost use Prim.Native.Nat.{_+_, _*_, _-_, _/_, _≤_, _<_};
 ghost use lib.ListN.{length};
 ghost use lib.Dec.{ltb};
 ghost use Rattle.blocks.specs.Pick.{pick, allZero};
 ghost use Rattle.blocks.specs.Bytes.{blockSize, part};
 ghost use Rattle.blocks.specs.Descriptor.{physical, tableSize, phiSize, phiStart, phiBytes};
-ghost use Rattle.entries.specs.Naming.{tableNamings, entryNaming, entryNamings, tablesNamings, phiNamings, namings};
+ghost use Rattle.entries.specs.Naming.{tableNamings, entryNamings, tablesNamings, phiNamings, namings};
 ghost use Rattle.entries.specs.Marks.{takingAll, namedTable, EntriesReady, TableReady, TablesReady, PhiReady, CheckReady};
 ghost use Rattle.entries.specs.declared.check.Verdict.the-variants.{Passed, Fault};
 
@@ -42,22 +41,14 @@ fn counted_from(volume: u32, first: Logical) -> u32
     volume - first.0
 }
 
-// Takes entry `j` of table block `m`, which stands before L if it is counted.
-fn check_entry(
-    card: &[u8],
-    d: Descriptor,
-    m: Physical,
-    j: u32,
-    counted: bool,
-    seen: &mut [u8],
-    turn: u8,
-) -> bool
+// Takes entry `j` of table block `m`, which is counted.
+fn check_entry(card: &[u8], d: Descriptor, m: Physical, j: u32, seen: &mut [u8], turn: u8) -> bool
     requires { ⌜ EntriesReady (now card) d (m .0) (now seen) × (j < tableSize) ⌝ }
-    ensures { λ r. ⌜ record { verdict = pick r Passed (Fault m); flags = now (seen .exit) } ≡ takingAll d turn (now (seen .entry)) (entryNaming (now (card .entry)) (m .0) counted j ∷ []) ⌝ }
+    ensures { λ r. ⌜ record { verdict = pick r Passed (Fault m); flags = now (seen .exit) } ≡ takingAll d turn (now (seen .entry)) (entryNamings (now (card .entry)) (m .0) tableSize 1 j) ⌝ }
 {
     let limit = limit_of(d.alpha, d.beta, m);
     let v = find::entry_at(card, m, j);
-    flags::take_entry(seen, turn, limit, counted, v)
+    flags::take_entry(seen, turn, limit, true, v)
 }
 
 // Takes the two entries of table block `m` from entry `j` on, both counted, up to the first at fault.
@@ -65,10 +56,10 @@ fn check_two(card: &[u8], d: Descriptor, m: Physical, j: u32, seen: &mut [u8], t
     requires { ⌜ EntriesReady (now card) d (m .0) (now seen) × (j + 2 ≤ tableSize) ⌝ }
     ensures { λ r. ⌜ record { verdict = pick r Passed (Fault m); flags = now (seen .exit) } ≡ takingAll d turn (now (seen .entry)) (entryNamings (now (card .entry)) (m .0) tableSize 2 j) ⌝ }
 {
-    if !check_entry(card, d, m, j, true, seen, turn) {
+    if !check_entry(card, d, m, j, seen, turn) {
         return false;
     }
-    check_entry(card, d, m, j + 1, true, seen, turn)
+    check_entry(card, d, m, j + 1, seen, turn)
 }
 
 // Takes the four entries of table block `m` from entry `j` on, all counted, up to the first at fault.
@@ -82,13 +73,13 @@ fn check_four(card: &[u8], d: Descriptor, m: Physical, j: u32, seen: &mut [u8], 
     check_two(card, d, m, j + 2, seen, turn)
 }
 
-// Takes the 128 entries of table block `m`, all counted, four at a time, up to the first at fault.
-fn check_full(card: &[u8], d: Descriptor, m: Physical, seen: &mut [u8], turn: u8) -> bool
-    requires { ⌜ EntriesReady (now card) d (m .0) (now seen) ⌝ }
-    ensures { λ r. ⌜ record { verdict = pick r Passed (Fault m); flags = now (seen .exit) } ≡ takingAll d turn (now (seen .entry)) (entryNamings (now (card .entry)) (m .0) tableSize tableSize 0) ⌝ }
+// Takes the first `n` entries of table block `m`, all counted, four at a time, up to the first at fault.
+fn check_fours(card: &[u8], d: Descriptor, m: Physical, n: u32, seen: &mut [u8], turn: u8) -> bool
+    requires { ⌜ EntriesReady (now card) d (m .0) (now seen) × (n ≤ tableSize) × (4 * (n / 4) ≡ n) ⌝ }
+    ensures { λ r. ⌜ record { verdict = pick r Passed (Fault m); flags = now (seen .exit) } ≡ takingAll d turn (now (seen .entry)) (entryNamings (now (card .entry)) (m .0) tableSize n 0) ⌝ }
 {
     let mut j: u32 = 0;
-    while j < TABLE_SIZE {
+    while j < n {
         if !check_four(card, d, m, j, seen, turn) {
             return false;
         }
@@ -97,20 +88,51 @@ fn check_full(card: &[u8], d: Descriptor, m: Physical, seen: &mut [u8], turn: u8
     true
 }
 
-// Takes the 128 entries of table block `m`, of which the first `left` are counted, up to the first at fault.
-fn check_part(card: &[u8], d: Descriptor, m: Physical, left: u32, seen: &mut [u8], turn: u8) -> bool
-    requires { ⌜ EntriesReady (now card) d (m .0) (now seen) ⌝ }
-    ensures { λ r. ⌜ record { verdict = pick r Passed (Fault m); flags = now (seen .exit) } ≡ takingAll d turn (now (seen .entry)) (entryNamings (now (card .entry)) (m .0) left tableSize 0) ⌝ }
+// Takes the entries of table block `m` from entry `from` up to entry `to`, all counted, one at a time, up to the first at fault.
+fn check_ones(
+    card: &[u8],
+    d: Descriptor,
+    m: Physical,
+    from: u32,
+    to: u32,
+    seen: &mut [u8],
+    turn: u8,
+) -> bool
+    requires { ⌜ EntriesReady (now card) d (m .0) (now seen) × (from ≤ to) × (to ≤ tableSize) ⌝ }
+    ensures { λ r. ⌜ record { verdict = pick r Passed (Fault m); flags = now (seen .exit) } ≡ takingAll d turn (now (seen .entry)) (entryNamings (now (card .entry)) (m .0) tableSize (to - from) from) ⌝ }
 {
-    let mut j: u32 = 0;
-    while j < TABLE_SIZE {
-        let counted = j < left;
-        if !check_entry(card, d, m, j, counted, seen, turn) {
+    let mut j = from;
+    while j < to {
+        if !check_entry(card, d, m, j, seen, turn) {
             return false;
         }
         j += 1;
     }
     true
+}
+
+// Whether the bytes of block `p` from byte `from` on are zero.
+fn is_clear_from(card: &[u8], p: Physical, from: usize) -> bool
+    requires { ⌜ (blockSize * p .0 + blockSize ≤ length (now card)) × (from ≤ blockSize) ⌝ }
+    ensures { λ r. ⌜ r ≡ allZero (part (now (card .entry)) (blockSize * p .0 + from) (blockSize - from)) ⌝ }
+{
+    let at = BLOCK_SIZE * (p.0 as usize);
+    bytes::all_zero(&card[at + from..at + BLOCK_SIZE])
+}
+
+// Takes the 128 entries of table block `m`, of which the first `left` are counted, up to the first at fault.
+fn check_part(card: &[u8], d: Descriptor, m: Physical, left: u32, seen: &mut [u8], turn: u8) -> bool
+    requires { ⌜ EntriesReady (now card) d (m .0) (now seen) × (left ≤ tableSize) ⌝ }
+    ensures { λ r. ⌜ record { verdict = pick r Passed (Fault m); flags = now (seen .exit) } ≡ takingAll d turn (now (seen .entry)) (entryNamings (now (card .entry)) (m .0) left tableSize 0) ⌝ }
+{
+    let n = 4 * (left / 4);
+    if !check_fours(card, d, m, n, seen, turn) {
+        return false;
+    }
+    if !check_ones(card, d, m, n, left, seen, turn) {
+        return false;
+    }
+    is_clear_from(card, m, 4 * (left as usize))
 }
 
 // Takes the 128 entries of table block `m`, the table of group `i`, up to the first at fault.
@@ -123,7 +145,7 @@ fn check_table(card: &[u8], d: Descriptor, i: u32, m: Physical, seen: &mut [u8],
     if left < TABLE_SIZE {
         return check_part(card, d, m, left, seen, turn);
     }
-    check_full(card, d, m, seen, turn)
+    check_fours(card, d, m, TABLE_SIZE, seen, turn)
 }
 
 // Takes the entries of table block `m`, the table of group `i`, unless it is nil.
@@ -158,8 +180,7 @@ fn is_clear_past(card: &[u8], alpha: Physical, n: u32) -> bool
     requires { ⌜ (blockSize * alpha .0 + blockSize ≤ length (now card)) × (n ≤ phiSize) ⌝ }
     ensures { λ r. ⌜ r ≡ allZero (part (now (card .entry)) (blockSize * alpha .0 + phiStart + 4 * n) (phiBytes - 4 * n)) ⌝ }
 {
-    let at = BLOCK_SIZE * (alpha.0 as usize);
-    bytes::all_zero(&card[at + PHI_START + 4 * (n as usize)..at + BLOCK_SIZE])
+    is_clear_from(card, alpha, PHI_START + 4 * (n as usize))
 }
 
 // The verdict on Phi and the tables that it names, of a layout 2 descriptor with `n` tables.

@@ -3,7 +3,7 @@ use mathlib.Core.Path.{ap}
 use native.Mathlib.Omega.{arith}
 use borrow.Author.Needs.{needs}
 use Rattle.blocks.specs.declared.numbers.Physical.{Physical}
-use Rattle.entries.proofs.CheckLaws.{limit-low, entry-alone}
+use Rattle.entries.proofs.CheckLaws.{limit-low, entry-one}
 use Rattle.judging.proofs.check.check_entry.Statement.{statement}
 use Rattle.judging.proofs.check.check_entry.Tie as tie
 
@@ -26,7 +26,7 @@ returns : tie.Need-returns
 returns c =
     let t = c .before .before in
     let e = t .before .before in
-    entry-alone _ _ _ _ _ _ _ _ _ (e .before .limit-of .ensures) (e .entry-at .ensures) _ _ (t .take-entry .ensures)
+    entry-one _ _ _ _ _ _ _ (t .before .before .before .before .before .before .pre .1) _ _ (e .before .limit-of .ensures) (e .entry-at .ensures) _ _ (t .take-entry .ensures)
 
 pub check-entry-spec : {M : Type 1} → statement M
 check-entry-spec = tie.close (tie.spec limit-of-requires entry-at-requires take-entry-requires same-length returns)

@@ -1,74 +1,69 @@
--- `check_part` meets its contract: after j entries those from entry j on are left.
-use mathlib.Core.Path.{_≡_, refl, _∙_}
-use Prim.Native.Nat.{_≤_, _-_}
+-- `check_part` meets its contract: the counted entries, four at a time and then one at a time, and the others by their bytes.
 use native.Mathlib.Omega.{arith}
-use lib.ListN.{length}
+use borrow.Author.Needs.{needs}
 use borrow.Author.Tests.{not-true, not-false}
-use Rattle.entries.specs.Naming.{entryNamings}
-use Rattle.entries.specs.Marks.{takingAll}
-use Rattle.entries.proofs.CheckLaws.{entries-ready, entries-one, entries-more, entries-stop, entries-end}
+use Rattle.entries.proofs.CheckLaws.{part-stop, rest-stop, rest-more}
 use Rattle.judging.proofs.check.check_part.Statement.{statement}
 use Rattle.judging.proofs.check.check_part.Tie as tie
 
-abbrev Inv-loop : tie.InvT-loop
-Inv-loop card d m left seen₀ turn j₀ seen j =
-    (j ≤ 128)
-    × (length seen ≡ length seen₀)
-    × (takingAll d turn seen₀ (entryNamings card (m .0) left 128 0) ≡ takingAll d turn seen (entryNamings card (m .0) left (128 - j) j))
+mul-n : tie.Need-mul-n
+mul-n c = search needs
 
-abbrev μ-loop : tie.MeasureT-loop
-μ-loop card d m left seen₀ turn j₀ seen j = 128 - j
+check-fours-requires : tie.Need-check-fours-requires
+check-fours-requires c κs = search needs
 
-loop-holds : tie.Need-loop-holds Inv-loop μ-loop
-loop-holds c = (omega arith, refl, refl)
+same-length : tie.Need-same-length
+same-length c = search needs
 
-check-entry-requires : tie.Need-check-entry-requires Inv-loop μ-loop
-check-entry-requires c κs =
-    let l = c .before .before in
-    (entries-ready _ _ _ _ _ (l .before .before .before .pre) (l .loop .inv .1), omega arith)
-
-same-length : tie.Need-same-length Inv-loop μ-loop
-same-length c = let e = c .before .before .before in e .check-entry .kept .1 .1 .1 .1 .1 .0 ∙ e .before .before .before .loop .inv .1
-
-returns : tie.Need-returns Inv-loop μ-loop
+returns : tie.Need-returns
 returns c =
-    let e = c .before .before .before in
-    let l = e .before .before .before in
-    entries-stop _ _ _ _ _ _ _ _ (l .loop .inv .2) 1 (omega arith) (e .check-entry .result) _ (entries-one _ _ _ _ _ _ _ _ _ refl (e .check-entry .ensures)) (not-true _ (c .if1 .taken))
+    let f = c .before .before .before in
+    let s = f .before .before .before .before in
+    part-stop _ _ _ _ _ _ (omega arith) (s .pre .1) _ (f .check-fours .result) _ (f .check-fours .ensures) (not-true _ (c .if1 .taken))
 
-add-j : tie.Need-add-j Inv-loop μ-loop
-add-j c = omega arith
+check-ones-requires : tie.Need-check-ones-requires
+check-ones-requires c κs = search needs
 
-loop-less : tie.Need-loop-less Inv-loop μ-loop
-loop-less c = omega arith
+same-length-2 : tie.Need-same-length-2
+same-length-2 c = search needs
 
-loop-again : tie.Need-loop-again Inv-loop μ-loop
-loop-again c =
-    let e = c .before .before .before in
-    let l = e .before .before .before in (
-      omega arith,
-      e .check-entry .kept .1 .1 .1 .1 .1 .0 ∙ l .loop .inv .1,
-      entries-more _ _ _ _ _ _ _ _ (l .loop .inv .2) 1 (omega arith) (e .check-entry .result) _ (entries-one _ _ _ _ _ _ _ _ _ refl (e .check-entry .ensures)) (not-false _ (c .if1 .left)),
-    )
+returns-2 : tie.Need-returns-2
+returns-2 c =
+    let o = c .before .before .before in
+    let f = o .before .before .before .before .before in
+    let s = f .before .before .before .before in
+    rest-stop _ _ _ _ _ _ (omega arith) (s .pre .1) _ (f .check-fours .result) _ (f .check-fours .ensures) (not-false _ (o .before .before .if1 .left))
+    (o .check-ones .result) _ (o .check-ones .ensures) (not-true _ (c .if2 .taken))
 
-same-length-2 : tie.Need-same-length-2 Inv-loop μ-loop
-same-length-2 c = c .before .loop .inv .1
+mul-is-clear-from : tie.Need-mul-is-clear-from
+mul-is-clear-from c = search needs
 
-returns-2 : tie.Need-returns-2 Inv-loop μ-loop
-returns-2 c = entries-end _ _ _ _ _ _ _ _ (c .before .loop .inv .2) (omega arith)
+is-clear-from-requires : tie.Need-is-clear-from-requires
+is-clear-from-requires c κs = search needs
+
+same-length-3 : tie.Need-same-length-3
+same-length-3 c = search needs
+
+returns-3 : tie.Need-returns-3
+returns-3 c =
+    let o = c .before .before .before .before in
+    let f = o .before .before .before .before .before in
+    let s = f .before .before .before .before in
+    rest-more _ _ _ _ _ _ (omega arith) (s .pre .1) _ (f .check-fours .result) _ (f .check-fours .ensures) (not-false _ (o .before .before .if1 .left))
+    (o .check-ones .result) _ (o .check-ones .ensures) (not-false _ (c .before .if2 .left)) (s .pre .0 .on-card) _ (c .is-clear-from .ensures)
 
 pub check-part-spec : {M : Type 1} → statement M
 check-part-spec =
     tie.close
     (tie.spec
-    Inv-loop
-    μ-loop
-    loop-holds
-    check-entry-requires
+    mul-n
+    check-fours-requires
     same-length
     returns
-    add-j
-    loop-less
-    loop-again
+    check-ones-requires
     same-length-2
-    returns-2)
+    returns-2
+    mul-is-clear-from
+    is-clear-from-requires
+    same-length-3
+    returns-3)

@@ -1,4 +1,5 @@
 -- `check_table` meets its contract, by its test.
+use mathlib.Core.Path.{refl}
 use native.Mathlib.Omega.{arith}
 use borrow.Author.Needs.{needs}
 use Rattle.entries.proofs.CheckLaws.{table-ready, table-part, table-full}
@@ -12,7 +13,7 @@ counted-from-requires : tie.Need-counted-from-requires
 counted-from-requires c κs = search needs
 
 check-part-requires : tie.Need-check-part-requires
-check-part-requires c κs = table-ready _ _ _ _ _ (c .before .before .before .before .before .pre)
+check-part-requires c κs = (table-ready _ _ _ _ _ (c .before .before .before .before .before .pre), omega arith)
 
 same-length : tie.Need-same-length
 same-length c = search needs
@@ -22,8 +23,8 @@ returns c =
     let p = c .before .before in
     table-part _ _ _ _ _ (p .before .before .before .counted-from .ensures) _ _ _ (p .check-part .ensures)
 
-check-full-requires : tie.Need-check-full-requires
-check-full-requires c κs = table-ready _ _ _ _ _ (c .before .before .before .before .before .pre)
+check-fours-requires : tie.Need-check-fours-requires
+check-fours-requires c κs = (table-ready _ _ _ _ _ (c .before .before .before .before .before .pre), omega arith, refl)
 
 same-length-2 : tie.Need-same-length-2
 same-length-2 c = search needs
@@ -31,7 +32,7 @@ same-length-2 c = search needs
 returns-2 : tie.Need-returns-2
 returns-2 c =
     let f = c .before .before in
-    table-full _ _ _ _ _ (f .before .before .before .counted-from .ensures) _ _ _ (omega arith) (f .check-full .ensures)
+    table-full _ _ _ _ _ (f .before .before .before .counted-from .ensures) _ _ _ (omega arith) (f .check-fours .ensures)
 
 pub check-table-spec : {M : Type 1} → statement M
 check-table-spec =
@@ -42,6 +43,6 @@ check-table-spec =
     check-part-requires
     same-length
     returns
-    check-full-requires
+    check-fours-requires
     same-length-2
     returns-2)

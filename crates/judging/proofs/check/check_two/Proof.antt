@@ -1,8 +1,7 @@
 -- `check_two` meets its contract: the first entry, then the second.
-use native.Mathlib.Omega.{arith}
 use borrow.Author.Needs.{needs}
 use borrow.Author.Tests.{not-true, not-false}
-use Rattle.entries.proofs.CheckLaws.{entries-one-counted, halves-stop, halves-more}
+use Rattle.entries.proofs.CheckLaws.{halves-stop, halves-more}
 use Rattle.judging.proofs.check.check_two.Statement.{statement}
 use Rattle.judging.proofs.check.check_two.Tie as tie
 
@@ -15,7 +14,7 @@ same-length c = search needs
 returns : tie.Need-returns
 returns c =
     let e = c .before .before .before in
-    halves-stop _ _ _ _ 128 1 _ _ (e .check-entry .result) _ (entries-one-counted _ _ _ _ 128 _ _ _ (omega arith) (e .check-entry .ensures)) (not-true _ (c .if1 .taken))
+    halves-stop _ _ _ _ 128 1 _ _ (e .check-entry .result) _ (e .check-entry .ensures) (not-true _ (c .if1 .taken))
 
 add-check-entry : tie.Need-add-check-entry
 add-check-entry c = search needs
@@ -30,8 +29,7 @@ returns-2 : tie.Need-returns-2
 returns-2 c =
     let f = c .before .before in
     let e = f .before .before .before .before .before in
-    halves-more _ _ _ _ 128 1 _ _ (e .check-entry .result) _ (entries-one-counted _ _ _ _ 128 _ _ _ (omega arith) (e .check-entry .ensures)) (not-false _ (f .before .before .if1 .left)) _
-    (entries-one-counted _ _ _ _ 128 _ _ _ (omega arith) (f .check-entry2 .ensures))
+    halves-more _ _ _ _ 128 1 _ _ (e .check-entry .result) _ (e .check-entry .ensures) (not-false _ (f .before .before .if1 .left)) _ (f .check-entry2 .ensures)
 
 pub check-two-spec : {M : Type 1} → statement M
 check-two-spec =

@@ -1,54 +1,20 @@
--- `is_clear_past` meets its contract, by what `all_zero` ensures.
+-- `is_clear_past` meets its contract, by what `is_clear_from` ensures.
 use borrow.Author.Needs.{needs}
 use Rattle.entries.proofs.CheckLaws.{clear-past}
 use Rattle.judging.proofs.check.is_clear_past.Statement.{statement}
 use Rattle.judging.proofs.check.is_clear_past.Tie as tie
 
-cast-at : tie.Need-cast-at
-cast-at c = search needs
+mul-is-clear-from : tie.Need-mul-is-clear-from
+mul-is-clear-from c = search needs
 
-mul-at : tie.Need-mul-at
-mul-at c = search needs
+add-is-clear-from : tie.Need-add-is-clear-from
+add-is-clear-from c = search needs
 
-add-all-zero : tie.Need-add-all-zero
-add-all-zero c = search needs
-
-mul-all-zero : tie.Need-mul-all-zero
-mul-all-zero c = search needs
-
-add-all-zero-2 : tie.Need-add-all-zero-2
-add-all-zero-2 c = search needs
-
-add-all-zero-3 : tie.Need-add-all-zero-3
-add-all-zero-3 c = search needs
-
-sub-all-zero : tie.Need-sub-all-zero
-sub-all-zero c = search needs
-
-part-all-zero-start : tie.Need-part-all-zero-start
-part-all-zero-start c = search needs
-
-part-all-zero-end : tie.Need-part-all-zero-end
-part-all-zero-end c = search needs
-
-all-zero-requires : tie.Need-all-zero-requires
-all-zero-requires c κs = search needs
+is-clear-from-requires : tie.Need-is-clear-from-requires
+is-clear-from-requires c κs = search needs
 
 returns : tie.Need-returns
-returns c = clear-past _ _ _ _ (c .before .before .before .before .pre .1) (c .all-zero .ensures)
+returns c = clear-past _ _ _ _ (c .before .before .pre .1) (c .is-clear-from .ensures)
 
 pub is-clear-past-spec : {M : Type 1} → statement M
-is-clear-past-spec =
-    tie.close
-    (tie.spec
-    cast-at
-    mul-at
-    add-all-zero
-    mul-all-zero
-    add-all-zero-2
-    add-all-zero-3
-    sub-all-zero
-    part-all-zero-start
-    part-all-zero-end
-    all-zero-requires
-    returns)
+is-clear-past-spec = tie.close (tie.spec mul-is-clear-from add-is-clear-from is-clear-from-requires returns)
