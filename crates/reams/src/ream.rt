@@ -15,7 +15,7 @@ ghost use mathlib.Core.Path.{_≡_};
 ghost use Prim.Native.Nat.{_+_, _*_, _≤_, _<_};
 ghost use lib.ListN.{length};
 ghost use Rattle.blocks.specs.Bytes.{storeAll, blockSize};
-ghost use Rattle.blocks.specs.Descriptor.{costIn, clearing, descriptorBlock, firstTail, opening};
+ghost use Rattle.blocks.specs.Descriptor.{costIn, clearing, opening};
 ghost use Rattle.calls.specs.Call.{Ream, None};
 ghost use Rattle.calls.specs.Step.{step, done};
 
@@ -24,23 +24,12 @@ fn clear_blocks(card: &mut [u8], first: Physical, n: u32)
     requires { ⌜ (blockSize * (first .0 + n) ≤ length (now card)) × (first .0 + n < 4294967296) ⌝ }
     ensures { λ _. ⌜ now (card .exit) ≡ storeAll (now (card .entry)) (clearing (first .0) n) ⌝ }
 {
-    let zeros = [0u8; BLOCK_SIZE];
     let mut i: u32 = 0;
     while i < n {
         let p = Physical(first.0 + i);
-        bytes::store_block(card, p, &zeros);
+        bytes::clear_block(card, p);
         i += 1;
     }
-}
-
-// The block of a descriptor with the revision after its first 40 bytes, then zeros.
-fn fresh_block(d: Descriptor, revision: u32) -> [u8; BLOCK_SIZE]
-    ensures { λ r. ⌜ r ≡ descriptorBlock d (firstTail revision) ⌝ }
-{
-    let mut b = [0u8; BLOCK_SIZE];
-    descriptor::put_head(&mut b, d);
-    bytes::put_u32(&mut b, REVISION_START, revision);
-    b
 }
 
 // Formats the card.
@@ -80,7 +69,7 @@ pub fn ream(card: &mut [u8], format: Format) -> Answer
     answer::ACCEPTED
 }
 
-// Clears the tables, then stores the first descriptor.
+// Clears the blocks of the opening in one run, then stores the first descriptor and the revision after it.
 fn open_card(card: &mut [u8], format: Format, cost: u32)
     requires { ⌜ (cost ≡ costIn format) × (blockSize * cost ≤ length (now card)) ⌝ }
     ensures { λ _. ⌜ now (card .exit) ≡ storeAll (now (card .entry)) (opening format) ⌝ }
@@ -94,7 +83,7 @@ fn open_card(card: &mut [u8], format: Format, cost: u32)
         next: Physical(0),
         name,
     };
-    let b = fresh_block(first, format.revision);
-    clear_blocks(card, Physical(1), cost - 1);
-    bytes::store_block(card, Physical(0), &b);
+    clear_blocks(card, Physical(0), cost);
+    descriptor::put_descriptor(card, Physical(0), first);
+    bytes::put_u32(card, REVISION_START, format.revision);
 }

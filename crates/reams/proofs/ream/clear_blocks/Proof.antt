@@ -1,9 +1,8 @@
 -- `clear_blocks` meets its contract: after i turns i blocks are zeros.
-use mathlib.Core.Path.{_≡_, refl, _∙_}
+use mathlib.Core.Path.{_≡_, refl}
 use Prim.Native.Nat.{_≤_, _-_}
 use native.Mathlib.Omega.{arith}
 use lib.ListN.{length}
-use borrow.Author.Needs.{needs}
 use Rattle.blocks.specs.Bytes.{storeAll}
 use Rattle.blocks.specs.Descriptor.{clearing}
 use Rattle.calls.proofs.StepLaws.{cleared-none, cleared-more, cleared-all}
@@ -11,22 +10,19 @@ use Rattle.reams.proofs.ream.clear_blocks.Statement.{statement}
 use Rattle.reams.proofs.ream.clear_blocks.Tie as tie
 
 abbrev Inv-loop : tie.InvT-loop
-Inv-loop card₀ first n zeros i₀ card i = (i ≤ n) × (length card ≡ length card₀) × (card ≡ storeAll card₀ (clearing (first .0) i))
+Inv-loop card₀ first n i₀ card i = (i ≤ n) × (length card ≡ length card₀) × (card ≡ storeAll card₀ (clearing (first .0) i))
 
 abbrev μ-loop : tie.MeasureT-loop
-μ-loop card₀ first n zeros i₀ card i = n - i
+μ-loop card₀ first n i₀ card i = n - i
 
 loop-holds : tie.Need-loop-holds Inv-loop μ-loop
 loop-holds c = (omega arith, refl, cleared-none _ _)
 
-add-t8 : tie.Need-add-t8 Inv-loop μ-loop
-add-t8 c = omega arith
+add-t7 : tie.Need-add-t7 Inv-loop μ-loop
+add-t7 c = omega arith
 
-slice-aggregate-store-block : tie.Need-slice-aggregate-store-block Inv-loop μ-loop
-slice-aggregate-store-block c = search needs
-
-store-block-requires : tie.Need-store-block-requires Inv-loop μ-loop
-store-block-requires c κs = (search needs, omega (arith, c .before .before .before .before .loop .inv .1))
+clear-block-requires : tie.Need-clear-block-requires Inv-loop μ-loop
+clear-block-requires c κs = omega arith
 
 add-i : tie.Need-add-i Inv-loop μ-loop
 add-i c = omega arith
@@ -35,10 +31,7 @@ loop-less : tie.Need-loop-less Inv-loop μ-loop
 loop-less c = omega arith
 
 loop-again : tie.Need-loop-again Inv-loop μ-loop
-loop-again c =
-    let t = c .before .before in
-    let l = t .before .before .before .before .before in
-    (omega arith, t .store-block .kept .0 ∙ l .loop .inv .1, cleared-more _ _ _ _ _ (l .loop .inv .2) (t .store-block .ensures))
+loop-again c = (omega arith, omega (arith, c .before .before .clear-block .kept .0), search cleared-more)
 
 same-length : tie.Need-same-length Inv-loop μ-loop
 same-length c = c .before .loop .inv .1
@@ -53,9 +46,8 @@ clear-blocks-spec =
     Inv-loop
     μ-loop
     loop-holds
-    add-t8
-    slice-aggregate-store-block
-    store-block-requires
+    add-t7
+    clear-block-requires
     add-i
     loop-less
     loop-again

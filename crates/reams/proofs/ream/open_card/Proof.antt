@@ -1,30 +1,30 @@
--- `open_card` meets its contract: the tables are cleared, then the first descriptor is stored.
+-- `open_card` meets its contract: the blocks of the opening are cleared, then the first descriptor is stored.
 use native.Mathlib.Omega.{arith}
+use Prim.Native.Nat.{_≤_}
 use Rattle.blocks.proofs.DescriptorLaws.{cost-least}
-use Rattle.calls.proofs.ReamLaws.{opened}
 use borrow.Author.Needs.{needs}
+use Rattle.reams.proofs.OpeningLaws.{opening-stored}
 use Rattle.reams.proofs.ream.open_card.Statement.{statement}
 use Rattle.reams.proofs.ream.open_card.Tie as tie
 
-fresh-block-requires : tie.Need-fresh-block-requires
-fresh-block-requires c κs = search needs
-
-sub-clear-blocks : tie.Need-sub-clear-blocks
-sub-clear-blocks c = let s = c .before .before .before .before in omega (arith, s .pre .0, cost-least (s .args .format .layout) (s .args .format .volume))
+some : (s : tie.Start) → 1 ≤ s .args .cost
+some s = omega (arith, s .pre .0, cost-least (s .args .format .layout) (s .args .format .volume))
 
 clear-blocks-requires : tie.Need-clear-blocks-requires
-clear-blocks-requires c κs =
-    let s = c .before .before .before .before in
-    (omega (arith, s .pre .0, s .pre .1, cost-least (s .args .format .layout) (s .args .format .volume)), omega (arith, s .pre .0, cost-least (s .args .format .layout) (s .args .format .volume)))
+clear-blocks-requires c κs = search needs
 
-slice-aggregate-store-block : tie.Need-slice-aggregate-store-block
-slice-aggregate-store-block c = search needs
+put-descriptor-requires : tie.Need-put-descriptor-requires
+put-descriptor-requires c κs =
+    let k = c .before .before .before in
+    let s = k .before .before .before .before in
+    omega (arith, k .clear-blocks .kept .0, s .pre .1, some s)
 
-store-block-requires : tie.Need-store-block-requires
-store-block-requires c κs =
-    let k = c .before .before .before .before in
-    let s = k .before .before .before .before .before in
-    (search needs, omega (arith, k .clear-blocks .kept .0, s .pre .0, s .pre .1, cost-least (s .args .format .layout) (s .args .format .volume)))
+put-u32-requires : tie.Need-put-u32-requires
+put-u32-requires c κs =
+    let p = c .before .before .before in
+    let k = p .before .before .before .before in
+    let s = k .before .before .before .before in
+    omega (arith, p .put-descriptor .kept .0, k .clear-blocks .kept .0, s .pre .1, some s)
 
 same-length : tie.Need-same-length
 same-length c = search needs
@@ -32,18 +32,10 @@ same-length c = search needs
 returns : tie.Need-returns
 returns c =
     let t = c .before .before in
-    let k = t .before .before .before .before .before in
-    let s = k .before .before .before .before .before in
-    opened _ _ _ _ _ _ (s .pre .0) (k .before .before .fresh-block .ensures) (k .clear-blocks .ensures) (t .store-block .ensures)
+    let p = t .before .before .before .before in
+    let k = p .before .before .before .before in
+    let s = k .before .before .before .before in
+    opening-stored _ _ (s .args .format) _ (some s) (s .pre .1) (k .clear-blocks .ensures) (p .put-descriptor .ensures .1) _ _ (s .pre .0) (p .put-descriptor .ensures .0) (t .put-u32 .ensures)
 
 pub open-card-spec : {M : Type 1} → statement M
-open-card-spec =
-    tie.close
-    (tie.spec
-    fresh-block-requires
-    sub-clear-blocks
-    clear-blocks-requires
-    slice-aggregate-store-block
-    store-block-requires
-    same-length
-    returns)
+open-card-spec = tie.close (tie.spec clear-blocks-requires put-descriptor-requires put-u32-requires same-length returns)

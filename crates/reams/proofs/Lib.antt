@@ -1,0 +1,2 @@
+-- The law of a format's opening.
+pub mod OpeningLaws
