@@ -6,7 +6,7 @@ ghost use mathlib.Core.Bool.{_&&_, _||_, not};
 ghost use Prim.Native.Nat.{_≤_, _<_};
 ghost use lib.ListN.{length};
 ghost use lib.Dec.{eqb};
-ghost use Rattle.blocks.specs.Name.{nameSize, nameByte, nameLength, isName, padded, nameOrZero, zerosLast, hashCount, hashOf};
+ghost use Rattle.blocks.specs.Name.{nameByte, nameLength, isName, padded, hashCount, hashOf};
 
 // How many hashes of names there are: the walk keeps a flag for each.
 pub const HASH_COUNT: usize = 1024;
@@ -15,7 +15,7 @@ pub const HASH_COUNT: usize = 1024;
 fn is_name_byte(b: u8) -> bool
     ensures { λ r. ⌜ r ≡ nameByte b ⌝ }
 {
-    (97 <= b) & (b <= 122) | (48 <= b) & (b <= 57) | (b == 46) | (b == 45)
+    (b == 45) | (97 <= b) & (b <= 122) | (48 <= b) & (b <= 57) | (b == 46)
 }
 
 // How many bytes that a name may have the list starts with.
@@ -40,49 +40,42 @@ fn still_name_or_zero(good: bool, b: u8) -> bool
     good & (is_name_byte(b) | (b == 0))
 }
 
-// Whether each byte is of a name or zero. It looks at every byte, so that the compiler can take all at a time.
-fn are_name_or_zero(bytes: &[u8]) -> bool
-    requires { ⌜ length (now bytes) ≡ nameSize ⌝ }
-    ensures { λ r. ⌜ r ≡ nameOrZero (now (bytes .entry)) ⌝ }
+// Whether no zero byte so far was followed by another byte, nor is `before` by `b`.
+fn still_zeros_last(last: bool, before: u8, b: u8) -> bool
+    ensures { λ r. ⌜ r ≡ (last && (not (eqb before 0) || eqb b 0)) ⌝ }
 {
-    let mut good = true;
-    let mut i = 0;
-    while i < NAME_SIZE {
-        good = still_name_or_zero(good, bytes[i]);
-        i += 1;
-    }
-    good
+    last & ((before != 0) | (b == 0))
 }
 
-// Whether no zero byte so far was followed by another byte, nor is `b` by `next`.
-fn still_zeros_last(good: bool, b: u8, next: u8) -> bool
-    ensures { λ r. ⌜ r ≡ (good && (not (eqb b 0) || eqb next 0)) ⌝ }
+// Whether a byte so far was not zero, or this one is not.
+fn still_some(some: bool, b: u8) -> bool
+    ensures { λ r. ⌜ r ≡ (some || not (eqb b 0)) ⌝ }
 {
-    good & ((b != 0) | (next == 0))
+    some | (b != 0)
 }
 
-// Whether after a zero byte there are only zero bytes, by each byte and the next.
-fn are_zeros_last(bytes: &[u8]) -> bool
-    requires { ⌜ length (now bytes) ≡ nameSize ⌝ }
-    ensures { λ r. ⌜ r ≡ zerosLast (now (bytes .entry)) ⌝ }
-{
-    let mut good = true;
-    let mut i = 0;
-    while i < NAME_SIZE - 1 {
-        good = still_zeros_last(good, bytes[i], bytes[i + 1]);
-        i += 1;
-    }
-    good
-}
-
-// Whether the bytes of a slice are a name.
+// Whether the bytes of a slice are a name: each is of a name or zero, zeros come last, and not all are zero. One loop makes the three tests and looks at every
+// byte, so that the compiler keeps it a loop and takes all sixteen at a time, also where the function is called.
 pub fn are_name(bytes: &[u8]) -> bool
     ensures { λ r. ⌜ r ≡ isName (now (bytes .entry)) ⌝ }
 {
     if bytes.len() != NAME_SIZE {
         return false;
     }
-    are_name_or_zero(bytes) & are_zeros_last(bytes) & (bytes[0] != 0)
+    let mut good = true;
+    let mut last = true;
+    let mut some = false;
+    let mut before: u8 = 1;
+    let mut i = 0;
+    while i < NAME_SIZE {
+        let b = bytes[i];
+        good = still_name_or_zero(good, b);
+        last = still_zeros_last(last, before, b);
+        some = still_some(some, b);
+        before = b;
+        i += 1;
+    }
+    good & last & some
 }
 
 // Whether sixteen bytes by value are a name.

@@ -1,12 +1,10 @@
--- `is_name_byte` meets its contract: it is its definition.
-use borrow.Author.Needs.{needs}
-use Rattle.blocks.specs.Name.{nameByte}
+-- `is_name_byte` meets its contract: the tests of the definition, in another order.
+use Rattle.names.proofs.TestLaws.{byte-tests}
 use Rattle.names.proofs.name.is_name_byte.Statement.{statement}
 use Rattle.names.proofs.name.is_name_byte.Tie as tie
 
 returns : tie.Need-returns
-unfolding nameByte
-returns c = search needs
+returns c = byte-tests _
 
 pub is-name-byte-spec : {M : Type 1} → statement M
 is-name-byte-spec = tie.close (tie.spec returns)

@@ -1,0 +1,2 @@
+-- The laws of the tests of a name.
+pub mod TestLaws
