@@ -80,17 +80,24 @@ impl Descriptor {
         d
     }
 
-    // The descriptor of a region that opens at this one's beta.
+    // The descriptor of a region that opens at this one's beta. It is made field by field: of a descriptor copied whole the compiler reads layout and L as one
+    // number, and waits for the two stores of a caller that has just made it.
     pub fn reopened(self) -> Descriptor
         requires { ⌜ self .beta .0 + costOf self < 2 ^ 32 ⌝ }
         ensures { λ r. ⌜ r ≡ reopenedOf self ⌝ }
     {
-        let mut d = self;
         let start = self.beta;
         let end = Physical(start.0 + opening_cost(self.layout, self.volume));
-        d.alpha = start;
-        d.beta = end;
-        d
+        let next = self.next;
+        let name = self.name;
+        Descriptor {
+            layout: self.layout,
+            volume: self.volume,
+            alpha: start,
+            beta: end,
+            next,
+            name,
+        }
     }
 }
 

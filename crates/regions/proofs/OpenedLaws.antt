@@ -5,16 +5,11 @@ use Prim.Native.Nat.{ℕ, _+_, _*_, _-_, _≤_}
 use native.Mathlib.Omega.{arith}
 use lib.ListN.{length}
 use Rattle.blocks.specs.Bytes.{store, part, blockAt, storeAll, storeUpto}
-use Rattle.blocks.specs.Descriptor.{physical, costOf, tailAt, descriptorBlock, reopenedOf, copying, reopening}
+use Rattle.blocks.specs.Descriptor.{costOf, tailAt, descriptorBlock, reopenedOf, copying, reopening}
 use Rattle.blocks.specs.declared.descriptor.Descriptor.{Descriptor}
 use Rattle.blocks.proofs.ByteLaws.{upto-whole}
 use Rattle.blocks.proofs.DescriptorLaws.{tail-length, tail-block, block-whole}
 use Rattle.blocks.proofs.StoreLists.{stored-append, stored-one, stored-length, inside-copying, copied-out}
-
--- the descriptor of a region that opens, made with its cost k
-pub reopened-by : (d : Descriptor) (k : ℕ) → k ≡ costOf d
-    → record { layout = d .layout; volume = d .volume; alpha = d .beta; beta = physical (d .beta .0 + k); next = d .next; name = d .name } ≡ reopenedOf d
-reopened-by d k e = rw e
 
 -- a region's opening: its tables copied, then the pass for its descriptor, which finds bytes 40 to 511 of d's block as they were
 module _ (c c₁ : List ℕ) (d : Descriptor) (k : ℕ) (some : 1 ≤ k) (below : d .alpha .0 + k ≤ d .beta .0) (inside : 512 * (d .beta .0 + k) ≤ length c)

@@ -1,5 +1,4 @@
 // A region opened at a descriptor's beta.
-use blocks::descriptor;
 use blocks::descriptor::Descriptor;
 use blocks::numbers::Physical;
 use blocks::sizes::BLOCK_SIZE;
@@ -11,25 +10,14 @@ ghost use lib.ListN.{length};
 ghost use Rattle.blocks.specs.Bytes.{blockSize, storeAll};
 ghost use Rattle.blocks.specs.Descriptor.{costOf, reopening};
 
-// Opens a region at the descriptor's beta: its tables first and rising, then its descriptor. That is made field by field: of a descriptor taken whole the
-// compiler reads layout and L as one number, and waits for the two stores of a caller that has just made it.
+// Opens a region at the descriptor's beta: its tables first and rising, then its descriptor.
 pub fn open_region(card: &mut [u8], d: Descriptor, cost: u32)
     requires { ⌜ (cost ≡ costOf d) × (d .alpha .0 + cost ≤ d .beta .0) × (blockSize * (d .beta .0 + cost) ≤ length (now card)) × (d .beta .0 + cost < 4294967296) × (1 ≤ cost) ⌝ }
     ensures { λ _. ⌜ now (card .exit) ≡ storeAll (now (card .entry)) (reopening (now (card .entry)) d []) ⌝ }
 {
     let alpha = d.alpha;
     let beta = d.beta;
-    let end = Physical(beta.0 + descriptor::opening_cost(d.layout, d.volume));
-    let next = d.next;
-    let name = d.name;
-    let opened = Descriptor {
-        layout: d.layout,
-        volume: d.volume,
-        alpha: beta,
-        beta: end,
-        next,
-        name,
-    };
+    let opened = d.reopened();
     let from = Physical(alpha.0 + 1);
     let to = Physical(beta.0 + 1);
     copy::copy_blocks(card, from, to, cost - 1);

@@ -2,21 +2,18 @@
 use mathlib.Core.Path.{_≡_}
 use lib.ListN.{length}
 use borrow.Author.Needs.{needs}
-use Rattle.regions.proofs.OpenedLaws.{region-opened, reopened-by}
+use Rattle.regions.proofs.OpenedLaws.{region-opened}
 use Rattle.regions.proofs.region.open_region.Statement.{statement}
 use Rattle.regions.proofs.region.open_region.Tie as tie
 
-opening-cost-requires : tie.Need-opening-cost-requires
-opening-cost-requires c κs = search needs
-
-add-t13 : tie.Need-add-t13
-add-t13 c = search needs
+reopened-requires : tie.Need-reopened-requires
+reopened-requires c κs = search needs
 
 add-copy-blocks : tie.Need-add-copy-blocks
 add-copy-blocks c = search needs
 
-add-t13-2 : tie.Need-add-t13-2
-add-t13-2 c = search needs
+add-copy-blocks-2 : tie.Need-add-copy-blocks-2
+add-copy-blocks-2 c = search needs
 
 sub-copy-blocks : tie.Need-sub-copy-blocks
 sub-copy-blocks c = search needs
@@ -37,20 +34,9 @@ returns : tie.Need-returns
 returns c =
     let t = c .before .before in
     let k = t .before .before .before .before in
-    let e = k .before .before .before .before .before .before .before in
+    let e = k .before .before .before .before in
     let s = e .before .before .before .before in
-    region-opened _ _ (s .args .d) _ (s .pre .4) (s .pre .1) (s .pre .2) (k .copy-blocks .ensures) _ _ (name-long s) (s .pre .0) (reopened-by (s .args .d) _ (e .opening-cost .ensures)) (t .store-descriptor-upto .ensures)
+    region-opened _ _ (s .args .d) _ (s .pre .4) (s .pre .1) (s .pre .2) (k .copy-blocks .ensures) _ _ (name-long s) (s .pre .0) (e .reopened .ensures) (t .store-descriptor-upto .ensures)
 
 pub open-region-spec : {M : Type 1} → statement M
-open-region-spec =
-    tie.close
-    (tie.spec
-    opening-cost-requires
-    add-t13
-    add-copy-blocks
-    add-t13-2
-    sub-copy-blocks
-    copy-blocks-requires
-    store-descriptor-upto-requires
-    same-length
-    returns)
+open-region-spec = tie.close (tie.spec reopened-requires add-copy-blocks add-copy-blocks-2 sub-copy-blocks copy-blocks-requires store-descriptor-upto-requires same-length returns)

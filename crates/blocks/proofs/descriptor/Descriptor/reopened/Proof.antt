@@ -6,11 +6,11 @@ use Rattle.blocks.proofs.descriptor.Descriptor.reopened.Tie as tie
 opening-cost-requires : tie.Need-opening-cost-requires
 opening-cost-requires c κs = search needs
 
-add-t6 : tie.Need-add-t6
-add-t6 c = search needs
+add-t7 : tie.Need-add-t7
+add-t7 c = search needs
 
 returns : tie.Need-returns
 returns c = cc
 
 pub reopened-spec : {M : Type 1} → statement M
-reopened-spec = tie.close (tie.spec opening-cost-requires add-t6 returns)
+reopened-spec = tie.close (tie.spec opening-cost-requires add-t7 returns)
