@@ -10,9 +10,8 @@ use lib.Seq.{take-suc, take-length}
 use Rattle.blocks.specs.Pick.{pick}
 use Rattle.blocks.specs.Bytes.{le32, splice}
 use Rattle.blocks.specs.Descriptor.{noDescriptor, descriptorAt}
-use Rattle.chains.specs.Chain.{chain, startsOf, regionsOf}
+use Rattle.chains.specs.Chain.{startsOf}
 use Rattle.blocks.specs.declared.descriptor.Descriptor.{Descriptor}
-use Rattle.chains.specs.declared.chain.Regions.{Regions}
 use Rattle.blocks.proofs.ByteLaws.{put-next, splice-join, splice-start, length-le32, length-part}
 use Rattle.calls.specs.declared.answer.Record.{Record}
 use Rattle.calls.specs.declared.list.Filling.{Filling}
@@ -21,9 +20,9 @@ use Rattle.calls.specs.Parts.{descriptorsOf}
 use Rattle.calls.specs.Meaning.{answerOf}
 use Rattle.calls.specs.Effect.{noRecord, recordOf, listed}
 use Rattle.calls.specs.Step.{isAccepted}
-use Rattle.calls.specs.Listing.{fillingOf, fillingBy, recordBy}
+use Rattle.calls.specs.Listing.{fillingOf, fillingBy, recordBy, ListReady}
 use Rattle.calls.proofs.StepLaws.{step-answer}
-use Rattle.calls.proofs.ListingLaws.{filling-told, list-room, list-inside, list-record, ready-by, regions-some, walk-starts}
+use Rattle.calls.proofs.ListingLaws.{listing-told, starts-listed, list-room, list-inside, list-record, ready-by}
 use Rattle.boundary.specs.RecordBytes.{recordBytes, recordsBytes, roomIn, listingOf, filledBytesTo, filledBytes}
 
 pub record-length : (r : Record) → length (r .name) ≡ 16 → length (recordBytes r) ≡ 28
@@ -117,21 +116,20 @@ listing-by c starts b true e is =
     rw (step-answer (Listing (roomIn b)) c, e, is refl, bytes-listed c (startsOf (descriptorsOf c)) (descriptorsOf c) (list-record c (roomIn b) e) (list-inside c (roomIn b) e) b fits)
 listing-by c starts b false e is = rw (step-answer (Listing (roomIn b)) c, e, ← (bytes-all c starts b 0 0 b (bytes-none c starts b 0) (omega arith) (omega arith)))
 
-module _ (c b : List ℕ) (r : Regions) (walked : r ≡ regionsOf (chain c)) (f : Filling) (by : f ≡ fillingBy c (r .sound) (r .place .0) (r .count) (length b / 28)) where
+module _ (c : List ℕ) (sound : Bool) (place count : ℕ) (starts : List ℕ) (ready : ListReady c sound place count starts) (b : List ℕ) (f : Filling) (by : f ≡ fillingBy c sound place count (length b / 28)) where
   told : f ≡ fillingOf c (roomIn b)
-  told = filling-told c (roomIn b) r walked (length b / 28) (room-size b) f by
+  told = listing-told c sound place count starts ready (roomIn b) (length b / 28) (room-size b) f by
 
-  starts-are : isAccepted (answerOf (Listing (roomIn b)) c) ≡ true → r .starts ≡ startsOf (descriptorsOf c)
-  starts-are ok = ap (λ (x : Regions). x .starts) walked ∙ walk-starts c (roomIn b) ok
+  starts-are : isAccepted (answerOf (Listing (roomIn b)) c) ≡ true → starts ≡ startsOf (descriptorsOf c)
+  starts-are = starts-listed c sound place count starts ready (roomIn b) (length b / 28) (room-size b) f by
 
   -- what is planned to be filled is there
-  pub filling-fits : (28 * f .count ≤ length b) × (f .count < length (r .starts)) × ((j : ℕ) → j < f .count → 512 * getD (r .starts) j 0 + 512 ≤ length c)
+  pub filling-fits : (28 * f .count ≤ length b) × (f .count < length starts) × ((j : ℕ) → j < f .count → 512 * getD starts j 0 + 512 ≤ length c)
   unfolding fillingOf
   filling-fits =
-      let some : 0 < length (r .starts) = rw walked (regions-some (chain c)) in
-      let ready = ready-by c (r .starts) (roomIn b) (isAccepted (answerOf (Listing (roomIn b)) c)) refl starts-are some in
-      rw told (omega (arith, ready .0, room-size b), ready .1, ready .2)
+      let there = ready-by c starts (roomIn b) (isAccepted (answerOf (Listing (roomIn b)) c)) refl starts-are (omega (arith, ready .long)) in
+      rw told (omega (arith, there .0, room-size b), there .1, there .2)
 
-  pub listing-done : (b′ : List ℕ) → b′ ≡ filledBytes c (r .starts) b (f .count) → record { answer = answer (f .answer .number) (f .answer .place); bytes = b′ } ≡ listingOf c b
+  pub listing-done : (b′ : List ℕ) → b′ ≡ filledBytes c starts b (f .count) → record { answer = f .answer; bytes = b′ } ≡ listingOf c b
   unfolding fillingOf
-  listing-done b′ e = rw (e, told) (listing-by c (r .starts) b (isAccepted (answerOf (Listing (roomIn b)) c)) refl starts-are)
+  listing-done b′ e = rw (e, told) (listing-by c starts b (isAccepted (answerOf (Listing (roomIn b)) c)) refl starts-are)

@@ -1,13 +1,16 @@
 // Records as bytes: sixteen of the name, then alpha, beta and next, each of 32 bits, lowest byte first.
 use blocks::bytes;
 use blocks::descriptor;
+use blocks::numbers::Physical;
+use calls::answer::Answer;
 use calls::answer::Record;
 use listing::list;
 ghost use mathlib.Core.Path.{_≡_};
 ghost use Prim.Native.Nat.{ℕ, _+_, _*_, _≤_, _<_};
 ghost use lib.ListN.{length, getD};
 ghost use Rattle.blocks.specs.Bytes.{blockSize, splice};
-ghost use Rattle.boundary.specs.RecordBytes.{recordSize, recordBytes, filledBytes};
+ghost use Rattle.calls.specs.Listing.{ListReady};
+ghost use Rattle.boundary.specs.RecordBytes.{recordSize, recordBytes, filledBytes, listingOf};
 
 // Bytes of a record.
 pub const RECORD_SIZE: usize = 28;
@@ -35,4 +38,22 @@ pub fn fill_bytes(card: &[u8], starts: &[u32], area: &mut [u8], n: usize)
         put_record_bytes(area, RECORD_SIZE * i, r);
         i += 1;
     }
+}
+
+// Lists into bytes by what the walk found: the tests, then the records of a listing that passes them.
+pub fn list_bytes(
+    card: &[u8],
+    starts: &[u32],
+    sound: bool,
+    place: Physical,
+    count: usize,
+    area: &mut [u8],
+) -> Answer
+    requires { ⌜ ListReady (now card) sound (place .0) count (now starts) ⌝ }
+    ensures { λ r. ⌜ record { answer = r; bytes = now (area .exit) } ≡ listingOf (now (card .entry)) (now (area .entry)) ⌝ }
+{
+    let room = area.len() / RECORD_SIZE;
+    let f = list::plan_filling(card, sound, place, count, room);
+    fill_bytes(card, starts, area, f.count);
+    f.answer
 }

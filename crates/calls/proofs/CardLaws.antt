@@ -7,18 +7,18 @@ use native.Mathlib.Omega.{arith}
 use lib.ListN.{length, take, getD}
 use lib.Seq.{length-take-le, getD-take, take-length}
 use lib.Dec.{eqb, ltb}
-use borrow.Author.Tests.{eqb-true, ltb-false}
+use borrow.Author.Tests.{eqb-true, ltb-false, not-false}
 use Rattle.blocks.specs.Bytes.{blockCount}
 use Rattle.blocks.specs.Descriptor.{physical, noDescriptor, descriptorAt}
-use Rattle.chains.specs.Chain.{Chain, Unsound, Sound, chain, chainSound, chainPlace, descriptors, descriptorsAt, startsOf, regionsOf, activeOf}
+use Rattle.chains.specs.Chain.{Chain, Unsound, Sound, chain, chainSound, chainPlace, descriptors, descriptorsAt, startsOf, Regions, regionsOf, walkOf, activeOf}
 use Rattle.blocks.specs.declared.descriptor.Descriptor.{Descriptor}
-use Rattle.chains.specs.declared.chain.Regions.{Regions}
-use Rattle.links.proofs.LinkedLaws.{Linked, chain-linked, regions-sound, starts-take, linked-some, chain-few, at-alpha, active-at}
+use Rattle.chains.specs.declared.chain.Walk.{Walk}
+use Rattle.links.proofs.LinkedLaws.{Linked, chain-linked, regions-sound, walk-regions, starts-take, linked-some, chain-few, at-alpha, active-at}
 use Rattle.entries.specs.Through.{Through}
 use Rattle.entries.proofs.RegionLaws.{through-at, through-rising}
 use Rattle.entries.proofs.EntryLaws.{through-alpha}
-use Rattle.calls.specs.Parts.{areaBad, snapshotsOf}
-use Rattle.links.proofs.ChainLaws.{active-snoc}
+use Rattle.calls.specs.Parts.{areaBad, snapshotsOf, SoundCard}
+use Rattle.links.proofs.ChainLaws.{active-snoc, length-ends}
 
 -- all but the last of a list
 pub snapshots-take : (d : Descriptor) (ds : List Descriptor) → snapshotsOf (d ∷ ds) ≡ take (length ds) (d ∷ ds)
@@ -31,13 +31,38 @@ snapshots-at [] h = absurd (omega arith)
 snapshots-at (d ∷ ds) h = let e : suc (length ds) - 1 ≡ length ds = omega arith in snapshots-take d ds ∙ rw e
 
 -- a fault on the chain
-regions-fault : (ch : Chain) (r : Regions) → r ≡ regionsOf ch → r .sound ≡ false → (chainSound ch ≡ false) × (chainPlace ch ≡ r .place .0)
-unfolding regionsOf chainSound chainPlace
-regions-fault (Unsound p) r e h = (refl, sym (ap (λ (x : Regions). x .place .0) e))
-regions-fault (Sound ds) r e h =
-    let f : false ≡ true = sym h ∙ ap (λ (x : Regions). x .sound) e in
+walk-fault : (ch : Chain) (r : Walk) → r ≡ walkOf ch → r .sound ≡ false → (chainSound ch ≡ false) × (chainPlace ch ≡ r .place .0)
+unfolding walkOf regionsOf chainSound chainPlace
+walk-fault (Unsound p) r e h = (refl, sym (ap (λ (x : Walk). x .place .0) e))
+walk-fault (Sound ds) r e h =
+    let f : false ≡ true = sym h ∙ ap (λ (x : Walk). x .sound) e in
     let z : _≡_ {A = ℕ} 0 1 = cc in
     absurd (omega arith)
+
+pub walk-whole : (ch : Chain) (r : Walk) → r ≡ walkOf ch → r .sound ≡ true → (chainSound ch ≡ true) × (r .count ≡ length (descriptors ch))
+unfolding walkOf regionsOf chainSound descriptors
+walk-whole (Sound ds) r e h = (refl, ap (λ (x : Walk). x .count) e)
+walk-whole (Unsound p) r e h =
+    let f : false ≡ true = sym (ap (λ (x : Walk). x .sound) e) ∙ h in
+    let z : _≡_ {A = ℕ} 0 1 = cc in
+    absurd (omega arith)
+
+few-by : (c : List ℕ) (ch : Chain) (w : Walk) → w ≡ walkOf ch → ((ds : List Descriptor) → ch ≡ Sound ds → length ds ≤ 256) → w .count ≤ 256
+unfolding walkOf regionsOf
+few-by c (Unsound p) w e few = omega (arith, ap (λ (x : Walk). x .count) e)
+few-by c (Sound ds) w e few = omega (arith, ap (λ (x : Walk). x .count) e, few ds refl)
+
+pub walk-few : (c : List ℕ) (w : Walk) → w ≡ walkOf (chain c) → w .count ≤ 256
+walk-few c w walked = few-by c (chain c) w walked (chain-few c)
+
+pub walk-long : (ch : Chain) (w : Walk) → w ≡ walkOf ch → not (w .sound) ≡ false → (starts : List ℕ) → starts ≡ startsOf (descriptors ch) → w .count + 1 ≡ length starts
+unfolding startsOf
+walk-long ch w walked h starts e = omega (arith, ap length e, length-ends (descriptors ch), walk-whole ch w walked (not-false (w .sound) h) .1)
+
+pub walk-accords : (ch : Chain) (r : Walk) → r ≡ walkOf ch → chainSound ch ≡ true → r .sound ≡ true
+unfolding walkOf regionsOf chainSound
+walk-accords (Sound ds) r e h = ap (λ (x : Walk). x .sound) e
+walk-accords (Unsound p) r e h = ap (λ (x : Walk). x .sound) e ∙ h
 
 pub regions-whole : (ch : Chain) (r : Regions) → r ≡ regionsOf ch → r .sound ≡ true
     → (chainSound ch ≡ true) × (regionsOf ch ≡ record { sound = true; place = physical 0; active = r .active; count = r .count; starts = r .starts })
@@ -73,10 +98,14 @@ module _ (c : List ℕ) (area : areaBad c ≡ false) where
   pub card-small : length c ≤ 33554432
   card-small = omega (arith, card-even, card-most)
 
-module _ (c : List ℕ) (r : Regions) (is : r ≡ regionsOf (chain c)) where
-  pub card-fault : r .sound ≡ false → (chainSound (chain c) ≡ false) × (chainPlace (chain c) ≡ r .place .0)
-  card-fault h = regions-fault (chain c) r is h
+pub card-fault : (c : List ℕ) (w : Walk) → w ≡ walkOf (chain c) → w .sound ≡ false → (chainSound (chain c) ≡ false) × (chainPlace (chain c) ≡ w .place .0)
+card-fault c w walked h = walk-fault (chain c) w walked h
 
+-- what the code of a call knows past the walk
+pub walked-card : (c : List ℕ) → areaBad c ≡ false → (w : Walk) → w ≡ walkOf (chain c) → not (w .sound) ≡ false → (starts : List ℕ) → starts ≡ startsOf (descriptors (chain c)) → SoundCard c (w .count) starts
+walked-card c area w walked h starts e = record { area = area; regions = walk-regions (chain c) w walked (not-false (w .sound) h) starts e }
+
+module _ (c : List ℕ) (r : Regions) (is : r ≡ regionsOf (chain c)) where
   pub card-sound : r .sound ≡ true → chainSound (chain c) ≡ true
   card-sound h = regions-whole (chain c) r is h .0
 
@@ -121,9 +150,6 @@ module _ (c : List ℕ) (r : Regions) (is : r ≡ regionsOf (chain c)) where
     -- the active descriptor is the last, the snapshots are those before it
     pub card-found : r .active ≡ activeOf ds
     card-found = regions-are .3
-
-    pub card-whole : regionsOf (chain c) ≡ record { sound = true; place = physical 0; active = r .active; count = r .count; starts = r .starts }
-    card-whole = regions-whole (chain c) r is ok .1
 
     pub card-active : r .active ≡ descriptorAt c (getD (r .starts) (r .count - 1) 0)
     card-active =

@@ -9,10 +9,10 @@ use lib.ListN.{length, drop, getD, drop-of-length-le}
 use lib.Seq.{drop-cons}
 use Rattle.blocks.specs.Pick.{pick}
 use Rattle.blocks.specs.Descriptor.{physical, noDescriptor, costOf, descriptorAt}
-use Rattle.chains.specs.Chain.{chain, descriptors, regionsOf}
+use Rattle.chains.specs.Chain.{chain, descriptors, Regions, regionsOf, walkOf, activeOf}
 use Rattle.blocks.specs.declared.numbers.Physical.{Physical}
 use Rattle.blocks.specs.declared.descriptor.Descriptor.{Descriptor}
-use Rattle.chains.specs.declared.chain.Regions.{Regions}
+use Rattle.chains.specs.declared.chain.Walk.{Walk}
 use Rattle.entries.specs.Through.{Through}
 use Rattle.entries.specs.Naming.{namings, checkOne}
 use Rattle.entries.specs.declared.check.Verdict.{Verdict}
@@ -21,12 +21,12 @@ use Rattle.entries.specs.Marks.{openingsFlagged, nextTurn, nextFlags, Marks, Ta
 use Rattle.entries.proofs.CheckLaws.{taking-length}
 use Rattle.entries.proofs.OpeningLaws.{openings-length, turn-length, openings-ask, openings-marked, turn-marked, one-verdict, one-marked}
 use Rattle.calls.specs.Call.{Check, answer, accepted}
-use Rattle.calls.specs.Parts.{areaBad}
+use Rattle.calls.specs.Parts.{areaBad, SoundCard}
 use Rattle.calls.specs.Check.{orElse, checkAll, checkCard, isFault, faultHolder, takingChain}
 use Rattle.calls.specs.Ladder.{admission, firstRow, checkRows}
 use Rattle.calls.specs.Meaning.{rowsOf, answerOf}
 use Rattle.calls.proofs.CardLaws.{card-few, card-some, card-count, card-at, card-active, card-through}
-use Rattle.calls.proofs.RowLaws.{admitted, row-given, last-passed, admitted, chain-given, Reached, reached}
+use Rattle.calls.proofs.RowLaws.{admitted, row-given, last-passed, chain-given, Reached, reached, card-admitted}
 use Rattle.calls.specs.declared.answer.Answer.{Answer}
 
 -- the walk over a descriptor and those after it: its verdict is the definition's where that is so of both parts
@@ -118,14 +118,14 @@ module _ (c starts : List ℕ) (count : ℕ) (active : Descriptor) (area : areaB
       )
 
 -- the rows of a check that follow admission, in the order of the code
-module _ (c : List ℕ) (a : Answer) (asked : a ≡ firstRow (admission c)) (card : a .number ≡ 0) (r : Regions) (walked : r ≡ regionsOf (chain c)) where
-  pub check-6 : not (r .sound) ≡ true → answerOf Check c ≡ answer 6 (r .place .0)
-  unfolding answerOf rowsOf checkRows
-  check-6 h = admitted c a asked _ card ∙ chain-given _ c r walked h
+pub check-6 : (c : List ℕ) (a : Answer) → a ≡ firstRow (admission c) → a .number ≡ 0 → (w : Walk) → w ≡ walkOf (chain c) → not (w .sound) ≡ true → answerOf Check c ≡ answer 6 (w .place .0)
+unfolding answerOf rowsOf checkRows
+check-6 c a asked card w walked h = admitted c a asked _ card ∙ chain-given _ c w walked h
 
-  pub check-reached : not (r .sound) ≡ false → Reached Check c (drop 1 (checkRows c)) r
-  unfolding answerOf rowsOf checkRows
-  check-reached whole = reached Check c _ a asked card r walked whole (admitted c a asked _ card)
+pub check-reached : (c : List ℕ) (count : ℕ) (starts : List ℕ) → SoundCard c count starts
+    → Reached Check c (drop 1 (checkRows c)) (record { sound = true; place = physical 0; active = activeOf (descriptors (chain c)); count = count; starts = starts })
+unfolding answerOf rowsOf checkRows
+check-reached c count starts s = reached Check c _ count starts s (card-admitted c (s .area) _)
 
 module _ (c : List ℕ) (r : Regions) (h : Reached Check c (drop 1 (checkRows c)) r) (v : Verdict) (verdict : v ≡ checkCard c) where
   pub check-0 : v ≡ Passed → answerOf Check c ≡ accepted

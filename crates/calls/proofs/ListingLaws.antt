@@ -5,16 +5,16 @@ use mathlib.Core.List.{List, [], _∷_, _++_}
 use Prim.Native.Nat.{ℕ, zero, suc, _+_, _*_, _≤_, _<_}
 use native.Mathlib.Numerals.{add-one}
 use native.Mathlib.Omega.{arith}
-use lib.ListN.{length, take, drop, getD, set, length-set, length-replicate}
-use lib.Seq.{drop-cons, drop-length, take-suc, take-length, length-take-le}
+use lib.ListN.{length, take, drop, getD, set, length-set, length-take}
+use lib.Seq.{drop-cons, drop-length, take-suc, take-length, length-take-le, getD-take}
 use lib.Dec.{ltb}
 use borrow.Author.Tests.{lt-ltb, le-ltb, not-true, not-false, eq-eqb, ne-eqb, eqb-true, eqb-false}
 use Rattle.blocks.specs.Pick.{pick}
 use Rattle.blocks.specs.Bytes.{storeAll}
 use Rattle.blocks.specs.Descriptor.{physical, noDescriptor}
-use Rattle.chains.specs.Chain.{activeOf, Chain, Sound, Unsound, chain, startsOf, regionsOf}
+use Rattle.chains.specs.Chain.{activeOf, chain, startsOf, regionsOf, walkOf}
 use Rattle.blocks.specs.declared.descriptor.Descriptor.{Descriptor}
-use Rattle.chains.specs.declared.chain.Regions.{Regions}
+use Rattle.chains.specs.declared.chain.Walk.{Walk}
 use Rattle.links.proofs.LinkedLaws.{Linked, last, more, chain-linked, starts-long, region-of, found-inside, found-descriptor}
 use Rattle.calls.specs.declared.answer.Answer.{Answer}
 use Rattle.calls.specs.declared.answer.Record.{Record}
@@ -26,14 +26,14 @@ use Rattle.calls.specs.Ladder.{admission, firstRow, listRows}
 use Rattle.calls.specs.Effect.{recordOf, listed}
 use Rattle.calls.specs.Meaning.{rowsOf, answerOf, storesOf, lentOf, filledOf, givenOf}
 use Rattle.calls.specs.Step.{Done, step, isAccepted, done}
-use Rattle.calls.specs.Listing.{fillingWith, fillingOf, fillingBy, planOf, recordBy, filledTo, filled, recordCount}
-use Rattle.calls.proofs.CardLaws.{card-count, chain-is}
+use Rattle.calls.specs.Listing.{fillingWith, fillingOf, fillingBy, recordBy, filledTo, filled, recordCount, PlanFor, ListReady}
+use Rattle.calls.proofs.CardLaws.{walk-whole, walk-accords, chain-is}
 use Rattle.calls.proofs.Passed.{list-passed}
 use Rattle.calls.proofs.StepLaws.{step-answer, step-lent}
-use Rattle.calls.proofs.RowLaws.{row-given, last-passed, not-admitted, admitted, admitted-card, chain-given, chain-passed}
+use Rattle.calls.proofs.RowLaws.{row-given, last-passed, not-admitted, admitted, chain-given, chain-passed}
 
 -- what a listing answers and fills, by its tests
-module _ (c : List ℕ) (records : List Record) (r : Regions) (walked : r ≡ regionsOf (chain c)) (room : ℕ) (long : length records ≡ room) where
+module _ (c : List ℕ) (records : List Record) (r : Walk) (walked : r ≡ walkOf (chain c)) (room : ℕ) (long : length records ≡ room) where
   abbrev a : Answer
   a = firstRow (admission c)
 
@@ -44,11 +44,11 @@ module _ (c : List ℕ) (records : List Record) (r : Regions) (walked : r ≡ re
 
     module _ (whole : r .sound ≡ true) where
       count-is : length (descriptorsOf c) ≡ r .count
-      count-is = sym (card-count c r walked (admitted-card c a refl card) whole)
+      count-is = sym (walk-whole (chain c) r walked whole .1)
 
       to-room : answerOf (Listing records) c ≡ firstRow (drop 1 (listRows c records))
       unfolding answerOf rowsOf listRows
-      to-room = admitted c a refl _ card ∙ chain-passed _ c r walked (rw whole)
+      to-room = admitted c a refl _ card ∙ chain-passed _ c (walk-whole (chain c) r walked whole .0)
 
       filling-room : (t : Bool) → ltb room (r .count) ≡ t → pick t (fillingWith 14 0 0) (fillingWith 0 0 (r .count)) ≡ fillingOf c records
       unfolding fillingOf listRows
@@ -71,11 +71,6 @@ module _ (c : List ℕ) (records : List Record) (r : Regions) (walked : r ≡ re
   pub filling-told : (f : Filling) → f ≡ fillingBy c (r .sound) (r .place .0) (r .count) room → f ≡ fillingOf c records
   unfolding fillingBy
   filling-told f e = e ∙ filling-by (isAccepted a) refl
-
-  -- the plan of a listing
-  pub plan-told : (f : Filling) → f ≡ fillingBy c (r .sound) (r .place .0) (r .count) room → record { answer = f .answer; count = f .count; starts = r .starts } ≡ planOf c records
-  unfolding planOf
-  plan-told f e = rw (← walked, ← (filling-told f e))
 
 -- the tests of the code
 module _ (c : List ℕ) (sound : Bool) (place count room : ℕ) (a : Answer) (asked : a ≡ firstRow (admission c)) where
@@ -172,20 +167,6 @@ pub ready-by : (c starts : List ℕ) (records : List Record) (t : Bool) → isAc
 ready-by c starts records true e is some = rw (is refl) (list-room c records e, starts-long (descriptorsOf c), list-inside c records e)
 ready-by c starts records false e is some = (omega arith, some, λ j h. absurd (omega arith))
 
--- the starts that the walk found: there are some, and where a listing is accepted they are those of the chain
-pub regions-some : (k : Chain) → 0 < length (regionsOf k .starts)
-unfolding regionsOf
-regions-some (Unsound p) = omega (arith, length-replicate {A = ℕ} 257 0)
-regions-some (Sound ds) = omega (arith, starts-long ds)
-
-module _ (c : List ℕ) (records : List Record) where
-  pub walk-starts : isAccepted (answerOf (Listing records) c) ≡ true → regionsOf (chain c) .starts ≡ startsOf (descriptorsOf c)
-  walk-starts ok = ap (λ (r : Regions). r .starts) (list-whole c records ok)
-
-  pub plan-ready : (r : Plan) → r ≡ planOf c records → Ready c (r .starts) records (r .count)
-  unfolding planOf fillingOf
-  plan-ready r e = rw e (ready-by c (regionsOf (chain c) .starts) records (isAccepted (answerOf (Listing records) c)) refl walk-starts (regions-some (chain c)))
-
 -- a listing as planned and filled is that of the definition
 step-by : (c starts : List ℕ) (records : List Record) (t : Bool) → isAccepted (answerOf (Listing records) c) ≡ t → (t ≡ true → starts ≡ startsOf (descriptorsOf c))
     → done (answerOf (Listing records) c) (Records (filled c starts records (pick t (length (descriptorsOf c)) 0))) c ≡ step (Listing records) c
@@ -193,9 +174,79 @@ unfolding step storesOf storeAll lentOf filledOf givenOf
 step-by c starts records true e is = rw (e, is refl, filled-listed c (startsOf (descriptorsOf c)) (descriptorsOf c) (list-record c records e) records (list-room c records e))
 step-by c starts records false e is = rw (e, ← (filled-all c starts records 0 0 refl), filled-none c starts records 0)
 
-pub plan-done : (c : List ℕ) (records l : List Record) (r : Plan) → r ≡ planOf c records → l ≡ filled c (r .starts) records (r .count) → done (r .answer) (Records l) c ≡ step (Listing records) c
-unfolding planOf fillingOf
-plan-done c records l r e f = rw (f, e) (step-by c (regionsOf (chain c) .starts) records (isAccepted (answerOf (Listing records) c)) refl (walk-starts c records))
+-- by what the code knows after the walk
+module _ (c : List ℕ) (sound : Bool) (place count : ℕ) (starts : List ℕ) (ready : ListReady c sound place count starts) (records : List Record) (room : ℕ) (long : length records ≡ room) (f : Filling)
+    (planned : f ≡ fillingBy c sound place count room) where
+  pub listing-told : f ≡ fillingOf c records
+  listing-told = filling-told c records (walkOf (chain c)) refl room long f (planned ∙ rw (ready .sound-is, ready .place-is, ready .count-is))
+
+  pub starts-listed : isAccepted (answerOf (Listing records) c) ≡ true → starts ≡ startsOf (descriptorsOf c)
+  starts-listed ok = ready .starts-are (ready .sound-is ∙ walk-accords (chain c) (walkOf (chain c)) refl (list-passed c records ok .sound))
+
+-- a plan, of which the first places alone are the starts
+fill-prefix : (c xs ys : List ℕ) (records : List Record) (n i : ℕ) → i ≤ n → take (n + 1) xs ≡ ys → filledTo c xs records n i ≡ filledTo c ys records n i
+unfolding filledTo recordBy
+fill-prefix c xs ys records n zero h e = refl
+fill-prefix c xs ys records n (suc i) h e =
+    let one : getD xs i 0 ≡ getD ys i 0 = sym (getD-take (n + 1) xs i 0 (omega arith)) ∙ ap (λ (l : List ℕ). getD l i 0) e in
+    let two : getD xs (i + 1) 0 ≡ getD ys (i + 1) 0 = sym (getD-take (n + 1) xs (i + 1) 0 (omega arith)) ∙ ap (λ (l : List ℕ). getD l (i + 1) 0) e in
+    rw (fill-prefix c xs ys records n i (omega arith) e, one, two)
+
+module _ (c : List ℕ) (records : List Record) (r : Plan) (for : PlanFor c records r) where
+  accepted-is : isAccepted (answerOf (Listing records) c) ≡ isAccepted (r .answer)
+  unfolding fillingOf
+  accepted-is = ap (λ (f : Filling). isAccepted (f .answer)) (sym (for .filling))
+
+  planned-starts : isAccepted (answerOf (Listing records) c) ≡ true → take (length (descriptorsOf c) + 1) (r .starts) ≡ startsOf (descriptorsOf c)
+  unfolding fillingOf
+  planned-starts ok =
+      let n : r .count ≡ length (descriptorsOf c) = ap (λ (f : Filling). f .count) (for .filling) ∙ rw ok in
+      ap (λ (x : ℕ). take (x + 1) (r .starts)) (sym n) ∙ for .starts-are (sym accepted-is ∙ ok)
+
+  planned-by : (t : Bool) → isAccepted (answerOf (Listing records) c) ≡ t → Ready c (r .starts) records (pick t (length (descriptorsOf c)) 0)
+  planned-by true e =
+      let are = planned-starts e in
+      let long = starts-long (descriptorsOf c) in
+      (list-room c records e, omega (arith, ap length are, long, length-take (length (descriptorsOf c) + 1) (r .starts)), λ j h. rw (sym (getD-take (length (descriptorsOf c) + 1) (r .starts) j 0 (omega arith)) ∙ ap (λ (l : List ℕ). getD l j 0) are) (list-inside c records e j h))
+  planned-by false e = (omega arith, for .some, λ j h. absurd (omega arith))
+
+  pub plan-ready : Ready c (r .starts) records (r .count)
+  unfolding fillingOf
+  plan-ready = let n : r .count ≡ pick (isAccepted (answerOf (Listing records) c)) (length (descriptorsOf c)) 0 = ap (λ (f : Filling). f .count) (for .filling) in rw n (planned-by (isAccepted (answerOf (Listing records) c)) refl)
+
+  done-by : (t : Bool) → isAccepted (answerOf (Listing records) c) ≡ t → done (answerOf (Listing records) c) (Records (filled c (r .starts) records (pick t (length (descriptorsOf c)) 0))) c ≡ step (Listing records) c
+  unfolding filled filledTo
+  done-by true e = rw (fill-prefix c (r .starts) (startsOf (descriptorsOf c)) records (length (descriptorsOf c)) (length (descriptorsOf c)) (omega arith) (planned-starts e)) (step-by c (startsOf (descriptorsOf c)) records true e (λ t. refl))
+  done-by false e = step-by c (r .starts) records false e (λ t. let z : _≡_ {A = ℕ} 0 1 = cc in absurd (omega arith))
+
+  pub plan-done : (l : List Record) → l ≡ filled c (r .starts) records (r .count) → done (r .answer) (Records l) c ≡ step (Listing records) c
+  unfolding fillingOf
+  plan-done l e =
+      let a : r .answer ≡ answerOf (Listing records) c = ap (λ (f : Filling). f .answer) (for .filling) in
+      let n : r .count ≡ pick (isAccepted (answerOf (Listing records) c)) (length (descriptorsOf c)) 0 = ap (λ (f : Filling). f .count) (for .filling) in
+      rw (e, n, a) (done-by (isAccepted (answerOf (Listing records) c)) refl)
+
+-- what the code knows after the walk
+pub walked-listed : (c : List ℕ) (w : Walk) → w ≡ walkOf (chain c) → (starts : List ℕ) → (w .sound ≡ true → starts ≡ startsOf (descriptorsOf c)) → length starts ≡ w .count + 1
+    → ListReady c (w .sound) (w .place .0) (w .count) starts
+walked-listed c w walked starts are long = record { sound-is = rw walked; place-is = rw walked; count-is = rw walked; starts-are = are; long = omega arith }
+
+-- the plan that the code makes
+pub plan-for : (c : List ℕ) (sound : Bool) (place count : ℕ) (starts : List ℕ) → ListReady c sound place count (take (count + 1) starts) → (records : List Record) (room : ℕ) → length records ≡ room → (f : Filling)
+    → f ≡ fillingBy c sound place count room → 0 < length starts → PlanFor c records (record { answer = f .answer; count = f .count; starts = starts })
+unfolding fillingOf
+plan-for c sound place count starts ready records room long f planned some = record { filling = told; starts-are = λ ok. are ok; some = some }
+  where
+    told : f ≡ fillingOf c records
+    told = listing-told c sound place count (take (count + 1) starts) ready records room long f planned
+
+    are : isAccepted (f .answer) ≡ true → take (f .count + 1) starts ≡ startsOf (descriptorsOf c)
+    are ok =
+        let yes : isAccepted (answerOf (Listing records) c) ≡ true = sym (ap (λ (x : Filling). isAccepted (x .answer)) told) ∙ ok in
+        let n : f .count ≡ length (descriptorsOf c) = ap (λ (x : Filling). x .count) told ∙ rw yes in
+        let whole : walkOf (chain c) .sound ≡ true = walk-accords (chain c) (walkOf (chain c)) refl (list-passed c records yes .sound) in
+        let m : count ≡ length (descriptorsOf c) = ready .count-is ∙ walk-whole (chain c) (walkOf (chain c)) refl whole .1 in
+        ap (λ (x : ℕ). take (x + 1) starts) (n ∙ sym m) ∙ ready .starts-are (ready .sound-is ∙ whole)
 
 -- counting the records that a listing has filled: i of them, and those after
 unfoldable pub countFrom : List Record → ℕ → ℕ

@@ -10,11 +10,11 @@ use borrow.Author.Tests.{eq-eqb, ne-eqb, lt-ltb, le-ltb, eqb-true, eqb-false}
 use Rattle.blocks.specs.Pick.{pick}
 use Rattle.blocks.specs.Bytes.{blockCount, blockAt, zeroBlock, splice, storeAll}
 use Rattle.blocks.specs.Name.{isName, noName}
-use Rattle.blocks.specs.Descriptor.{descriptorAt, noDescriptor}
-use Rattle.chains.specs.Chain.{chain, descriptors, named, descriptorsAt, regionsOf, indexOf}
+use Rattle.blocks.specs.Descriptor.{physical, descriptorAt, noDescriptor}
+use Rattle.chains.specs.Chain.{chain, descriptors, named, descriptorsAt, Regions, regionsOf, walkOf, indexOf, activeOf}
 use Rattle.blocks.specs.declared.numbers.Physical.{Physical}
 use Rattle.blocks.specs.declared.descriptor.Descriptor.{Descriptor}
-use Rattle.chains.specs.declared.chain.Regions.{Regions}
+use Rattle.chains.specs.declared.chain.Walk.{Walk}
 use Rattle.blocks.proofs.ByteLaws.{splice-whole}
 use Rattle.chains.proofs.NamedLaws.{index-le}
 use Rattle.links.proofs.ChainLaws.{region-volume}
@@ -28,14 +28,14 @@ use Rattle.calls.specs.declared.answer.Target.{Target}
 use Rattle.calls.specs.declared.answer.Target.the-variants.{Active, Snapshot}
 use Rattle.calls.specs.declared.answer.Visited.{Visited}
 use Rattle.calls.specs.Call.{Call, Read, Visit, Block, answer, accepted}
-use Rattle.calls.specs.Parts.{areaBad, snapshotsOf, isSnapshot, targetOf, targetIndex, isMisplaced, holderOf, blockFound}
+use Rattle.calls.specs.Parts.{areaBad, snapshotsOf, isSnapshot, targetOf, targetIndex, isMisplaced, holderOf, blockFound, SoundCard}
 use Rattle.calls.specs.Ladder.{admission, firstRow, blockRow, entryRows, readRows, visitRows}
 use Rattle.calls.specs.Effect.{Delivered, delivered, givenAt, visitGiven, givenBytes, asVisited, visited}
 use Rattle.calls.specs.Meaning.{rowsOf, answerOf, lentOf, filledOf, storesOf, givenOf}
 use Rattle.calls.specs.Step.{Done, step, done}
 use Rattle.calls.proofs.StepLaws.{step-refused, step-accepted, outcome-refused, outcome-barred, outcome-accepted}
-use Rattle.calls.proofs.CardLaws.{card-some, card-snapshots, card-snapshot-count, card-snapshot, card-found, card-active, card-through}
-use Rattle.calls.proofs.RowLaws.{admitted, row-given, row-passed, admitted, block-given, block-passed, chain-given, volume-given, volume-passed, Reached, reached}
+use Rattle.calls.proofs.CardLaws.{card-some, card-snapshots, card-snapshot-count, card-snapshot, card-found, card-active, card-through, card-active-through}
+use Rattle.calls.proofs.RowLaws.{admitted, row-given, row-passed, block-given, block-passed, chain-given, volume-given, volume-passed, Reached, reached, card-admitted}
 
 -- the index of what is read
 module _ (ss : List Descriptor) (name : List ℕ) (n : ℕ) (counted : length ss ≡ n) where
@@ -124,17 +124,16 @@ module _ (c : List ℕ) (target : Target) (name : List ℕ) (l : ℕ) (block : L
     pub read-9 : (length block ≡ 512 → ⊥) → answerOf call c ≡ answer 9 0
     read-9 h = to-block ∙ block-given _ block h
 
-    module _ (long : length block ≡ 512) (r : Regions) (walked : r ≡ regionsOf (chain c)) where
-      to-chain : answerOf call c ≡ firstRow (entryRows c target name l)
-      to-chain = to-block ∙ block-passed _ block long
+    pub read-6 : length block ≡ 512 → (w : Walk) → w ≡ walkOf (chain c) → not (w .sound) ≡ true → answerOf call c ≡ answer 6 (w .place .0)
+    unfolding entryRows
+    read-6 long w walked h = to-block ∙ block-passed _ block long ∙ chain-given _ c w walked h
 
-      pub read-6 : not (r .sound) ≡ true → answerOf call c ≡ answer 6 (r .place .0)
-      unfolding entryRows
-      read-6 h = to-chain ∙ chain-given _ c r walked h
-
-      pub read-reached : not (r .sound) ≡ false → Reached call c (drop 1 (entryRows c target name l)) r
-      unfolding entryRows
-      read-reached whole = reached call c _ a asked card r walked whole to-chain
+pub read-reached : (c : List ℕ) (target : Target) (name : List ℕ) (l : ℕ) (block : List ℕ) → (isSnapshot target && not (isName name)) ≡ false → length block ≡ 512
+    → (count : ℕ) (starts : List ℕ) → SoundCard c count starts
+    → Reached (Read target name l block) c (drop 1 (entryRows c target name l)) (record { sound = true; place = physical 0; active = activeOf (descriptors (chain c)); count = count; starts = starts })
+unfolding answerOf rowsOf readRows entryRows
+read-reached c target name l block called long count starts s =
+    reached (Read target name l block) c _ count starts s (card-admitted c (s .area) _ ∙ row-passed _ _ called ∙ block-passed _ block long)
 
 -- those of a visit
 module _ (c : List ℕ) (target : Target) (name : List ℕ) (l : ℕ) (a : Answer) (asked : a ≡ firstRow (admission c)) (card : a .number ≡ 0) (u : Bool) (unnamed : u ≡ (isSnapshot target && not (isName name))) where
@@ -142,18 +141,15 @@ module _ (c : List ℕ) (target : Target) (name : List ℕ) (l : ℕ) (a : Answe
   unfolding answerOf rowsOf visitRows
   visit-4 e = admitted c a asked _ card ∙ row-given _ _ (sym unnamed ∙ e)
 
-  module _ (called : u ≡ false) (r : Regions) (walked : r ≡ regionsOf (chain c)) where
-    visit-chain : answerOf (Visit target name l) c ≡ firstRow (entryRows c target name l)
-    unfolding answerOf rowsOf visitRows
-    visit-chain = admitted c a asked _ card ∙ row-passed _ _ (sym unnamed ∙ called)
+  pub visit-6 : u ≡ false → (w : Walk) → w ≡ walkOf (chain c) → not (w .sound) ≡ true → answerOf (Visit target name l) c ≡ answer 6 (w .place .0)
+  unfolding answerOf rowsOf visitRows entryRows
+  visit-6 called w walked h = admitted c a asked _ card ∙ row-passed _ _ (sym unnamed ∙ called) ∙ chain-given _ c w walked h
 
-    pub visit-6 : not (r .sound) ≡ true → answerOf (Visit target name l) c ≡ answer 6 (r .place .0)
-    unfolding entryRows
-    visit-6 h = visit-chain ∙ chain-given _ c r walked h
-
-    pub visit-reached : not (r .sound) ≡ false → Reached (Visit target name l) c (drop 1 (entryRows c target name l)) r
-    unfolding entryRows
-    visit-reached whole = reached (Visit target name l) c _ a asked card r walked whole visit-chain
+pub visit-reached : (c : List ℕ) (target : Target) (name : List ℕ) (l : ℕ) → (isSnapshot target && not (isName name)) ≡ false → (count : ℕ) (starts : List ℕ) → SoundCard c count starts
+    → Reached (Visit target name l) c (drop 1 (entryRows c target name l)) (record { sound = true; place = physical 0; active = activeOf (descriptors (chain c)); count = count; starts = starts })
+unfolding answerOf rowsOf visitRows entryRows
+visit-reached c target name l called count starts s =
+    reached (Visit target name l) c _ count starts s (card-admitted c (s .area) _ ∙ row-passed _ _ called)
 
 -- the rows that follow that of the chain, of a call that follows an entry through its target
 module _ (call : Call) (c : List ℕ) (target : Target) (name : List ℕ) (l : ℕ) (r : Regions) (h : Reached call c (drop 1 (entryRows c target name l)) r) where
@@ -203,30 +199,32 @@ module _ (call : Call) (c : List ℕ) (target : Target) (name : List ℕ) (l : �
       unfolding entryRows
       to-volume = h .rest ∙ row-passed _ _ (missing ∙ ne-eqb k (r .count) some)
 
-      pub entry-8 : r .active .volume ≤ l → answerOf call c ≡ answer 8 0
-      unfolding entryRows
-      entry-8 e = to-volume ∙ volume-given _ c r walked good ok l e
-
-      module _ (below : l < r .active .volume) (d : Descriptor) (d-is : d ≡ descriptorAt c (getD (r .starts) k 0)) where
-        pub target-is : targetOf ds target name ≡ d
-        target-is = place-of target index-is some .1 ∙ sym d-is
-
-        pub entry-below : l < d .volume
-        entry-below =
+      module _ (d : Descriptor) (d-is : d ≡ descriptorAt c (getD (r .starts) k 0)) where
+        -- L is the same in all descriptors
+        volume-is : d .volume ≡ r .active .volume
+        volume-is =
             let one = through-region c (r .starts) (r .count) d (card-through c r walked good ok k (index-inside some) d d-is) in
-            let other = through-region c (r .starts) (r .count) (r .active) (card-through c r walked good ok (r .count - 1) (omega (arith, card-some c r walked good ok)) (r .active) (card-active c r walked good ok)) in
-            omega (arith, region-volume (descriptorAt c 0) (blockCount c) _ d (one .region), region-volume (descriptorAt c 0) (blockCount c) _ (r .active) (other .region))
+            let other = through-region c (r .starts) (r .count) (r .active) (card-active-through c r walked good ok) in
+            region-volume (descriptorAt c 0) (blockCount c) _ d (one .region) ∙ sym (region-volume (descriptorAt c 0) (blockCount c) _ (r .active) (other .region))
 
-        abbrev found : Found
-        found = find c ds d l
-
-        to-found : answerOf call c ≡ firstRow (drop 3 (entryRows c target name l))
+        pub entry-8 : d .volume ≤ l → answerOf call c ≡ answer 8 0
         unfolding entryRows
-        to-found = to-volume ∙ volume-passed _ c r walked good ok l below
+        entry-8 e = to-volume ∙ volume-given _ c r walked good ok l (omega (arith, e, volume-is))
 
-        pub entry-rest : answerOf call c ≡ pick (isMisplaced found) (answer 10 (holderOf found)) accepted
-        unfolding entryRows firstRow
-        entry-rest = to-found ∙ rw target-is
+        module _ (below : l < d .volume) where
+          pub target-is : targetOf ds target name ≡ d
+          target-is = place-of target index-is some .1 ∙ sym d-is
+
+          abbrev found : Found
+          found = find c ds d l
+
+          to-found : answerOf call c ≡ firstRow (drop 3 (entryRows c target name l))
+          unfolding entryRows
+          to-found = to-volume ∙ volume-passed _ c r walked good ok l (omega (arith, below, volume-is))
+
+          pub entry-rest : answerOf call c ≡ pick (isMisplaced found) (answer 10 (holderOf found)) accepted
+          unfolding entryRows firstRow
+          entry-rest = to-found ∙ rw target-is
 
 -- what a read does, by the block that was found through the target's descriptor
 module _ (c : List ℕ) (target : Target) (name : List ℕ) (l : ℕ) (block : List ℕ) (d : Descriptor) (target-is : targetOf (descriptors (chain c)) target name ≡ d)

@@ -1,6 +1,6 @@
 -- Laws of the revert, as the code asks them.
-use mathlib.Core.Path.{_≡_, sym, ap, _∙_}
-use mathlib.Core.Bool.{Bool, true, false, not}
+use mathlib.Core.Path.{_≡_, refl, sym, ap, _∙_}
+use mathlib.Core.Bool.{true, false}
 use mathlib.Core.List.{List, [], _∷_, _++_}
 use Prim.Native.Nat.{ℕ, _+_, _*_, _-_, _/_, _≤_, _<_}
 use native.Mathlib.Omega.{arith}
@@ -10,28 +10,25 @@ use borrow.Author.Tests.{lt-ltb, le-ltb, eq-eqb, ne-eqb}
 use Rattle.blocks.specs.Pick.{pick}
 use Rattle.blocks.specs.Bytes.{blockCount, store, storeBlock, storeAll}
 use Rattle.blocks.specs.Name.{isName}
-use Rattle.blocks.specs.Descriptor.{costOf, descriptorAt, revisionOf, tailAt, descriptorBlock, reopening}
-use Rattle.chains.specs.Chain.{Sound, chain, descriptors, indexOf, named, descriptorsAt, regionsOf, activeOf}
+use Rattle.blocks.specs.Descriptor.{physical, costOf, descriptorAt, revisionOf, tailAt, descriptorBlock, reopening}
+use Rattle.chains.specs.Chain.{Sound, chain, descriptors, indexOf, named, descriptorsAt, Regions, regionsOf, activeOf}
 use Rattle.blocks.specs.declared.descriptor.Descriptor.{Descriptor}
-use Rattle.chains.specs.declared.chain.Regions.{Regions}
 use Rattle.calls.specs.Call.{Revert, answer, accepted}
-use Rattle.calls.specs.Parts.{areaBad, snapshotsOf, withName}
-use Rattle.calls.specs.Ladder.{admission, firstRow, revertRows}
+use Rattle.calls.specs.Parts.{areaBad, snapshotsOf, withName, SoundCard}
+use Rattle.calls.specs.Ladder.{revertRows}
 use Rattle.calls.specs.Effect.{activatedOf, reverting, revertStores}
 use Rattle.calls.specs.Meaning.{rowsOf, answerOf, storesOf}
 use Rattle.blocks.proofs.StoreLists.{stored-one}
 use Rattle.calls.proofs.CardLaws.{chain-is, card-sound, card-most, card-snapshots, card-snapshot-count, card-snapshot, card-alpha, card-at, card-found}
 use Rattle.links.proofs.MemberLaws.{member-long}
 use Rattle.calls.proofs.VisitLaws.{before, behind, visit-split, visit-end}
-use Rattle.calls.proofs.RowLaws.{row-given, last-passed, Reached, reached, admitted, name-passed}
-use Rattle.calls.specs.declared.answer.Answer.{Answer}
+use Rattle.calls.proofs.RowLaws.{row-given, last-passed, Reached, reached, card-admitted, name-passed}
 
 -- the row of a revert that follows the chain's, in the order of the code
-pub revert-reached : (c name : List ℕ) (a : Answer) → a ≡ firstRow (admission c) → a .number ≡ 0 → (n : Bool) → n ≡ isName name → not n ≡ false → (r : Regions) → r ≡ regionsOf (chain c)
-    → not (r .sound) ≡ false → Reached (Revert name) c (drop 2 (revertRows c name)) r
+pub revert-reached : (c name : List ℕ) → isName name ≡ true → (count : ℕ) (starts : List ℕ) → SoundCard c count starts
+    → Reached (Revert name) c (drop 2 (revertRows c name)) (record { sound = true; place = physical 0; active = activeOf (descriptors (chain c)); count = count; starts = starts })
 unfolding answerOf rowsOf revertRows
-revert-reached c name a asked card n called is-name r walked whole =
-    reached (Revert name) c _ a asked card r walked whole (admitted c a asked _ card ∙ name-passed _ name n called is-name)
+revert-reached c name is-name count starts s = reached (Revert name) c _ count starts s (card-admitted c (s .area) _ ∙ name-passed _ name (isName name) refl (rw is-name))
 
 module _ (c : List ℕ) (name : List ℕ) (r : Regions) (h : Reached (Revert name) c (drop 2 (revertRows c name)) r) (k : ℕ) (index : k ≡ indexOf (descriptorsAt c (take (r .count - 1) (r .starts))) name) where
   walked : r ≡ regionsOf (chain c)
@@ -97,17 +94,17 @@ module _ (c : List ℕ) (name : List ℕ) (r : Regions) (h : Reached (Revert nam
         rw (snapshot-is, active-is)
         (ap (λ (p : ℕ). pick (eqb (revisionOf c) 1) (reopening c w []) (store p (descriptorBlock w (tailAt c p)) ∷ [])) alpha-is)
 
-    pub reverted : (d : Descriptor) → d ≡ descriptorAt c (getD (r .starts) k 0) → (n : ℕ) → n ≡ revisionOf c → (n ≡ 1 → ⊥) → (c′ : List ℕ)
-        → c′ ≡ storeBlock c (getD (r .starts) k 0) (descriptorBlock (activatedOf d (r .active .name)) (tailAt c (getD (r .starts) k 0)))
+    pub reverted : (d : Descriptor) → d ≡ descriptorAt c (getD (r .starts) k 0) → (current : List ℕ) → current ≡ r .active .name → (n : ℕ) → n ≡ revisionOf c → (n ≡ 1 → ⊥) → (c′ : List ℕ)
+        → c′ ≡ storeBlock c (getD (r .starts) k 0) (descriptorBlock (activatedOf d current) (tailAt c (getD (r .starts) k 0)))
         → c′ ≡ storeAll c (storesOf (Revert name) c)
-    reverted d d-is n n-is other c′ e =
+    reverted d d-is current current-is n n-is other c′ e =
         let p = getD (r .starts) k 0 in
         let is : storesOf (Revert name) c ≡ store p (descriptorBlock w (tailAt c p)) ∷ [] = stores-are ∙ rw (ne-eqb (revisionOf c) 1 (λ f. other (n-is ∙ f))) in
-        e ∙ rw d-is (sym (stored-one c p (descriptorBlock w (tailAt c p)))) ∙ sym (ap (storeAll c) is)
+        e ∙ rw (d-is, current-is) (sym (stored-one c p (descriptorBlock w (tailAt c p)))) ∙ sym (ap (storeAll c) is)
 
-    pub reopened : (d : Descriptor) → d ≡ descriptorAt c (getD (r .starts) k 0) → (n : ℕ) → n ≡ revisionOf c → n ≡ 1 → (c′ : List ℕ)
-        → c′ ≡ storeAll c (reopening c (activatedOf d (r .active .name)) [])
+    pub reopened : (d : Descriptor) → d ≡ descriptorAt c (getD (r .starts) k 0) → (current : List ℕ) → current ≡ r .active .name → (n : ℕ) → n ≡ revisionOf c → n ≡ 1 → (c′ : List ℕ)
+        → c′ ≡ storeAll c (reopening c (activatedOf d current) [])
         → c′ ≡ storeAll c (storesOf (Revert name) c)
-    reopened d d-is n n-is one c′ e =
+    reopened d d-is current current-is n n-is one c′ e =
         let is : storesOf (Revert name) c ≡ reopening c w [] = stores-are ∙ rw (eq-eqb (revisionOf c) 1 (sym n-is ∙ one)) in
-        e ∙ ap (λ (x : Descriptor). storeAll c (reopening c (activatedOf x (r .active .name)) [])) d-is ∙ sym (ap (storeAll c) is)
+        e ∙ rw (d-is, current-is) refl ∙ sym (ap (storeAll c) is)

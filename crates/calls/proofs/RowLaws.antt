@@ -6,15 +6,16 @@ use Prim.Native.Nat.{ℕ, zero, suc, _≤_, _<_}
 use native.Mathlib.Omega.{arith}
 use lib.ListN.{length, getD}
 use lib.Dec.{eqb}
-use borrow.Author.Tests.{eq-eqb, ne-eqb, le-leb, lt-leb, eqb-true, eqb-false, not-true, not-false}
+use borrow.Author.Tests.{eq-eqb, ne-eqb, le-leb, lt-leb, eqb-true, eqb-false, not-true}
 use Rattle.blocks.specs.Pick.{pick}
 use Rattle.blocks.specs.Name.{isName}
-use Rattle.chains.specs.Chain.{chain, regionsOf}
-use Rattle.chains.specs.declared.chain.Regions.{Regions}
+use Rattle.blocks.specs.Descriptor.{physical}
+use Rattle.chains.specs.Chain.{chain, chainSound, Regions, regionsOf, walkOf, descriptors, activeOf}
+use Rattle.chains.specs.declared.chain.Walk.{Walk}
 use Rattle.blocks.proofs.Tests.{and-left, and-right}
 use Rattle.calls.specs.declared.answer.Answer.{Answer}
 use Rattle.calls.specs.Call.{Call, Ream, Read, Write, Snap, Revert, Listing, Check, Visit, answer, accepted}
-use Rattle.calls.specs.Parts.{areaBad}
+use Rattle.calls.specs.Parts.{areaBad, SoundCard}
 use Rattle.calls.specs.Ladder.{Row, row, firstRow, admission, areaRow, nameRow, blockRow, chainRow, volumeRow, reamRows, readRows, writeRows, snapRows, revertRows, listRows, checkRows, visitRows}
 use Rattle.calls.specs.Meaning.{rowsOf, answerOf}
 use Rattle.calls.specs.Step.{isAccepted}
@@ -228,13 +229,14 @@ module _ (rs : List Row) where
     pub block-passed : length block ≡ 512 → firstRow (blockRow block ∷ rs) ≡ firstRow rs
     block-passed h = row-passed (blockRow block) rs (rw (eq-eqb (length block) 512 h))
 
+  module _ (c : List ℕ) where
+    pub chain-given : (w : Walk) → w ≡ walkOf (chain c) → not (w .sound) ≡ true → firstRow (chainRow c ∷ rs) ≡ answer 6 (w .place .0)
+    chain-given w walked h = let f = card-fault c w walked (not-true (w .sound) h) in row-given (chainRow c) rs (rw (f .0)) ∙ ap (answer 6) (f .1)
+
+    pub chain-passed : chainSound (chain c) ≡ true → firstRow (chainRow c ∷ rs) ≡ firstRow rs
+    chain-passed h = row-passed (chainRow c) rs (rw h)
+
   module _ (c : List ℕ) (r : Regions) (walked : r ≡ regionsOf (chain c)) where
-    pub chain-given : not (r .sound) ≡ true → firstRow (chainRow c ∷ rs) ≡ answer 6 (r .place .0)
-    chain-given h = let f = card-fault c r walked (not-true (r .sound) h) in row-given (chainRow c) rs (rw (f .0)) ∙ ap (answer 6) (f .1)
-
-    pub chain-passed : not (r .sound) ≡ false → firstRow (chainRow c ∷ rs) ≡ firstRow rs
-    chain-passed h = row-passed (chainRow c) rs (rw (card-sound c r walked (not-false (r .sound) h)))
-
     module _ (good : areaBad c ≡ false) (ok : r .sound ≡ true) (l : ℕ) where
       pub volume-given : r .active .volume ≤ l → firstRow (volumeRow c l ∷ rs) ≡ answer 8 0
       volume-given h = row-given (volumeRow c l) rs (rw (← (card-found c r walked good ok)) (le-leb (r .active .volume) l h))
@@ -247,12 +249,12 @@ module _ (rs : List Row) (c : List ℕ) (name : List ℕ) (a : Answer) (asked : 
   pub named-4 : not n ≡ true → firstRow (admission c ++ (nameRow name ∷ rs)) ≡ answer 4 0
   named-4 h = admitted c a asked _ card ∙ name-given _ name n called h
 
-  module _ (is-name : not n ≡ false) (r : Regions) (walked : r ≡ regionsOf (chain c)) where
-    to-chain : firstRow (admission c ++ (nameRow name ∷ chainRow c ∷ rs)) ≡ firstRow (chainRow c ∷ rs)
-    to-chain = admitted c a asked _ card ∙ name-passed _ name n called is-name
+  pub named-6 : not n ≡ false → (w : Walk) → w ≡ walkOf (chain c) → not (w .sound) ≡ true → firstRow (admission c ++ (nameRow name ∷ chainRow c ∷ rs)) ≡ answer 6 (w .place .0)
+  named-6 is-name w walked h = admitted c a asked _ card ∙ name-passed _ name n called is-name ∙ chain-given _ c w walked h
 
-    pub named-6 : not (r .sound) ≡ true → firstRow (admission c ++ (nameRow name ∷ chainRow c ∷ rs)) ≡ answer 6 (r .place .0)
-    named-6 h = to-chain ∙ chain-given _ c r walked h
+-- an area that is a card is admitted
+pub card-admitted : (c : List ℕ) → areaBad c ≡ false → (rs : List Row) → firstRow (admission c ++ rs) ≡ firstRow rs
+card-admitted c area rs = admitted c accepted (admission-0 c false (sym area) refl) rs refl
 
 -- a call that has passed all rows before rs, that of the chain among them: r is what the walk found
 pub record Reached (k : Call) (c : List ℕ) (rs : List Row) (r : Regions) : Type 0 where
@@ -261,10 +263,10 @@ pub record Reached (k : Call) (c : List ℕ) (rs : List Row) (r : Regions) : Typ
   pub walked : r ≡ regionsOf (chain c)
   pub sound : r .sound ≡ true
 
-pub reached : (k : Call) (c : List ℕ) (rs : List Row) (a : Answer) → a ≡ firstRow (admission c) → a .number ≡ 0 → (r : Regions) → r ≡ regionsOf (chain c) → not (r .sound) ≡ false
-    → answerOf k c ≡ firstRow (chainRow c ∷ rs) → Reached k c rs r
-reached k c rs a asked card r walked whole to-chain =
-    record { rest = to-chain ∙ chain-passed rs c r walked whole; area = admitted-card c a asked card; walked = walked; sound = not-false (r .sound) whole }
+pub reached : (k : Call) (c : List ℕ) (rs : List Row) (count : ℕ) (starts : List ℕ) → SoundCard c count starts → answerOf k c ≡ firstRow (chainRow c ∷ rs)
+    → Reached k c rs (record { sound = true; place = physical 0; active = activeOf (descriptors (chain c)); count = count; starts = starts })
+reached k c rs count starts s to-chain =
+    record { rest = to-chain ∙ chain-passed rs c (card-sound c _ (sym (s .regions)) refl); area = s .area; walked = sym (s .regions); sound = refl }
 
 -- rows that are the same as far as they decide
 pub data SameRows : List Row → List Row → Type 0 where

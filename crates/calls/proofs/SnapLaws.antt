@@ -1,6 +1,6 @@
 -- Laws of the snapshot, as the code asks them.
-use mathlib.Core.Path.{_≡_, sym, ap, _∙_}
-use mathlib.Core.Bool.{Bool, true, false, not}
+use mathlib.Core.Path.{_≡_, refl, sym, ap, _∙_}
+use mathlib.Core.Bool.{Bool, true, false}
 use mathlib.Core.List.{List, [], _∷_, append-assoc}
 use Prim.Native.Nat.{ℕ, _+_, _*_, _-_, _/_, _≤_, _<_}
 use native.Mathlib.Omega.{arith}
@@ -8,20 +8,18 @@ use lib.ListN.{length, take, drop}
 use borrow.Author.Tests.{lt-ltb, le-ltb, le-leb, lt-leb}
 use Rattle.blocks.specs.Bytes.{Store, store, blockCount, storeBlock, storeAll}
 use Rattle.blocks.specs.Name.{isName}
-use Rattle.blocks.specs.Descriptor.{costOf, tailAt, descriptorBlock, renamedOf, linkedOf, reopenedOf, copying, reopening}
-use Rattle.chains.specs.Chain.{chain, descriptors, named, descriptorsAt, regionsOf}
+use Rattle.blocks.specs.Descriptor.{physical, costOf, tailAt, descriptorBlock, renamedOf, linkedOf, reopenedOf, copying, reopening}
+use Rattle.chains.specs.Chain.{chain, descriptors, named, descriptorsAt, Regions, regionsOf, activeOf}
 use Rattle.blocks.specs.declared.descriptor.Descriptor.{Descriptor}
-use Rattle.chains.specs.declared.chain.Regions.{Regions}
 use Rattle.blocks.proofs.RegionLaws.{reopening-tail}
 use Rattle.calls.specs.Call.{Snap, answer, accepted}
-use Rattle.calls.specs.Parts.{areaBad}
-use Rattle.calls.specs.Ladder.{admission, firstRow, snapRows}
+use Rattle.calls.specs.Parts.{areaBad, SoundCard}
+use Rattle.calls.specs.Ladder.{firstRow, snapRows}
 use Rattle.calls.specs.Effect.{snapping, snapStores}
 use Rattle.calls.specs.Meaning.{rowsOf, answerOf, storesOf}
 use Rattle.blocks.proofs.StoreLists.{stored-append, stored-one}
 use Rattle.calls.proofs.CardLaws.{card-some, card-all, card-snapshot-count, card-found}
-use Rattle.calls.proofs.RowLaws.{row-given, row-passed, last-passed, Reached, reached, admitted, name-passed}
-use Rattle.calls.specs.declared.answer.Answer.{Answer}
+use Rattle.calls.proofs.RowLaws.{row-given, row-passed, last-passed, Reached, reached, card-admitted, name-passed}
 
 -- the region opened, then the old descriptor, whose bytes 40 to 511 are as they were
 module _ (c c₂ : List ℕ) (d : Descriptor) (k : ℕ) (some : 1 ≤ k) (below : d .alpha .0 + k ≤ d .beta .0) (inside : 512 * (d .beta .0 + k) ≤ length c) (k-is : k ≡ costOf d)
@@ -40,11 +38,10 @@ module _ (c c₂ : List ℕ) (d : Descriptor) (k : ℕ) (some : 1 ≤ k) (below 
       ∙ ap (storeAll c) (append-assoc (copying c (d .alpha .0 + 1) (d .beta .0 + 1) (costOf d - 1)) (store (d .beta .0) (descriptorBlock (reopenedOf d) (tailAt c (d .alpha .0))) ∷ []) (last ∷ []))
 
 -- the rows of a snap that follow the chain's, in the order of the code
-pub snap-reached : (c name : List ℕ) (a : Answer) → a ≡ firstRow (admission c) → a .number ≡ 0 → (n : Bool) → n ≡ isName name → not n ≡ false → (r : Regions) → r ≡ regionsOf (chain c)
-    → not (r .sound) ≡ false → Reached (Snap name) c (drop 2 (snapRows c name)) r
+pub snap-reached : (c name : List ℕ) → isName name ≡ true → (count : ℕ) (starts : List ℕ) → SoundCard c count starts
+    → Reached (Snap name) c (drop 2 (snapRows c name)) (record { sound = true; place = physical 0; active = activeOf (descriptors (chain c)); count = count; starts = starts })
 unfolding answerOf rowsOf snapRows
-snap-reached c name a asked card n called is-name r walked whole =
-    reached (Snap name) c _ a asked card r walked whole (admitted c a asked _ card ∙ name-passed _ name n called is-name)
+snap-reached c name is-name count starts s = reached (Snap name) c _ count starts s (card-admitted c (s .area) _ ∙ name-passed _ name (isName name) refl (rw is-name))
 
 module _ (c : List ℕ) (name : List ℕ) (r : Regions) (h : Reached (Snap name) c (drop 2 (snapRows c name)) r) (u : Bool) (used : u ≡ named (descriptorsAt c (take (r .count) (r .starts))) name) where
   walked : r ≡ regionsOf (chain c)
@@ -72,9 +69,9 @@ module _ (c : List ℕ) (name : List ℕ) (r : Regions) (h : Reached (Snap name)
     unfolding snapRows
     snap-13 h = to-count ∙ row-given _ _ (rw (card-snapshot-count c r walked good ok) (le-leb 255 (r .count - 1) (omega arith)))
 
-    module _ (few : r .count ≤ 255) (k : ℕ) (cost-is : k ≡ costOf (r .active)) where
-      abbrev d : Descriptor
-      d = r .active
+    module _ (few : r .count ≤ 255) (d : Descriptor) (d-is : d ≡ r .active) (k : ℕ) (cost-is : k ≡ costOf d) where
+      active-is : d ≡ activeOf (descriptors (chain c))
+      active-is = d-is ∙ card-found c r walked good ok
 
       to-room : answerOf (Snap name) c ≡ firstRow (drop 4 (snapRows c name))
       unfolding snapRows
@@ -82,12 +79,12 @@ module _ (c : List ℕ) (name : List ℕ) (r : Regions) (h : Reached (Snap name)
 
       pub snap-11 : length c / 512 < d .beta .0 + k → answerOf (Snap name) c ≡ answer 11 0
       unfolding snapRows blockCount
-      snap-11 h = to-room ∙ row-given _ _ (rw (← (card-found c r walked good ok), ← cost-is) (lt-ltb (length c / 512) (d .beta .0 + k) h))
+      snap-11 h = to-room ∙ row-given _ _ (rw (← active-is, ← cost-is) (lt-ltb (length c / 512) (d .beta .0 + k) h))
 
       pub snap-0 : d .beta .0 + k ≤ length c / 512 → answerOf (Snap name) c ≡ accepted
       unfolding snapRows blockCount
-      snap-0 h = to-room ∙ last-passed _ (rw (← (card-found c r walked good ok), ← cost-is) (le-ltb (length c / 512) (d .beta .0 + k) h))
+      snap-0 h = to-room ∙ last-passed _ (rw (← active-is, ← cost-is) (le-ltb (length c / 512) (d .beta .0 + k) h))
 
       pub snap-stores : (c′ : List ℕ) → c′ ≡ storeAll c (snapping c d name) → c′ ≡ storeAll c (storesOf (Snap name) c)
       unfolding storesOf snapStores
-      snap-stores c′ e = e ∙ ap (λ (x : Descriptor). storeAll c (snapping c x name)) (card-found c r walked good ok)
+      snap-stores c′ e = e ∙ ap (λ (x : Descriptor). storeAll c (snapping c x name)) active-is

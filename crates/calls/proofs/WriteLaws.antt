@@ -8,23 +8,24 @@ use lib.Dec.{ltb}
 use borrow.Author.Tests.{lt-ltb, le-ltb}
 use Rattle.blocks.specs.Pick.{pick}
 use Rattle.blocks.specs.Bytes.{blockCount, storeAll}
-use Rattle.chains.specs.Chain.{chain, descriptors, regionsOf, activeOf}
+use Rattle.blocks.specs.Descriptor.{physical}
+use Rattle.chains.specs.Chain.{chain, descriptors, Regions, regionsOf, walkOf, activeOf}
 use Rattle.blocks.specs.declared.numbers.Physical.{Physical}
 use Rattle.blocks.specs.declared.descriptor.Descriptor.{Descriptor}
-use Rattle.chains.specs.declared.chain.Regions.{Regions}
+use Rattle.chains.specs.declared.chain.Walk.{Walk}
 use Rattle.entries.specs.Entry.{find, need, writing}
 use Rattle.entries.specs.declared.find.Found.{Found}
 use Rattle.entries.specs.declared.find.Found.the-variants.{Misplaced, Entry}
 use Rattle.calls.specs.declared.answer.Answer.{Answer}
 use Rattle.calls.specs.Call.{Call, Write, Block, answer, accepted}
-use Rattle.calls.specs.Parts.{areaBad, isMisplaced, holderOf}
+use Rattle.calls.specs.Parts.{areaBad, isMisplaced, holderOf, SoundCard}
 use Rattle.calls.specs.Ladder.{admission, firstRow, writeRows}
 use Rattle.calls.specs.Effect.{Written, written, writeStores}
 use Rattle.calls.specs.Meaning.{rowsOf, answerOf, lentOf, filledOf, storesOf, givenOf}
 use Rattle.calls.specs.Step.{Done, step, done}
 use Rattle.calls.proofs.StepLaws.{step-refused, step-accepted}
 use Rattle.calls.proofs.CardLaws.{card-found}
-use Rattle.calls.proofs.RowLaws.{admitted, admitted, block-given, block-passed, chain-given, volume-given, volume-passed, Reached, reached}
+use Rattle.calls.proofs.RowLaws.{admitted, block-given, block-passed, chain-given, volume-given, volume-passed, Reached, reached, card-admitted}
 
 -- a write once its entry was found, by the test for room
 module _ (c : List ℕ) (d : Descriptor) (found : Found) (l : ℕ) (block : List ℕ) (n : ℕ) (need-is : n ≡ need (d .alpha .0) found) where
@@ -45,21 +46,17 @@ module _ (c : List ℕ) (l : ℕ) (block : List ℕ) (a : Answer) (asked : a ≡
   unfolding answerOf rowsOf writeRows
   write-9 h = admitted c a asked _ card ∙ block-given _ block h
 
-  module _ (long : length block ≡ 512) (r : Regions) (walked : r ≡ regionsOf (chain c)) where
-    to-chain : answerOf call c ≡ firstRow (drop 1 (writeRows c l block))
-    unfolding answerOf rowsOf writeRows
-    to-chain = admitted c a asked _ card ∙ block-passed _ block long
+  pub write-6 : length block ≡ 512 → (w : Walk) → w ≡ walkOf (chain c) → not (w .sound) ≡ true → answerOf call c ≡ answer 6 (w .place .0)
+  unfolding answerOf rowsOf writeRows
+  write-6 long w walked h = admitted c a asked _ card ∙ block-passed _ block long ∙ chain-given _ c w walked h
 
-    pub write-6 : not (r .sound) ≡ true → answerOf call c ≡ answer 6 (r .place .0)
-    unfolding writeRows
-    write-6 h = to-chain ∙ chain-given _ c r walked h
-
-    pub write-reached : not (r .sound) ≡ false → Reached call c (drop 2 (writeRows c l block)) r
-    unfolding writeRows
-    write-reached whole = reached call c _ a asked card r walked whole to-chain
+pub write-reached : (c : List ℕ) (l : ℕ) (block : List ℕ) → length block ≡ 512 → (count : ℕ) (starts : List ℕ) → SoundCard c count starts
+    → Reached (Write l block) c (drop 2 (writeRows c l block)) (record { sound = true; place = physical 0; active = activeOf (descriptors (chain c)); count = count; starts = starts })
+unfolding answerOf rowsOf writeRows
+write-reached c l block long count starts s = reached (Write l block) c _ count starts s (card-admitted c (s .area) _ ∙ block-passed _ block long)
 
 -- the rows that follow that of the chain
-module _ (c : List ℕ) (l : ℕ) (block : List ℕ) (r : Regions) (h : Reached (Write l block) c (drop 2 (writeRows c l block)) r) where
+module _ (c : List ℕ) (l : ℕ) (block : List ℕ) (r : Regions) (h : Reached (Write l block) c (drop 2 (writeRows c l block)) r) (d : Descriptor) (d-is : d ≡ r .active) where
   walked : r ≡ regionsOf (chain c)
   walked = h .walked
 
@@ -69,23 +66,20 @@ module _ (c : List ℕ) (l : ℕ) (block : List ℕ) (r : Regions) (h : Reached 
   ok : r .sound ≡ true
   ok = h .sound
 
-  abbrev d : Descriptor
-  d = r .active
-
   abbrev ds : List Descriptor
   ds = descriptors (chain c)
 
   active-is : activeOf ds ≡ d
-  active-is = sym (card-found c r walked good ok)
+  active-is = sym (d-is ∙ card-found c r walked good ok)
 
   pub write-8 : d .volume ≤ l → answerOf (Write l block) c ≡ answer 8 0
   unfolding writeRows
-  write-8 e = h .rest ∙ volume-given _ c r walked good ok l e
+  write-8 e = h .rest ∙ volume-given _ c r walked good ok l (rw (← d-is) e)
 
   module _ (below : l < d .volume) (f : Found) (found-is : f ≡ find c ds d l) where
     to-found : answerOf (Write l block) c ≡ firstRow (drop 3 (writeRows c l block))
     unfolding writeRows
-    to-found = h .rest ∙ volume-passed _ c r walked good ok l below
+    to-found = h .rest ∙ volume-passed _ c r walked good ok l (rw (← d-is) below)
 
     rest : answerOf (Write l block) c ≡ pick (isMisplaced f) (answer 10 (holderOf f)) (pick (ltb (blockCount c) (d .beta .0 + need (d .alpha .0) f)) (answer 11 0) accepted)
     unfolding writeRows firstRow

@@ -1,12 +1,13 @@
 -- What the code of a listing plans and fills.
-use mathlib.Core.Bool.{Bool}
+use mathlib.Core.Path.{_≡_}
+use mathlib.Core.Bool.{Bool, true}
 use mathlib.Core.List.{List, [], _∷_}
-use Prim.Native.Nat.{ℕ, zero, suc, _+_}
-use lib.ListN.{length, getD, set}
+use Prim.Native.Nat.{ℕ, zero, suc, _+_, _<_}
+use lib.ListN.{length, take, getD, set}
 use lib.Dec.{eqb, ltb}
 use Rattle.blocks.specs.Pick.{pick}
 use Rattle.blocks.specs.Descriptor.{physical, descriptorAt}
-use Rattle.chains.specs.Chain.{chain, regionsOf}
+use Rattle.chains.specs.Chain.{chain, startsOf, walkOf}
 use Rattle.calls.specs.declared.answer.Record.{Record}
 use Rattle.calls.specs.declared.list.Filling.{Filling}
 use Rattle.calls.specs.declared.list.Plan.{Plan}
@@ -36,11 +37,19 @@ fillingBy c sound place count room =
     let a = firstRow (admission c) in
     pick (isAccepted a) (pick sound (pick (ltb room count) (fillingWith 14 0 0) (fillingWith 0 0 count)) (fillingWith 6 place 0)) (fillingWith (a .number) (a .place) 0)
 
--- these, and where the regions start, by the walk, which gives zeros where the chain is unsound
-unfoldable pub planOf : List ℕ → List Record → Plan
-planOf c records =
-    let f = fillingOf c records in
-    record { answer = f .answer; count = f .count; starts = regionsOf (chain c) .starts }
+-- a plan for the records: the listing's answer, how many it fills and, where it is accepted, where the regions start, in one place more than that
+pub record PlanFor (c : List ℕ) (records : List Record) (plan : Plan) : Type 0 where
+  pub filling : record { answer = plan .answer; count = plan .count } ≡ fillingOf c records
+  pub starts-are : isAccepted (plan .answer) ≡ true → take (plan .count + 1) (plan .starts) ≡ startsOf (descriptorsOf c)
+  pub some : 0 < length (plan .starts)
+
+-- what the code of a listing knows after the walk: whether the chain is sound, the place of its fault and how many descriptors it has; and, of a sound one, where its regions start
+pub record ListReady (c : List ℕ) (sound : Bool) (place count : ℕ) (starts : List ℕ) : Type 0 where
+  pub sound-is : sound ≡ walkOf (chain c) .sound
+  pub place-is : place ≡ walkOf (chain c) .place .0
+  pub count-is : count ≡ walkOf (chain c) .count
+  pub starts-are : sound ≡ true → starts ≡ startsOf (descriptorsOf c)
+  pub long : count < length starts
 
 -- the record of region k of n, by where the regions start: the name is that of the descriptor there
 unfoldable pub recordBy : List ℕ → List ℕ → ℕ → ℕ → Record

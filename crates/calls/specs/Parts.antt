@@ -1,4 +1,5 @@
 -- Parts of a card that the calls speak of: its area, its chain, the active descriptor, a snapshot by name, the block that a read gives.
+use mathlib.Core.Path.{_≡_}
 use mathlib.Core.Bool.{Bool, true, false, not, _||_}
 use mathlib.Core.List.{List, [], _∷_}
 use Prim.Native.Nat.{ℕ, _+_, _%_}
@@ -6,8 +7,8 @@ use lib.ListN.{length, getD}
 use lib.Dec.{eqb, ltb}
 use Rattle.blocks.specs.Pick.{pick}
 use Rattle.blocks.specs.Bytes.{blockSize, fewestBlocks, mostBlocks, blockCount, blockAt, zeroBlock}
-use Rattle.blocks.specs.Descriptor.{noDescriptor}
-use Rattle.chains.specs.Chain.{indexOf, chain, descriptors, activeOf}
+use Rattle.blocks.specs.Descriptor.{physical, noDescriptor}
+use Rattle.chains.specs.Chain.{indexOf, chain, descriptors, activeOf, regionsOf}
 use Rattle.blocks.specs.declared.descriptor.Descriptor.{Descriptor}
 use Rattle.entries.specs.Entry.{find}
 use Rattle.entries.specs.declared.find.Found.{Found}
@@ -68,3 +69,8 @@ blockFound c (Entry m p) = pick (eqb (p .0) 0) zeroBlock (blockAt c (p .0))
 -- the entry of logical block l through a descriptor of the card
 abbrev pub foundThrough : List ℕ → Descriptor → ℕ → Found
 foundThrough c d l = find c (descriptorsOf c) d l
+
+-- what the code of a call knows once the walk has found no fault: the area is a card, and of its sound chain how many descriptors there are and where their regions start
+pub record SoundCard (c : List ℕ) (count : ℕ) (starts : List ℕ) : Type 0 where
+  pub area : areaBad c ≡ false
+  pub regions : regionsOf (chain c) ≡ record { sound = true; place = physical 0; active = activeOf (descriptorsOf c); count = count; starts = starts }

@@ -11,7 +11,7 @@ pub struct Filling {
     pub count: usize,
 }
 
-// The same, and where the regions start: zeros where the chain is unsound.
+// The same, and where the regions start, in the first places.
 pub struct Plan {
     pub answer: Answer,
     pub count: usize,

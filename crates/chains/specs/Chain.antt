@@ -1,15 +1,16 @@
 -- The chain of descriptors: soundness, the walk from block 0, and the regions of the chain.
 use mathlib.Core.Bool.{Bool, true, false, not, _&&_, _||_}
 use mathlib.Core.List.{List, [], _∷_, _++_}
-use Prim.Native.Nat.{ℕ, zero, suc, _+_, _*_, _-_}
-use lib.ListN.{length, replicate}
+use Prim.Native.Nat.{ℕ, zero, suc, _+_, _*_}
+use lib.ListN.{length}
 use lib.Dec.{eqb, ltb, leb}
 use Rattle.blocks.specs.Pick.{pick, same}
 use Rattle.blocks.specs.Bytes.{blockSize, part, blockCount}
 use Rattle.blocks.specs.Name.{isName}
 use Rattle.blocks.specs.Descriptor.{physical, mark, mostVolume, phiStart, headSize, reservedSize, phiBytes, costOf, descriptorAt, revisionOf, reservedOk, phiOk, noDescriptor}
 use Rattle.blocks.specs.declared.descriptor.Descriptor.{Descriptor}
-use Rattle.chains.specs.declared.chain.Regions.{Regions}
+use Rattle.blocks.specs.declared.numbers.Physical.{Physical}
+use Rattle.chains.specs.declared.chain.Walk.{Walk}
 
 -- the most descriptors of a chain
 abbrev pub mostDescriptors : ℕ
@@ -102,11 +103,22 @@ unfoldable pub ends : List Descriptor → List ℕ
 ends [] = []
 ends (d ∷ ds) = d .beta .0 ∷ ends ds
 
--- region k runs from number k up to number k + 1: block 0, then where each region ends; zeros fill the 257 places
+-- region k runs from number k up to number k + 1: block 0, then where each region ends
 unfoldable pub startsOf : List Descriptor → List ℕ
-startsOf ds = (0 ∷ ends ds) ++ replicate (mostDescriptors - length ds) 0
+startsOf ds = 0 ∷ ends ds
 
--- the same as the walk in code gives it
+-- what is known of a chain once it has been walked: whether it is sound and the place of its fault, its last descriptor, how many there are, and where their regions start
+pub record Regions : Type 0 where
+  pub sound : Bool
+  pub place : Physical
+  pub active : Descriptor
+  pub count : ℕ
+  pub starts : List ℕ
+
 unfoldable pub regionsOf : Chain → Regions
-regionsOf (Unsound p) = record { sound = false; place = physical p; active = noDescriptor; count = 0; starts = replicate startsSize 0 }
+regionsOf (Unsound p) = record { sound = false; place = physical p; active = noDescriptor; count = 0; starts = [] }
 regionsOf (Sound ds) = record { sound = true; place = physical 0; active = activeOf ds; count = length ds; starts = startsOf ds }
+
+-- of these the walk in code gives whether it is sound, the place and how many
+unfoldable pub walkOf : Chain → Walk
+walkOf ch = let r = regionsOf ch in record { sound = r .sound; place = r .place; count = r .count }

@@ -10,9 +10,8 @@ use Rattle.blocks.specs.Pick.{pick}
 use Rattle.blocks.specs.Bytes.{blockCount, store}
 use Rattle.blocks.specs.Name.{isName}
 use Rattle.blocks.specs.Descriptor.{costOf, revisionOf, firstOf, firstTail, tailAt, descriptorBlock, renamedOf, linkedOf, reopenedOf, reopening, opening, costIn}
-use Rattle.chains.specs.Chain.{Sound, chain, chainSound, named, regionsOf, activeOf}
+use Rattle.chains.specs.Chain.{Sound, chain, chainSound, named, Regions, regionsOf, activeOf}
 use Rattle.blocks.specs.declared.descriptor.Descriptor.{Descriptor}
-use Rattle.chains.specs.declared.chain.Regions.{Regions}
 use Rattle.links.proofs.MemberLaws.{member-rise}
 use Rattle.blocks.proofs.DescriptorLaws.{tail-length, block-whole, cost-least, first-tail-length}
 use Rattle.blocks.proofs.RegionLaws.{reopening-whole}

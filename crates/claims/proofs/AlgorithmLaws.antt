@@ -11,9 +11,8 @@ use borrow.Author.Tests.{eq-eqb, ne-eqb, le-leb, lt-leb, lt-ltb, le-ltb, eqb-tru
 use Rattle.blocks.specs.Pick.{pick}
 use Rattle.blocks.specs.Bytes.{u32At, le32, splice, store, blockCount, blockAt, zeroBlock, storeBlock, storeAll}
 use Rattle.blocks.specs.Descriptor.{physical, tableCount, cost, costOf, noDescriptor, descriptorAt, headBytes, tailAt, descriptorBlock, renamedOf, linkedOf, extendedOf, reopenedOf, copying}
-use Rattle.chains.specs.Chain.{chain, chainSound, indexOf, named, regionsOf, activeOf}
+use Rattle.chains.specs.Chain.{chain, chainSound, indexOf, named, Regions, regionsOf, activeOf}
 use Rattle.blocks.specs.declared.descriptor.Descriptor.{Descriptor}
-use Rattle.chains.specs.declared.chain.Regions.{Regions}
 use Rattle.blocks.proofs.Tests.{and-left}
 use Rattle.blocks.proofs.BoolLaws.{no, or-true}
 use Rattle.blocks.proofs.ByteLaws.{u32-part, store-length, store-same, store-other, length-blockAt}

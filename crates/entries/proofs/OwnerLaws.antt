@@ -2,10 +2,10 @@
 -- old tables by the owner say what document 01 says by beta and alpha.
 use mathlib.Core.Path.{_≡_, refl, sym, ap, _∙_, subst}
 use mathlib.Core.Bool.{Bool, true, false, not, _&&_, _||_}
-use mathlib.Core.List.{List, [], _∷_, _++_, append-nil}
+use mathlib.Core.List.{List, [], _∷_}
 use Prim.Native.Nat.{ℕ, suc, _+_, _*_, _-_, _/_, _%_, _≤_, _<_}
 use native.Mathlib.Omega.{arith}
-use lib.ListN.{length, getD, replicate}
+use lib.ListN.{length, getD}
 use lib.Dec.{eqb, ltb, leb}
 use borrow.Author.Tests.{eq-eqb, ne-eqb, lt-ltb, le-ltb, le-leb, eqb-false, ltb-true, ltb-false, leb-true, leb-false}
 use Rattle.blocks.specs.Pick.{pick}
@@ -81,17 +81,17 @@ owner-at d ds q false e h later =
 
 module _ {c : List ℕ} where
   -- the search over the starts finds the owner; what stands after the regions does not matter
-  owner-regions : {es : List Descriptor} {p : ℕ} {ds : List Descriptor} (q : ℕ) (zs : List ℕ) → Linked c es p ds → p ≤ q → q < regionStart p ds (length ds) → ownerIndex ds q ≡ regionOf (p ∷ (ends ds ++ zs)) q
+  owner-regions : {es : List Descriptor} {p : ℕ} {ds : List Descriptor} (q : ℕ) → Linked c es p ds → p ≤ q → q < regionStart p ds (length ds) → ownerIndex ds q ≡ regionOf (p ∷ ends ds) q
   unfolding ends
-  owner-regions q zs (last {es = es} {p = p} {d = d} is ok z) h l =
+  owner-regions q (last {es = es} {p = p} {d = d} is ok z) h l =
       let b : q < d .beta .0 = rw (region-start-suc p d [] 0, region-start-zero (d .beta .0) []) at l in
       let a = sound-alpha c es p d is ok in
-      owner-here d [] q (omega arith) b ∙ sym (region-here p (d .beta .0) zs q b)
-  owner-regions q zs (more {es = es} {p = p} {d = d} {ds = ds} is ok z rest) h l =
+      owner-here d [] q (omega arith) b ∙ sym (region-here p (d .beta .0) [] q b)
+  owner-regions q (more {es = es} {p = p} {d = d} {ds = ds} is ok z rest) h l =
       let n = sound-next c es p d is ok z in
       let m : q < regionStart (d .next .0) ds (length ds) = rw (region-start-suc p d ds (length ds), ← n) at l in
-      owner-by d ds p q (ends ds ++ zs) (ltb q (d .beta .0)) refl (sound-alpha c es p d is ok) h
-      (λ k. subst (λ (b : ℕ). ownerIndex ds q ≡ regionOf (b ∷ (ends ds ++ zs)) q) n (owner-regions q zs rest (omega arith) m))
+      owner-by d ds p q (ends ds) (ltb q (d .beta .0)) refl (sound-alpha c es p d is ok) h
+      (λ k. subst (λ (b : ℕ). ownerIndex ds q ≡ regionOf (b ∷ ends ds) q) n (owner-regions q rest (omega arith) m))
 
   -- it is a descriptor of the chain, and its region contains the block
   linked-owner : {es : List Descriptor} {p : ℕ} {ds : List Descriptor} (q : ℕ) → Linked c es p ds → p ≤ q → q < regionStart p ds (length ds)
@@ -179,8 +179,7 @@ module _ (c : List ℕ) (ds : List Descriptor) (linked : Linked c [] 0 ds) where
     unfolding startOf regionStart
     outside-owner q h =
         let e = below-end q h in
-        outside q [] linked (omega arith) e
-        ∙ rw (append-nil (ends ds), ← (ap (λ (l : List ℕ). regionOf (0 ∷ l) q) (append-nil (ends ds))), ← (owner-regions q [] linked (omega arith) e), ← (owner-start q e .0), at-cost c _ _ d (at k counted))
+        outside q linked (omega arith) e ∙ rw (← (owner-regions q linked (omega arith) e), ← (owner-start q e .0), at-cost c _ _ d (at k counted))
 
     place-by : (z t x y : Bool) → (t ≡ true → x ≡ y) → (z || (t && x)) ≡ (z || (t && y))
     place-by true t x y f = refl
@@ -229,7 +228,7 @@ module _ (c starts : List ℕ) (count : ℕ) (d : Descriptor) (t : Through c sta
   pub owner-region : (q : ℕ) → q < d .beta .0 → regionOf starts q ≡ ownerIndex ds q
   unfolding startsOf
   owner-region q h =
-      ap (λ (l : List ℕ). regionOf l q) (through-starts c starts count d t) ∙ sym (owner-regions q (replicate (256 - length ds) 0) linked (omega arith) (under-end q h))
+      ap (λ (l : List ℕ). regionOf l q) (through-starts c starts count d t) ∙ sym (owner-regions q linked (omega arith) (under-end q h))
 
   pub owner-counted : (q : ℕ) → q < d .beta .0 → ownerIndex ds q < count
   owner-counted q h = omega (arith, owner-inside c ds linked q (under-end q h), through-count c starts count d t)

@@ -1,10 +1,10 @@
 -- 'In place' in 01's words is the same as: nil, or below beta and outside the opening of the region that contains it.
 use mathlib.Core.Path.{_≡_, refl, sym, ap, _∙_, subst}
 use mathlib.Core.Bool.{Bool, true, false, not, _&&_, _||_}
-use mathlib.Core.List.{List, [], _∷_, _++_}
-use Prim.Native.Nat.{ℕ, suc, _+_, _-_, _≤_, _<_}
+use mathlib.Core.List.{List, [], _∷_}
+use Prim.Native.Nat.{ℕ, suc, _+_, _≤_, _<_}
 use native.Mathlib.Omega.{arith}
-use lib.ListN.{length, getD, replicate}
+use lib.ListN.{length, getD}
 use lib.Dec.{eqb, ltb, leb}
 use borrow.Author.Tests.{ne-eqb, lt-ltb, le-ltb, le-leb, lt-leb, eqb-true, eqb-false, ltb-true, ltb-false, leb-true, leb-false}
 use Rattle.blocks.specs.Pick.{pick}
@@ -89,20 +89,20 @@ module _ {c : List ℕ} where
       let r = none-below q rest (omega (arith, sound-next c es p d is ok z, sound-long c es p d is ok)) in
       (rw (ne-eqb q (d .alpha .0) (omega arith)) (r .0), rw (le-ltb (d .alpha .0) q (omega arith), and-false-mid (eqb (d .layout) 1)) (r .1))
 
-  -- outside every opening, in 01's words, is outside the opening of the region that contains q; what stands after the regions does not matter
-  pub outside : {es : List Descriptor} {p : ℕ} {ds : List Descriptor} (q : ℕ) (zs : List ℕ) → Linked c es p ds → p ≤ q → q < regionStart p ds (length ds)
-      → not (isDescriptor ds q || isTable ds q) ≡ leb (startOf (p ∷ (ends ds ++ zs)) q + costOf (descriptorAt c 0)) q
+  -- outside every opening, in 01's words, is outside the opening of the region that contains q
+  pub outside : {es : List Descriptor} {p : ℕ} {ds : List Descriptor} (q : ℕ) → Linked c es p ds → p ≤ q → q < regionStart p ds (length ds)
+      → not (isDescriptor ds q || isTable ds q) ≡ leb (startOf (p ∷ ends ds) q + costOf (descriptorAt c 0)) q
   unfolding isDescriptor isTable ends
-  outside q zs (last {es = es} {p = p} {d = d} is ok z) h l =
+  outside q (last {es = es} {p = p} {d = d} is ok z) h l =
       let b : q < d .beta .0 = rw (region-start-suc p d [] 0, region-start-zero (d .beta .0) []) at l in
-      outside-here d p (costOf (descriptorAt c 0)) zs q false false (sound-alpha c es p d is ok) (sound-cost c es p d is ok) (sound-long c es p d is ok) h b refl refl
-  outside q zs (more {es = es} {p = p} {d = d} {ds = ds} is ok z rest) h l =
+      outside-here d p (costOf (descriptorAt c 0)) [] q false false (sound-alpha c es p d is ok) (sound-cost c es p d is ok) (sound-long c es p d is ok) h b refl refl
+  outside q (more {es = es} {p = p} {d = d} {ds = ds} is ok z rest) h l =
       let n = sound-next c es p d is ok z in
       let m : q < regionStart (d .next .0) ds (length ds) = rw (region-start-suc p d ds (length ds), ← n) at l in
-      outside-by d p (costOf (descriptorAt c 0)) (ends ds ++ zs) q (isDescriptor ds q) (isTable ds q) (sound-alpha c es p d is ok) (sound-cost c es p d is ok) (sound-long c es p d is ok) h
+      outside-by d p (costOf (descriptorAt c 0)) (ends ds) q (isDescriptor ds q) (isTable ds q) (sound-alpha c es p d is ok) (sound-cost c es p d is ok) (sound-long c es p d is ok) h
       (ltb q (d .beta .0)) refl
       (λ k. none-below q rest (omega arith))
-      (λ k. subst (λ (b : ℕ). not (isDescriptor ds q || isTable ds q) ≡ leb (startOf (b ∷ (ends ds ++ zs)) q + costOf (descriptorAt c 0)) q) n (outside q zs rest (omega arith) m))
+      (λ k. subst (λ (b : ℕ). not (isDescriptor ds q || isTable ds q) ≡ leb (startOf (b ∷ ends ds) q + costOf (descriptorAt c 0)) q) n (outside q rest (omega arith) m))
 
 -- what Through says of the chain, of its regions and of the descriptor
 module _ (c starts : List ℕ) (count : ℕ) (d : Descriptor) (t : Through c starts count d) where
@@ -123,7 +123,7 @@ module _ (c starts : List ℕ) (count : ℕ) (d : Descriptor) (t : Through c sta
 
   -- the k-th start, and the region of the k-th descriptor
   pub through-start : (k : ℕ) → k ≤ count → getD starts k 0 ≡ regionStart 0 ds k
-  through-start k h = rw through-starts (region-start-listed ds k (omega (arith, through-count)))
+  through-start k h = rw through-starts (region-start-listed ds k)
 
   pub through-at : (k : ℕ) → k < count → RegionAt c (getD starts k 0) (getD starts (suc k) 0) (getD ds k noDescriptor)
   through-at k h = rw (through-start k (omega arith), through-start (suc k) (omega arith)) (linked-at through-linked k (omega (arith, through-count)))
@@ -155,7 +155,7 @@ module _ (c starts : List ℕ) (count : ℕ) (d : Descriptor) (t : Through c sta
   unfolding startsOf
   starts-outside q h =
       rw (at-cost c _ _ d through-region)
-      (sym (outside q (replicate (256 - length ds) 0) through-linked (omega arith) (omega (arith, through-rising .upto, through-start count (omega arith), ap (regionStart 0 ds) through-count))))
+      (sym (outside q through-linked (omega arith) (omega (arith, through-rising .upto, through-start count (omega arith), ap (regionStart 0 ds) through-count))))
 
   pub in-place-region : (q : ℕ) → inPlaceAt starts (costOf d) (d .beta .0) q ≡ inPlace ds d q
   unfolding inPlaceAt inPlace startOf

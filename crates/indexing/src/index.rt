@@ -1,20 +1,17 @@
-// What is looked up in a chain that was walked: a name's index, and the descriptor of an index.
+// What is looked up in a chain by where its regions start: a name's index, and the next of a region.
 use blocks::bytes;
-use blocks::descriptor;
-use blocks::descriptor::Descriptor;
 use blocks::numbers::Physical;
 use blocks::sizes::BLOCK_SIZE;
 use blocks::sizes::NAME_SIZE;
 use blocks::sizes::NAME_START;
 ghost use mathlib.Core.Path.{_≡_};
-ghost use mathlib.Core.Bool.{true};
 ghost use Prim.Native.Nat.{ℕ, _+_, _*_, _≤_, _<_};
 ghost use lib.ListN.{length, take, getD};
 ghost use lib.Dec.{eqb};
 ghost use Rattle.blocks.specs.Pick.{pick, same};
 ghost use Rattle.blocks.specs.Bytes.{blockSize};
 ghost use Rattle.blocks.specs.Descriptor.{physical, descriptorAt};
-ghost use Rattle.chains.specs.Chain.{indexOf, named, descriptorsAt, chain, regionsOf};
+ghost use Rattle.chains.specs.Chain.{indexOf, named, descriptorsAt};
 
 // Whether the descriptor in block `p` has the name: names that differ do so in one of two 64-bit words.
 fn has_name(card: &[u8], p: Physical, name: [u8; NAME_SIZE]) -> bool
@@ -65,28 +62,4 @@ pub fn next_of(end: Physical, k: usize, count: usize) -> Physical
         return Physical(0);
     }
     end
-}
-
-// The descriptor of region `k`, by what the walk found: of its bytes the name alone is read again.
-pub fn descriptor_of(
-    card: &[u8],
-    active: Descriptor,
-    starts: &[u32],
-    count: usize,
-    k: usize,
-) -> Descriptor
-    requires { ⌜ (regionsOf (chain (now card)) ≡ record { sound = true; place = physical 0; active = active; count = count; starts = now starts }) × (k < count) ⌝ }
-    ensures { λ r. ⌜ r ≡ descriptorAt (now (card .entry)) (getD (now (starts .entry)) k 0) ⌝ }
-{
-    let start = starts[k];
-    let end = starts[k + 1];
-    let name = descriptor::name_at(card, Physical(start));
-    Descriptor {
-        layout: active.layout,
-        volume: active.volume,
-        alpha: Physical(start),
-        beta: Physical(end),
-        next: next_of(Physical(end), k, count),
-        name,
-    }
 }

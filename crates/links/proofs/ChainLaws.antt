@@ -5,50 +5,51 @@ use mathlib.Core.List.{List, [], _∷_, _++_}
 use Prim.Native.Nat.{ℕ, zero, suc, _+_, _*_, _-_, _/_, _≤_, _<_}
 use native.Mathlib.Numerals.{add-one}
 use native.Mathlib.Omega.{arith}
-use lib.ListN.{length, take, getD, set, replicate, length-append, length-take, length-set}
-use lib.Seq.{take-suc, take-set-le, getD-set-same, getD-set-other, set-at, append-snoc}
+use lib.ListN.{length, take, getD, set, length-append, length-take, length-set}
+use lib.Seq.{take-suc, take-set-le, getD-set-same, getD-set-other}
 use lib.Dec.{eqb, ltb, leb}
-use borrow.Author.Tests.{ne-eqb, eqb-true, eqb-false, ltb-true, ltb-false, le-ltb, leb-true, not-true, not-false}
+use borrow.Author.Tests.{ne-eqb, eqb-true, ltb-true, ltb-false, le-ltb, leb-true, not-true, not-false}
 use Rattle.blocks.specs.Pick.{pick, same}
 use Rattle.blocks.specs.Bytes.{blockCount}
 use Rattle.blocks.specs.Descriptor.{physical, costOf, descriptorAt}
 use Rattle.blocks.specs.Name.{hashOf}
-use Rattle.chains.specs.Chain.{activeOf, formOk, regionOk, indexOf, named, sound, Unsound, Sound, descriptorsAt, chainFrom, chain, ends, startsOf, regionsOf, chainSound, descriptors, Chain}
-use Rattle.chains.specs.Walk.{Hashed}
+use Rattle.chains.specs.Chain.{activeOf, formOk, regionOk, named, indexOf, sound, Unsound, Sound, descriptorsAt, chainFrom, chain, ends, startsOf, regionsOf, walkOf, chainSound, descriptors, Chain}
+use Rattle.chains.specs.Walk.{hasFlag, withFlag, Hashed}
 use Rattle.blocks.specs.declared.descriptor.Descriptor.{Descriptor}
-use Rattle.chains.specs.declared.chain.Regions.{Regions}
+use Rattle.chains.specs.declared.chain.Walk.{Walk}
 use Rattle.blocks.proofs.Tests.{and-left, and-right}
 use Rattle.blocks.proofs.BoolLaws.{and-false-mid}
 use Rattle.blocks.proofs.ListLaws.{same-equal}
 use Rattle.chains.proofs.NamedLaws.{indexFrom, index-start, index-more, index-end, named-index, length-descriptors}
 use Rattle.blocks.proofs.DescriptorLaws.{cost-least}
+use Rattle.links.proofs.FlagLaws.{flag-set, flag-kept}
 
 -- names passed: where the hash of a name has no flag, none of them is that name
-hash-apart : (hashes : List Bool) (a name : List ℕ) → getD hashes (hashOf a) false ≡ true → getD hashes (hashOf name) false ≡ false → (b : Bool) → same a name ≡ b → b ≡ false
-hash-apart hashes a name f g true e =
+hash-apart : (words a name : List ℕ) → hasFlag words (hashOf a) ≡ true → hasFlag words (hashOf name) ≡ false → (b : Bool) → same a name ≡ b → b ≡ false
+hash-apart words a name f g true e =
     let q = same-equal a name e in
-    sym f ∙ ap (λ (n : List ℕ). getD hashes (hashOf n) false) q ∙ g
-hash-apart hashes a name f g false e = refl
+    sym f ∙ ap (λ (n : List ℕ). hasFlag words (hashOf n)) q ∙ g
+hash-apart words a name f g false e = refl
 
-module _ (c starts : List ℕ) (k : ℕ) (hashes : List Bool) (hashed : Hashed c starts k hashes) (long : k ≤ length starts) (name : List ℕ) where
-  none-from-hash : getD hashes (hashOf name) false ≡ false → (left : ℕ) (j : ℕ) → j + left ≡ k → indexFrom c starts k name j ≡ k
+module _ (c starts : List ℕ) (k : ℕ) (words : List ℕ) (hashed : Hashed c starts k words) (long : k ≤ length starts) (name : List ℕ) where
+  none-from-hash : hasFlag words (hashOf name) ≡ false → (left : ℕ) (j : ℕ) → j + left ≡ k → indexFrom c starts k name j ≡ k
   none-from-hash g zero j e = index-end c starts k name j (omega arith) ∙ omega (arith, e)
   none-from-hash g (suc left) j e =
       index-more c starts k name j (omega arith) long (same (descriptorAt c (getD starts j 0) .name) name) refl
-      (hash-apart hashes (descriptorAt c (getD starts j 0) .name) name (hashed .each j (omega arith)) g (same (descriptorAt c (getD starts j 0) .name) name) refl)
+      (hash-apart words (descriptorAt c (getD starts j 0) .name) name (hashed .each j (omega arith)) g (same (descriptorAt c (getD starts j 0) .name) name) refl)
       ∙ none-from-hash g left (j + 1) (omega arith)
 
-  pub hash-fresh : (hash : ℕ) → hash ≡ hashOf name → not (getD hashes hash false) ≡ true → false ≡ named (descriptorsAt c (take k starts)) name
-  hash-fresh hash e h =
-      let g : getD hashes (hashOf name) false ≡ false = ap (λ (x : ℕ). getD hashes x false) (sym e) ∙ not-true (getD hashes hash false) h in
+  pub hash-fresh : (hash : ℕ) → hash ≡ hashOf name → (b : Bool) → b ≡ hasFlag words hash → not b ≡ true → false ≡ named (descriptorsAt c (take k starts)) name
+  hash-fresh hash e b is h =
+      let g : hasFlag words (hashOf name) ≡ false = ap (hasFlag words) (sym e) ∙ sym is ∙ not-true b h in
       let i = index-start c starts k name ∙ none-from-hash g k 0 (omega arith) in
       sym (le-ltb k k (omega arith)) ∙ named-index c starts k long name k (sym i)
 
-pub hashed-none : (c starts : List ℕ) (hashes : List Bool) → length hashes ≡ 1024 → Hashed c starts 0 hashes
-hashed-none c starts hashes long = record { long = long; each = λ j h. absurd (omega arith) }
+pub hashed-none : (c starts words : List ℕ) → length words ≡ 32 → Hashed c starts 0 words
+hashed-none c starts words long = record { long = long; each = λ j h. absurd (omega arith) }
 
 -- descriptors of one more block
-pub descriptors-snoc : (c : List ℕ) (ps : List ℕ) (p : ℕ) → descriptorsAt c (ps ++ (p ∷ [])) ≡ descriptorsAt c ps ++ (descriptorAt c p ∷ [])
+descriptors-snoc : (c : List ℕ) (ps : List ℕ) (p : ℕ) → descriptorsAt c (ps ++ (p ∷ [])) ≡ descriptorsAt c ps ++ (descriptorAt c p ∷ [])
 unfolding descriptorsAt
 descriptors-snoc c [] p = refl
 descriptors-snoc c (q ∷ ps) p = rw (descriptors-snoc c ps p)
@@ -64,13 +65,17 @@ unfolding ends
 length-ends [] = refl
 length-ends (d ∷ ds) = ap suc (length-ends ds)
 
-pub starts-snoc : (ds : List Descriptor) (d : Descriptor) (k : ℕ) → length ds ≡ k → k < 256 → set (startsOf ds) (k + 1) (d .beta .0) ≡ startsOf (ds ++ (d ∷ []))
+starts-snoc : (starts : List ℕ) (ds : List Descriptor) (d : Descriptor) (k : ℕ) → k + 1 < length starts → take (suc k) starts ≡ startsOf ds
+    → take (k + 1 + 1) (set starts (k + 1) (d .beta .0)) ≡ startsOf (ds ++ (d ∷ []))
 unfolding startsOf
-starts-snoc ds d k e h =
-    let m : ℕ = 256 - length (ds ++ (d ∷ [])) in
-    let f : 256 - length ds ≡ suc m = omega (arith, length-append ds (d ∷ [])) in
-    rw (add-one, ends-snoc, f)
-    (ap (λ (t : List ℕ). 0 ∷ t) (set-at (ends ds) 0 (replicate m 0) (d .beta .0) k (length-ends ds ∙ e) ∙ sym (append-snoc (ends ds) (d .beta .0) (replicate m 0))))
+starts-snoc starts ds d k h so-far =
+    let starts′ = set starts (k + 1) (d .beta .0) in
+    let one : k + 1 ≡ suc k = omega arith in
+    let two : k + 1 + 1 ≡ suc (k + 1) = omega arith in
+    ap (λ (n : ℕ). take n starts′) two
+    ∙ take-suc starts′ (k + 1) 0 (omega (arith, length-set starts (k + 1) (d .beta .0)))
+    ∙ rw (take-set-le (k + 1) starts (k + 1) (d .beta .0) (omega arith), getD-set-same starts (k + 1) (d .beta .0) 0 h, ends-snoc)
+    (ap (λ (l : List ℕ). l ++ (d .beta .0 ∷ [])) (ap (λ (n : ℕ). take n starts) one ∙ so-far))
 
 -- what a region test gives: its length, its end and its link
 module _ (first : Descriptor) (n p : ℕ) (d : Descriptor) (ok : regionOk first n p d ≡ true) where
@@ -126,19 +131,19 @@ region-none : (first d : Descriptor) (p : ℕ) (t : Bool) → regionOk first 0 p
 region-none first d p true e = absurd (omega (arith, region-long first 0 p d e, region-end first 0 p d e, cost-least (d .layout) (d .volume)))
 region-none first d p false e = refl
 
-none-from : (c : List ℕ) (n f : ℕ) → n ≡ 0 → blockCount c ≡ n → chainFrom c (suc f) [] 0 ≡ Unsound 0
-unfolding chainFrom sound
-none-from c n f h e =
-    let z = region-none (descriptorAt c 0) (descriptorAt c 0) 0 (regionOk (descriptorAt c 0) 0 0 (descriptorAt c 0)) refl in
-    rw (e, h, z, and-false-mid (formOk c 0 (descriptorAt c 0)))
+-- what the walk in code gives: whether the chain is sound, the place and how many and, where it is sound, the starts in one place more
+abbrev pub Gives : Chain → Walk → List ℕ → Type 0
+Gives ch r starts = (r ≡ walkOf ch) × (r .sound ≡ true → take (r .count + 1) starts ≡ startsOf (descriptors ch))
 
-pub walk-none : (c : List ℕ) → length c / 512 ≡ 0 → (r : Regions) → r ≡ regionsOf (Unsound 0) → r ≡ regionsOf (chain c)
-unfolding chain blockCount
-walk-none c h r e = e ∙ sym (ap regionsOf (none-from c (length c / 512) 255 h refl))
+pub gives-fault : (ch : Chain) (p : ℕ) → ch ≡ Unsound p → (r : Walk) → r ≡ walkOf (Unsound p) → (starts : List ℕ) → Gives ch r starts
+unfolding walkOf regionsOf
+gives-fault ch p is r e starts =
+    (e ∙ sym (ap walkOf is), λ h. let f : false ≡ true = sym (ap (λ (x : Walk). x .sound) e) ∙ h in let z : _≡_ {A = ℕ} 0 1 = cc in absurd (omega arith))
 
-regions-equal : (d e : Descriptor) (a b : ℕ) (x y : List ℕ) → d ≡ e → a ≡ b → x ≡ y
-    → _≡_ {A = Regions} (record { sound = true; place = physical 0; active = d; count = a; starts = x }) (record { sound = true; place = physical 0; active = e; count = b; starts = y })
-regions-equal d e a b x y o p q = rw (o, p, q)
+gives-sound : (ch : Chain) (ds : List Descriptor) → ch ≡ Sound ds → (n : ℕ) → n ≡ length ds → (starts : List ℕ) → take (n + 1) starts ≡ startsOf ds
+    → Gives ch (record { sound = true; place = physical 0; count = n }) starts
+unfolding walkOf regionsOf descriptors
+gives-sound ch ds is n count starts e = (rw count (sym (ap walkOf is)), λ h. e ∙ ap startsOf (sym (ap descriptors is)))
 
 -- a sound chain, and its descriptors
 pub is-sound : (c : List ℕ) (ds : List Descriptor) → chain c ≡ Sound ds → chainSound (chain c) ≡ true
@@ -162,41 +167,38 @@ pub record Walked (c starts : List ℕ) (p k : ℕ) : Type 0 where
   pub long : length starts ≡ 257
   pub here : getD starts k 0 ≡ p
   pub inside : (j : ℕ) → j ≤ k → 512 * getD starts j 0 + 512 ≤ length c
-  pub so-far : starts ≡ startsOf (descriptorsAt c (take k starts))
+  pub so-far : take (suc k) starts ≡ startsOf (descriptorsAt c (take k starts))
   pub rest : chain c ≡ chainFrom c (256 - k) (descriptorsAt c (take k starts)) p
 
-pub walked-none : (c : List ℕ) → (length c / 512 ≡ 0 → ⊥) → Walked c (replicate 257 0) 0 0
+pub walked-none : (c starts : List ℕ) → (length c / 512 ≡ 0 → ⊥) → length starts ≡ 257 → getD starts 0 0 ≡ 0 → Walked c starts 0 0
 unfolding chain startsOf ends descriptorsAt
-walked-none c h =
+walked-none c starts h long zeroth =
     record {
       few = omega arith;
-      long = refl;
-      here = refl;
-      inside = λ j l. let e : j ≡ 0 = omega arith in rw e (omega (arith, h));
-      so-far = refl;
+      long = long;
+      here = zeroth;
+      inside = λ j l. let e : j ≡ 0 = omega arith in rw (e, zeroth) (omega (arith, h));
+      so-far = take-suc starts 0 0 (omega (arith, long)) ∙ rw zeroth;
       rest = refl;
     }
 
 -- one more name passed
-pub hashed-more : (c starts : List ℕ) (k : ℕ) (hashes : List Bool) → Hashed c starts k hashes → (name : List ℕ) → name ≡ descriptorAt c (getD starts k 0) .name → (hash : ℕ) → hash ≡ hashOf name → hash < 1024
-    → Hashed c starts (k + 1) (set hashes hash true)
-hashed-more c starts k hashes hashed name name-is hash hash-is low = record { long = length-set hashes hash true ∙ hashed .long; each = λ j h. each-by j h (ltb j k) refl }
+pub hashed-more : (c starts : List ℕ) (k : ℕ) (words : List ℕ) → Hashed c starts k words → (name : List ℕ) → name ≡ descriptorAt c (getD starts k 0) .name → (hash : ℕ) → hash ≡ hashOf name → hash < 1024
+    → (words′ : List ℕ) → words′ ≡ withFlag words hash → Hashed c starts (k + 1) words′
+unfolding withFlag
+hashed-more c starts k words hashed name name-is hash hash-is low words′ e =
+    record { long = ap length e ∙ length-set words (hash / 32) _ ∙ hashed .long; each = λ j h. ap (λ (w : List ℕ). hasFlag w (hashOf (descriptorAt c (getD starts j 0) .name))) e ∙ each-by j h (ltb j k) refl }
   where
-    kept : (x : ℕ) → (t : Bool) → eqb x hash ≡ t → getD hashes x false ≡ true → getD (set hashes hash true) x false ≡ true
-    kept x true e h = rw (eqb-true x hash e) (getD-set-same hashes hash true false (omega (arith, hashed .long)))
-    kept x false e h = getD-set-other hashes hash x true false (eqb-false x hash e) ∙ h
-
-    each-by : (j : ℕ) → j < k + 1 → (t : Bool) → ltb j k ≡ t → getD (set hashes hash true) (hashOf (descriptorAt c (getD starts j 0) .name)) false ≡ true
-    each-by j h true e = kept (hashOf (descriptorAt c (getD starts j 0) .name)) (eqb (hashOf (descriptorAt c (getD starts j 0) .name)) hash) refl (hashed .each j (ltb-true j k e))
-    each-by j h false e =
-        let q : j ≡ k = omega (arith, ltb-false j k e) in
+    each-by : (j : ℕ) → j < k + 1 → (t : Bool) → ltb j k ≡ t → hasFlag (withFlag words hash) (hashOf (descriptorAt c (getD starts j 0) .name)) ≡ true
+    each-by j h true t = flag-kept words hash (hashOf (descriptorAt c (getD starts j 0) .name)) (omega (arith, hashed .long)) (hashed .each j (ltb-true j k t))
+    each-by j h false t =
+        let q : j ≡ k = omega (arith, ltb-false j k t) in
         let at : descriptorAt c (getD starts j 0) .name ≡ name = ap (λ (x : ℕ). descriptorAt c (getD starts x 0) .name) q ∙ sym name-is in
-        ap (λ (x : List ℕ). getD (set hashes hash true) (hashOf x) false) at ∙ ap (λ (x : ℕ). getD (set hashes hash true) x false) (sym hash-is)
-        ∙ getD-set-same hashes hash true false (omega (arith, hashed .long))
+        ap (λ (x : List ℕ). hasFlag (withFlag words hash) (hashOf x)) at ∙ ap (hasFlag (withFlag words hash)) (sym hash-is) ∙ flag-set words hash (omega (arith, hashed .long))
 
 -- starts changed past those
-pub hashed-starts : (c starts : List ℕ) (k : ℕ) (hashes : List Bool) → Hashed c starts k hashes → (i v : ℕ) → k ≤ i → Hashed c (set starts i v) k hashes
-hashed-starts c starts k hashes hashed i v h = record { long = hashed .long; each = λ j l. rw (getD-set-other starts i j v 0 (omega arith)) (hashed .each j l) }
+pub hashed-starts : (c starts : List ℕ) (k : ℕ) (words : List ℕ) → Hashed c starts k words → (i v : ℕ) → k ≤ i → Hashed c (set starts i v) k words
+hashed-starts c starts k words hashed i v h = record { long = hashed .long; each = λ j l. rw (getD-set-other starts i j v 0 (omega arith)) (hashed .each j l) }
 
 module _ (c starts : List ℕ) (p k : ℕ) (w : Walked c starts p k) where
   abbrev ds : List Descriptor
@@ -217,9 +219,9 @@ module _ (c starts : List ℕ) (p k : ℕ) (w : Walked c starts p k) where
   walked-passed = (omega (arith, w .few, w .long), λ j h. w .inside j (omega arith))
 
   -- all 256 descriptors have passed
-  pub walk-out : 256 ≤ k → (r : Regions) → r ≡ regionsOf (Unsound p) → r ≡ regionsOf (chain c)
+  pub walk-out : 256 ≤ k → chain c ≡ Unsound p
   unfolding chainFrom
-  walk-out h r e = let z : 256 - k ≡ zero = omega arith in e ∙ sym (ap regionsOf (w .rest ∙ rw z))
+  walk-out h = let z : 256 - k ≡ zero = omega arith in w .rest ∙ rw z
 
   module _ (more : k < 256) (d : Descriptor) (is : d ≡ descriptorAt c p) (first : Descriptor) (first-is : first ≡ descriptorAt c 0) (n : ℕ) (count : n ≡ length c / 512) where
     one : 256 - k ≡ suc (256 - (k + 1))
@@ -230,12 +232,12 @@ module _ (c starts : List ℕ) (p k : ℕ) (w : Walked c starts p k) where
     walk-step = w .rest ∙ rw (one, is, first-is, count)
 
     module _ (b : Bool) (right : b ≡ (formOk c p d && regionOk first n p d)) where
-      pub walk-wrong : not b ≡ true → (r : Regions) → r ≡ regionsOf (Unsound p) → r ≡ regionsOf (chain c)
-      walk-wrong h r e = e ∙ sym (ap regionsOf (walk-step ∙ rw (← right, not-true b h)))
+      pub walk-wrong : not b ≡ true → chain c ≡ Unsound p
+      walk-wrong h = walk-step ∙ rw (← right, not-true b h)
 
       module _ (b-is : not b ≡ false) (m : Bool) (called : m ≡ named ds (d .name)) where
-        pub walk-repeated : m ≡ true → (r : Regions) → r ≡ regionsOf (Unsound p) → r ≡ regionsOf (chain c)
-        walk-repeated h r e = e ∙ sym (ap regionsOf (walk-step ∙ rw (← right, not-false b b-is, ← called, h)))
+        pub walk-repeated : m ≡ true → chain c ≡ Unsound p
+        walk-repeated h = walk-step ∙ rw (← right, not-false b b-is, ← called, h)
 
         module _ (fresh : m ≡ false) where
           walk-on : chain c ≡ pick (eqb (d .next .0) 0) (Sound (ds ++ (d ∷ []))) (chainFrom c (256 - (k + 1)) (ds ++ (d ∷ [])) (d .next .0))
@@ -256,15 +258,14 @@ module _ (c starts : List ℕ) (p k : ℕ) (w : Walked c starts p k) where
           ds-more : descriptorsAt c (take (k + 1) starts′) ≡ ds ++ (d ∷ [])
           ds-more = rw take-more (descriptors-snoc c (take k starts) p ∙ rw (← is))
 
-          starts-more : starts′ ≡ startsOf (ds ++ (d ∷ []))
-          starts-more = ap (λ (l : List ℕ). set l (k + 1) (d .beta .0)) (w .so-far) ∙ starts-snoc ds d k length-ds more
+          starts-more : take (k + 1 + 1) starts′ ≡ startsOf (ds ++ (d ∷ []))
+          starts-more = starts-snoc starts ds d k (omega (arith, w .long)) (w .so-far)
 
-          pub walk-end : d .next .0 ≡ 0 → _≡_ {A = Regions} (record { sound = true; place = physical 0; active = d; count = k + 1; starts = starts′ }) (regionsOf (chain c))
-          unfolding regionsOf
+          pub walk-end : d .next .0 ≡ 0 → Gives (chain c) (record { sound = true; place = physical 0; count = k + 1 }) starts′
           walk-end z =
-              let l : length (ds ++ (d ∷ [])) ≡ k + 1 = length-append ds (d ∷ []) ∙ ap (λ (x : ℕ). x + 1) length-ds in
+              let size : length (ds ++ (d ∷ [])) ≡ k + 1 = length-append ds (d ∷ []) ∙ ap (λ (x : ℕ). x + 1) length-ds in
               let last : pick (eqb (d .next .0) 0) (Sound (ds ++ (d ∷ []))) (chainFrom c (256 - (k + 1)) (ds ++ (d ∷ [])) (d .next .0)) ≡ Sound (ds ++ (d ∷ [])) = rw z in
-              regions-equal d (activeOf (ds ++ (d ∷ []))) (k + 1) (length (ds ++ (d ∷ []))) starts′ (startsOf (ds ++ (d ∷ []))) (sym (active-snoc ds d)) (sym l) starts-more ∙ sym (ap regionsOf (walk-on ∙ last))
+              gives-sound (chain c) (ds ++ (d ∷ [])) (walk-on ∙ last) (k + 1) (sym size) starts′ starts-more
 
           -- the next descriptor's block is on the card
           pub walked-next : (d .next .0 ≡ 0 → ⊥) → 512 * d .next .0 + 512 ≤ length c
@@ -279,7 +280,7 @@ module _ (c starts : List ℕ) (p k : ℕ) (w : Walked c starts p k) where
                 long = length-set starts (k + 1) (d .beta .0) ∙ w .long;
                 here = at-end;
                 inside = λ j l. inside-by j l at-end (walked-next z) (ltb j (k + 1)) refl;
-                so-far = rw ds-more starts-more;
+                so-far = rw (ds-more, ← starts-more) (let two : suc (k + 1) ≡ k + 1 + 1 = omega arith in ap (λ (n : ℕ). take n starts′) two);
                 rest = rw ds-more (walk-on ∙ rw (ne-eqb (d .next .0) 0 z));
               }
             where
@@ -288,29 +289,45 @@ module _ (c starts : List ℕ) (p k : ℕ) (w : Walked c starts p k) where
               inside-by j l e fits false t = let q : j ≡ k + 1 = omega (arith, ltb-false j (k + 1) t) in rw (q, e) fits
 
 -- the first descriptor: none has passed, so none has its name
-module _ (c : List ℕ) (some : length c / 512 ≡ 0 → ⊥) (d : Descriptor) (is : d ≡ descriptorAt c 0) (n : ℕ) (count : n ≡ length c / 512) where
-  pub first-wrong : (b : Bool) → b ≡ (formOk c 0 d && regionOk d n 0 d) → not b ≡ true → (r : Regions) → r ≡ regionsOf (Unsound 0) → r ≡ regionsOf (chain c)
-  first-wrong b right = walk-wrong c (replicate 257 0) 0 0 (walked-none c some) (omega arith) d is d is n count b right
+none-from : (c : List ℕ) (n f : ℕ) → n ≡ 0 → blockCount c ≡ n → chainFrom c (suc f) [] 0 ≡ Unsound 0
+unfolding chainFrom sound
+none-from c n f h e =
+    let z = region-none (descriptorAt c 0) (descriptorAt c 0) 0 (regionOk (descriptorAt c 0) 0 0 (descriptorAt c 0)) refl in
+    rw (e, h, z, and-false-mid (formOk c 0 (descriptorAt c 0)))
+
+pub walk-none : (c : List ℕ) → length c / 512 ≡ 0 → chain c ≡ Unsound 0
+unfolding chain blockCount
+walk-none c h = none-from c (length c / 512) 255 h refl
+
+module _ (c : List ℕ) (some : length c / 512 ≡ 0 → ⊥) (starts : List ℕ) (long : length starts ≡ 257) (d : Descriptor) (is : d ≡ descriptorAt c 0) (n : ℕ) (count : n ≡ length c / 512) where
+  -- number 0 is block 0
+  abbrev starts₀ : List ℕ
+  starts₀ = set starts 0 0
+
+  walked₀ : Walked c starts₀ 0 0
+  walked₀ = walked-none c starts₀ some (length-set starts 0 0 ∙ long) (getD-set-same starts 0 0 0 (omega (arith, long)))
+
+  pub first-wrong : (b : Bool) → b ≡ (formOk c 0 d && regionOk d n 0 d) → not b ≡ true → chain c ≡ Unsound 0
+  first-wrong b right = walk-wrong c starts₀ 0 0 walked₀ (omega arith) d is d is n count b right
 
   module _ (right : (formOk c 0 d && regionOk d n 0 d) ≡ true) where
-    not-named : false ≡ named (descriptorsAt c (take 0 (replicate 257 0))) (d .name)
+    not-named : false ≡ named (descriptorsAt c (take 0 starts₀)) (d .name)
     unfolding named indexOf descriptorsAt
     not-named = refl
 
-    pub first-end : d .next .0 ≡ 0 → regionsOf (Sound (d ∷ [])) ≡ regionsOf (chain c)
-    unfolding regionsOf activeOf ends startsOf
-    first-end = walk-end c (replicate 257 0) 0 0 (walked-none c some) (omega arith) d is d is n count true (sym right) refl false not-named refl
+    pub first-end : d .next .0 ≡ 0 → Gives (chain c) (record { sound = true; place = physical 0; count = 1 }) (set starts₀ 1 (d .beta .0))
+    first-end = walk-end c starts₀ 0 0 walked₀ (omega arith) d is d is n count true (sym right) refl false not-named refl
 
     pub first-next : (d .next .0 ≡ 0 → ⊥) → 512 * d .next .0 + 512 ≤ length c
-    first-next = walked-next c (replicate 257 0) 0 0 (walked-none c some) (omega arith) d is d is n count true (sym right) refl false not-named refl
+    first-next = walked-next c starts₀ 0 0 walked₀ (omega arith) d is d is n count true (sym right) refl false not-named refl
 
-    pub first-more : (d .next .0 ≡ 0 → ⊥) → Walked c (set (replicate 257 0) 1 (d .beta .0)) (d .next .0) 1
-    first-more = walked-more c (replicate 257 0) 0 0 (walked-none c some) (omega arith) d is d is n count true (sym right) refl false not-named refl
+    pub first-more : (d .next .0 ≡ 0 → ⊥) → Walked c (set starts₀ 1 (d .beta .0)) (d .next .0) 1
+    first-more = walked-more c starts₀ 0 0 walked₀ (omega arith) d is d is n count true (sym right) refl false not-named refl
 
   -- its name has its flag
-  pub first-hashed : (hashes : List Bool) → length hashes ≡ 1024 → (hash : ℕ) → hash ≡ hashOf (d .name) → hash < 1024 → Hashed c (set (replicate 257 0) 1 (d .beta .0)) 1 (set hashes hash true)
-  first-hashed hashes long hash hash-is low =
-      hashed-starts c (replicate 257 0) 1 (set hashes hash true) (hashed-more c (replicate 257 0) 0 hashes (hashed-none c (replicate 257 0) hashes long) (d .name) (walked-name c (replicate 257 0) 0 0 (walked-none c some) d is) hash hash-is low) 1 (d .beta .0) (omega arith)
+  pub first-hashed : (words : List ℕ) → length words ≡ 32 → (hash : ℕ) → hash ≡ hashOf (d .name) → hash < 1024 → (words′ : List ℕ) → words′ ≡ withFlag words hash → Hashed c (set starts₀ 1 (d .beta .0)) 1 words′
+  first-hashed words clear hash hash-is low words′ e =
+      hashed-starts c starts₀ 1 words′ (hashed-more c starts₀ 0 words (hashed-none c starts₀ words clear) (d .name) (walked-name c starts₀ 0 0 walked₀ d is) hash hash-is low words′ e) 1 (d .beta .0) (omega arith)
 
 -- the regions of a sound chain are sound
 pub regions-ok : (ch : Chain) → chainSound ch ≡ true → regionsOf ch .sound ≡ true

@@ -1,5 +1,6 @@
 -- Laws of the chain, which the proofs of the crates above cite.
 pub mod SoundLaws
+pub mod FlagLaws
 pub mod ChainLaws
 pub mod LinkedLaws
 pub mod StoredLaws

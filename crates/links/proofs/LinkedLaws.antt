@@ -5,17 +5,17 @@ use mathlib.Core.List.{List, [], _∷_, _++_}
 use Prim.Native.Nat.{ℕ, zero, suc, _+_, _*_, _-_, _/_, _≤_, _<_}
 use native.Mathlib.Numerals.{add-one}
 use native.Mathlib.Omega.{arith}
-use lib.ListN.{length, take, getD, replicate, List·getD-append, length-append, length-replicate}
-use lib.Seq.{append-snoc, take-append-le}
+use lib.ListN.{length, take, getD, length-append}
+use lib.Seq.{append-snoc}
 use lib.Dec.{eqb}
 use borrow.Author.Tests.{eq-eqb, ne-eqb, eqb-true, eqb-false}
 use Rattle.blocks.specs.Pick.{pick}
 use Rattle.blocks.specs.Bytes.{blockCount}
 use Rattle.blocks.specs.Descriptor.{physical, costOf, noDescriptor, descriptorAt}
-use Rattle.chains.specs.Chain.{activeOf, formOk, regionOk, named, sound, Chain, Unsound, Sound, descriptorsAt, chainFrom, chain, descriptors, ends, startsOf, regionsOf}
+use Rattle.chains.specs.Chain.{activeOf, formOk, regionOk, named, sound, Chain, Unsound, Sound, descriptorsAt, chainFrom, chain, descriptors, ends, startsOf, Regions, regionsOf, walkOf}
 use Rattle.blocks.specs.declared.numbers.Physical.{Physical}
 use Rattle.blocks.specs.declared.descriptor.Descriptor.{Descriptor}
-use Rattle.chains.specs.declared.chain.Regions.{Regions}
+use Rattle.chains.specs.declared.chain.Walk.{Walk}
 use Rattle.blocks.proofs.Tests.{and-left, and-right}
 use Rattle.links.proofs.ChainLaws.{region-layout, region-volume, region-alpha, region-long, region-end, region-next, length-ends}
 use Rattle.blocks.proofs.DescriptorLaws.{cost-least}
@@ -92,13 +92,13 @@ pub region-start-suc : (p : ℕ) (d : Descriptor) (ds : List Descriptor) (k : �
 unfolding regionStart ends
 region-start-suc p d ds k = refl
 
-pub region-start-listed : (ds : List Descriptor) (k : ℕ) → k ≤ length ds → getD (startsOf ds) k 0 ≡ regionStart 0 ds k
+pub region-start-listed : (ds : List Descriptor) (k : ℕ) → getD (startsOf ds) k 0 ≡ regionStart 0 ds k
 unfolding startsOf regionStart
-region-start-listed ds k h = List·getD-append (0 ∷ ends ds) (replicate (256 - length ds) 0) 0 k (omega (arith, length-ends ds))
+region-start-listed ds k = refl
 
 pub starts-long : (ds : List Descriptor) → length ds < length (startsOf ds)
 unfolding startsOf
-starts-long ds = rw (length-append (0 ∷ ends ds) (replicate (256 - length ds) 0)) (omega (arith, length-ends ds))
+starts-long ds = omega (arith, length-ends ds)
 
 -- the block after a region is where the next one starts
 module _ {c : List ℕ} where
@@ -169,6 +169,13 @@ regions-sound (Unsound p) active n starts e = let f : false ≡ true = ap (λ (r
 regions-sound (Sound ds) active n starts e =
     (refl, ap (λ (r : Regions). r .count) (sym e), ap (λ (r : Regions). r .starts) (sym e), ap (λ (r : Regions). r .active) (sym e))
 
+-- by what the walk in code gives where the chain has no fault
+pub walk-regions : (ch : Chain) (r : Walk) → r ≡ walkOf ch → r .sound ≡ true → (starts : List ℕ) → starts ≡ startsOf (descriptors ch)
+    → regionsOf ch ≡ record { sound = true; place = physical 0; active = activeOf (descriptors ch); count = r .count; starts = starts }
+unfolding walkOf regionsOf descriptors
+walk-regions (Unsound p) r e h starts is = let f : false ≡ true = sym (ap (λ (x : Walk). x .sound) e) ∙ h in let y : _≡_ {A = ℕ} 0 1 = cc in absurd (omega arith)
+walk-regions (Sound ds) r e h starts is = rw (e, is)
+
 -- the descriptors in the first blocks of the regions are the first of the chain
 module _ {c : List ℕ} where
   pub linked-take : {es : List Descriptor} {p : ℕ} {ds : List Descriptor} → Linked c es p ds → (n : ℕ) → n ≤ length ds → descriptorsAt c (take n (p ∷ ends ds)) ≡ take n ds
@@ -180,8 +187,7 @@ module _ {c : List ℕ} where
 
   pub starts-take : {ds : List Descriptor} → Linked c [] 0 ds → (n : ℕ) → n ≤ length ds → descriptorsAt c (take n (startsOf ds)) ≡ take n ds
   unfolding startsOf
-  starts-take {ds = ds} h n l =
-      ap (descriptorsAt c) (take-append-le n (0 ∷ ends ds) (replicate (256 - length ds) 0) (omega (arith, length-ends ds))) ∙ linked-take h n l
+  starts-take {ds = ds} h n l = linked-take h n l
 
   pub linked-some : {es : List Descriptor} {p : ℕ} {ds : List Descriptor} → Linked c es p ds → 0 < length ds
   linked-some (last is ok z) = omega arith
@@ -230,7 +236,7 @@ module _ (c : List ℕ) (active : Descriptor) (n : ℕ) (starts : List ℕ) (who
   linked = chain-linked c ds (regions-are .0)
 
   start-at : (k : ℕ) → k ≤ n → getD starts k 0 ≡ regionStart 0 ds k
-  start-at k h = rw (regions-are .2) (region-start-listed ds k (omega (arith, regions-are .1)))
+  start-at k h = rw (regions-are .2) (region-start-listed ds k)
 
   pub region-of : (k : ℕ) → k < n → RegionAt c (getD starts k 0) (getD starts (suc k) 0) (getD ds k noDescriptor)
   region-of k h = rw (start-at k (omega arith), start-at (suc k) (omega arith)) (linked-at linked k (omega (arith, regions-are .1)))
@@ -263,7 +269,7 @@ module _ (c : List ℕ) (active : Descriptor) (n : ℕ) (starts : List ℕ) (who
       (ap (λ (x : Descriptor). x .name) (r .is) ∙ sym named))
       ∙ r .is
 
--- a sound chain has at most 256 descriptors, so that its starts fill 257 places
+-- a sound chain has at most 256 descriptors
 few-by : (c : List ℕ) (f : ℕ) (es ds : List Descriptor) (d : Descriptor) (p : ℕ) (s z : Bool) (rest : Chain) → (rest ≡ Sound ds → length ds ≤ length (es ++ (d ∷ [])) + f)
     → pick s (pick z (Sound (es ++ (d ∷ []))) rest) (Unsound p) ≡ Sound ds → length ds ≤ length es + suc f
 few-by c f es ds d p true true rest more-of e = let q : es ++ (d ∷ []) ≡ ds = cc in omega (arith, length-append es (d ∷ []), ap length q)
@@ -280,11 +286,6 @@ walk-few c (suc f) es p ds e =
 pub chain-few : (c : List ℕ) (ds : List Descriptor) → chain c ≡ Sound ds → length ds ≤ 256
 unfolding chain
 chain-few c ds e = walk-few c 256 [] 0 ds e
-
-pub starts-full : (ds : List Descriptor) → length ds ≤ 256 → length (startsOf ds) ≡ 257
-unfolding startsOf
-starts-full ds h =
-    length-append (0 ∷ ends ds) (replicate (256 - length ds) 0) ∙ omega (arith, length-ends ds, length-replicate {A = ℕ} (256 - length ds) 0)
 
 -- the last region ends at the active beta
 pub end-from : (p : ℕ) (d : Descriptor) (ds : List Descriptor) → regionStart p (d ∷ ds) (length (d ∷ ds)) ≡ activeOf (d ∷ ds) .beta .0

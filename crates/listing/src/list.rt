@@ -2,6 +2,7 @@
 use admitting::area;
 use blocks::descriptor;
 use blocks::numbers::Physical;
+use blocks::sizes::STARTS_SIZE;
 use calls::answer::Answer;
 use calls::answer::Record;
 use calls::list::Filling;
@@ -14,7 +15,7 @@ ghost use Prim.Native.Nat.{ℕ, _+_, _*_, _≤_, _<_};
 ghost use lib.ListN.{length, getD};
 ghost use Rattle.calls.specs.Call.{Listing, Records};
 ghost use Rattle.calls.specs.Step.{step, done};
-ghost use Rattle.calls.specs.Listing.{fillingWith, fillingBy, planOf, recordBy, filled, recordCount};
+ghost use Rattle.calls.specs.Listing.{fillingWith, fillingBy, PlanFor, recordBy, filled, recordCount};
 ghost use Rattle.blocks.specs.Bytes.{blockSize};
 
 // What has this answer and fills so many records.
@@ -46,12 +47,12 @@ pub fn plan_filling(card: &[u8], sound: bool, place: Physical, count: usize, roo
 
 // What a listing into `room` records answers and fills, and where the regions start.
 fn make_plan(card: &[u8], room: usize) -> Plan
-    ensures { λ r. ⌜ ((records : List Record) → length records ≡ room → r ≡ planOf (now (card .entry)) records) ⌝ }
+    ensures { λ r. ⌜ ((records : List Record) → length records ≡ room → PlanFor (now (card .entry)) records r) ⌝ }
 {
-    let found = chain::walk_chain(card);
+    let mut starts = [0u32; STARTS_SIZE];
+    let found = chain::walk_chain(card, &mut starts);
     let f = plan_filling(card, found.sound, found.place, found.count, room);
     let answer = f.answer;
-    let starts = found.starts;
     Plan {
         answer,
         count: f.count,

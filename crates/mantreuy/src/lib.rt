@@ -4,11 +4,10 @@ use blocks::descriptor;
 use blocks::descriptor::Format;
 use blocks::numbers::Logical;
 use blocks::sizes::NAME_SIZE;
+use blocks::sizes::STARTS_SIZE;
 use boundary::argument;
 use boundary::record;
-use boundary::record::RECORD_SIZE;
 use checking::check;
-use listing::list;
 use names::name;
 use reading::read;
 use reams::ream;
@@ -122,12 +121,19 @@ pub extern "C" fn mantreuy_revert(card: &mut [u8], name: &[u8], place: &mut u32)
 pub extern "C" fn mantreuy_list(card: &[u8], records: &mut [u8], place: &mut u32) -> u32
     ensures { λ r. ⌜ record { answer = answer r (now (place .exit)); bytes = now (records .exit) } ≡ listingOf (now (card .entry)) (now (records .entry)) ⌝ }
 {
-    let found = chain::walk_chain(card);
-    let room = records.len() / RECORD_SIZE;
-    let f = list::plan_filling(card, found.sound, found.place, found.count, room);
-    record::fill_bytes(card, &found.starts, records, f.count);
-    *place = f.answer.place;
-    f.answer.number
+    let mut starts = [0u32; STARTS_SIZE];
+    let found = chain::walk_chain(card, &mut starts);
+    let count = found.count;
+    let listed = record::list_bytes(
+        card,
+        &starts[..count + 1],
+        found.sound,
+        found.place,
+        count,
+        records,
+    );
+    *place = listed.place;
+    listed.number
 }
 
 // Checks the card.

@@ -1,29 +1,33 @@
 // A read of one block.
 use admitting::area;
 use blocks::bytes;
+use blocks::descriptor;
 use blocks::descriptor::Descriptor;
 use blocks::numbers::Logical;
 use blocks::numbers::Physical;
 use blocks::sizes::BLOCK_SIZE;
 use blocks::sizes::NAME_SIZE;
+use blocks::sizes::STARTS_SIZE;
 use calls::answer;
 use calls::answer::Answer;
 use calls::answer::Target;
 use entries::find::Found;
 use finding::find;
-use indexing::index;
 use targets::target;
 use walking::chain;
 ghost use mathlib.Core.Path.{_≡_};
+ghost use mathlib.Core.Bool.{false, not, _&&_};
 ghost use Prim.Native.Nat.{_+_, _*_, _≤_, _<_};
 ghost use lib.ListN.{length};
 ghost use lib.Dec.{eqb};
 ghost use Rattle.blocks.specs.Pick.{pick};
 ghost use Rattle.blocks.specs.Bytes.{zeroBlock, blockAt, blockSize};
+ghost use Rattle.blocks.specs.Name.{isName};
 ghost use Rattle.chains.specs.Chain.{chain as chainOf, descriptors};
 ghost use Rattle.entries.specs.Through.{Through};
 ghost use Rattle.entries.specs.Entry.{find as finding};
 ghost use Rattle.calls.specs.Call.{Read, Block};
+ghost use Rattle.calls.specs.Parts.{isSnapshot, SoundCard};
 ghost use Rattle.calls.specs.Effect.{delivered};
 ghost use Rattle.calls.specs.Step.{step, done};
 
@@ -66,6 +70,31 @@ fn deliver(
     }
 }
 
+// Reads a block through the regions of a sound chain: the tests that follow that of the chain.
+fn read_through(
+    card: &[u8],
+    starts: &[u32],
+    count: usize,
+    target: Target,
+    name: [u8; NAME_SIZE],
+    l: Logical,
+    out: &mut [u8],
+) -> Answer
+    requires { ⌜ SoundCard (now card) count (now starts) × ((isSnapshot target && not (isName name)) ≡ false) × (length (now out) ≡ blockSize) ⌝ }
+    ensures { λ r. ⌜ done r (Block (now (out .exit))) (now (card .entry)) ≡ step (Read target name (l .0) (now (out .entry))) (now (card .entry)) ⌝ }
+{
+    let k = target::target_index(card, starts, count, target, name);
+    if k == count {
+        return answer::NO_SNAPSHOT;
+    }
+    let p = starts[k];
+    let d = descriptor::read_descriptor(card, Physical(p));
+    if d.volume <= l.0 {
+        return answer::PAST_THE_VOLUME;
+    }
+    deliver(card, starts, count, d, l, out)
+}
+
 // Reads a block of the active store, or of the snapshot that has the name.
 pub fn read(
     card: &[u8],
@@ -86,20 +115,12 @@ pub fn read(
     if out.len() != BLOCK_SIZE {
         return answer::BAD_BLOCK;
     }
-    let found = chain::walk_chain(card);
-    let count = found.count;
-    let active = found.active;
+    let mut starts = [0u32; STARTS_SIZE];
+    let found = chain::walk_chain(card, &mut starts);
     if !found.sound {
         let place = found.place.0;
         return Answer { number: 6, place };
     }
-    let k = target::target_index(card, &found.starts, count, target, name);
-    if k == count {
-        return answer::NO_SNAPSHOT;
-    }
-    if active.volume <= l.0 {
-        return answer::PAST_THE_VOLUME;
-    }
-    let d = index::descriptor_of(card, active, &found.starts, count, k);
-    deliver(card, &found.starts, count, d, l, out)
+    let count = found.count;
+    read_through(card, &starts[..count + 1], count, target, name, l, out)
 }

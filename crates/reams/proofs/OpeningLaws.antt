@@ -3,10 +3,10 @@ use mathlib.Core.Path.{_≡_, refl, sym, ap, _∙_}
 use mathlib.Core.List.{List, _++_}
 use Prim.Native.Nat.{ℕ, zero, suc, _+_, _*_, _-_, _≤_}
 use native.Mathlib.Omega.{arith}
-use lib.ListN.{length, take, drop, length-replicate, length-append, take-append-drop}
+use lib.ListN.{length, take, drop, length-replicate, take-append-drop}
 use lib.Seq.{take-append-seam, drop-append-seam, length-take-le}
 use Rattle.blocks.specs.Bytes.{splice, le32, zeroBlock, blockAt, storeBlock, storeAll}
-use Rattle.blocks.specs.Descriptor.{physical, headBytes, descriptorBlock, tailAt, firstTail, clearing, opening, costIn}
+use Rattle.blocks.specs.Descriptor.{physical, headBytes, descriptorBlock, tailAt, clearing, opening, costIn}
 use Rattle.blocks.specs.declared.descriptor.Descriptor.{Descriptor}
 use Rattle.blocks.specs.declared.descriptor.Format.{Format}
 use Rattle.blocks.proofs.ByteLaws.{splice-start, splice-past, put-stored, length-splice, length-le32}

@@ -4,6 +4,7 @@ use blocks::descriptor;
 use blocks::descriptor::Descriptor;
 use blocks::numbers::Physical;
 use blocks::sizes::NAME_SIZE;
+use blocks::sizes::STARTS_SIZE;
 use calls::answer;
 use calls::answer::Answer;
 use indexing::index;
@@ -11,12 +12,15 @@ use names::name;
 use regions::region;
 use walking::chain;
 ghost use mathlib.Core.Path.{_≡_};
+ghost use mathlib.Core.Bool.{true};
 ghost use mathlib.Core.List.{[]};
 ghost use Prim.Native.Nat.{_+_, _*_, _≤_, _<_};
 ghost use lib.ListN.{length};
 ghost use Rattle.blocks.specs.Bytes.{storeBlock, storeAll, blockSize};
+ghost use Rattle.blocks.specs.Name.{isName};
 ghost use Rattle.blocks.specs.Descriptor.{costOf, tailAt, descriptorBlock, reopening};
 ghost use Rattle.calls.specs.Call.{Revert, None};
+ghost use Rattle.calls.specs.Parts.{SoundCard};
 ghost use Rattle.calls.specs.Effect.{activatedOf};
 ghost use Rattle.calls.specs.Step.{step, done};
 
@@ -37,6 +41,29 @@ fn open_active(card: &mut [u8], d: Descriptor, name: [u8; NAME_SIZE])
     region::open_region(card, d.renamed(name).linked(Physical(0)), cost);
 }
 
+// Rolls the card of a sound chain back to the snapshot that has the name: the test that follows that of the chain.
+fn revert_through(card: &mut [u8], starts: &[u32], count: usize, name: [u8; NAME_SIZE]) -> Answer
+    requires { ⌜ SoundCard (now card) count (now starts) × (isName name ≡ true) ⌝ }
+    ensures { λ r. ⌜ done r None (now (card .exit)) ≡ step (Revert name) (now (card .entry)) ⌝ }
+{
+    let last = count - 1;
+    let k = index::index_of(card, starts, last, name);
+    if k == last {
+        return answer::NO_SNAPSHOT;
+    }
+    let p = starts[k];
+    let alpha = starts[last];
+    let d = descriptor::read_descriptor(card, Physical(p));
+    let active = descriptor::read_descriptor(card, Physical(alpha));
+    let current = active.name;
+    if descriptor::revision_at(card, Physical(0)) == 1 {
+        open_active(card, d, current);
+        return answer::ACCEPTED;
+    }
+    make_active(card, Physical(p), d, current);
+    answer::ACCEPTED
+}
+
 // Rolls the card back to the snapshot that has the name.
 pub fn revert(card: &mut [u8], name: [u8; NAME_SIZE]) -> Answer
     ensures { λ r. ⌜ done r None (now (card .exit)) ≡ step (Revert name) (now (card .entry)) ⌝ }
@@ -48,25 +75,12 @@ pub fn revert(card: &mut [u8], name: [u8; NAME_SIZE]) -> Answer
     if !name::is_name(name) {
         return answer::BAD_NAME;
     }
-    let found = chain::walk_chain(card);
-    let count = found.count;
-    let active = found.active;
+    let mut starts = [0u32; STARTS_SIZE];
+    let found = chain::walk_chain(card, &mut starts);
     if !found.sound {
         let place = found.place.0;
         return Answer { number: 6, place };
     }
-    let last = count - 1;
-    let k = index::index_of(card, &found.starts, last, name);
-    if k == last {
-        return answer::NO_SNAPSHOT;
-    }
-    let p = found.starts[k];
-    let d = index::descriptor_of(card, active, &found.starts, count, k);
-    let current = active.name;
-    if descriptor::revision_at(card, Physical(0)) == 1 {
-        open_active(card, d, current);
-        return answer::ACCEPTED;
-    }
-    make_active(card, Physical(p), d, current);
-    answer::ACCEPTED
+    let count = found.count;
+    revert_through(card, &starts[..count + 1], count, name)
 }

@@ -2,9 +2,11 @@
 use admitting::area;
 use blocks::descriptor;
 use blocks::descriptor::Descriptor;
+use blocks::numbers::Physical;
 use blocks::sizes::BLOCK_SIZE;
 use blocks::sizes::MOST_SNAPSHOTS;
 use blocks::sizes::NAME_SIZE;
+use blocks::sizes::STARTS_SIZE;
 use calls::answer;
 use calls::answer::Answer;
 use indexing::index;
@@ -12,11 +14,14 @@ use names::name;
 use regions::region;
 use walking::chain;
 ghost use mathlib.Core.Path.{_≡_};
+ghost use mathlib.Core.Bool.{true};
 ghost use Prim.Native.Nat.{_+_, _*_, _≤_, _<_};
 ghost use lib.ListN.{length};
 ghost use Rattle.blocks.specs.Bytes.{storeAll, blockSize};
+ghost use Rattle.blocks.specs.Name.{isName};
 ghost use Rattle.blocks.specs.Descriptor.{costOf};
 ghost use Rattle.calls.specs.Call.{Snap, None};
+ghost use Rattle.calls.specs.Parts.{SoundCard};
 ghost use Rattle.calls.specs.Effect.{snapping};
 ghost use Rattle.calls.specs.Step.{step, done};
 
@@ -32,6 +37,28 @@ fn take_snapshot(card: &mut [u8], d: Descriptor, cost: u32, name: [u8; NAME_SIZE
     descriptor::put_descriptor(card, alpha, closed);
 }
 
+// Freezes the active volume of a sound chain under the name: the tests that follow that of the chain.
+fn snap_through(card: &mut [u8], starts: &[u32], count: usize, name: [u8; NAME_SIZE]) -> Answer
+    requires { ⌜ SoundCard (now card) count (now starts) × (isName name ≡ true) ⌝ }
+    ensures { λ r. ⌜ done r None (now (card .exit)) ≡ step (Snap name) (now (card .entry)) ⌝ }
+{
+    if index::is_named(card, starts, count, name) {
+        return answer::NAME_IN_USE;
+    }
+    if MOST_SNAPSHOTS < count {
+        return answer::TOO_MANY_SNAPSHOTS;
+    }
+    let alpha = starts[count - 1];
+    let d = descriptor::read_descriptor(card, Physical(alpha));
+    let cost = descriptor::opening_cost(d.layout, d.volume);
+    let end = (d.beta.0 as usize) + (cost as usize);
+    if card.len() / BLOCK_SIZE < end {
+        return answer::NO_ROOM;
+    }
+    take_snapshot(card, d, cost, name);
+    answer::ACCEPTED
+}
+
 // Freezes the active volume under the name.
 pub fn snap(card: &mut [u8], name: [u8; NAME_SIZE]) -> Answer
     ensures { λ r. ⌜ done r None (now (card .exit)) ≡ step (Snap name) (now (card .entry)) ⌝ }
@@ -43,24 +70,12 @@ pub fn snap(card: &mut [u8], name: [u8; NAME_SIZE]) -> Answer
     if !name::is_name(name) {
         return answer::BAD_NAME;
     }
-    let found = chain::walk_chain(card);
-    let count = found.count;
+    let mut starts = [0u32; STARTS_SIZE];
+    let found = chain::walk_chain(card, &mut starts);
     if !found.sound {
         let place = found.place.0;
         return Answer { number: 6, place };
     }
-    if index::is_named(card, &found.starts, count, name) {
-        return answer::NAME_IN_USE;
-    }
-    if MOST_SNAPSHOTS < count {
-        return answer::TOO_MANY_SNAPSHOTS;
-    }
-    let d = found.active;
-    let cost = descriptor::opening_cost(d.layout, d.volume);
-    let end = (d.beta.0 as usize) + (cost as usize);
-    if card.len() / BLOCK_SIZE < end {
-        return answer::NO_ROOM;
-    }
-    take_snapshot(card, d, cost, name);
-    answer::ACCEPTED
+    let count = found.count;
+    snap_through(card, &starts[..count + 1], count, name)
 }

@@ -1,9 +1,11 @@
 // A write of one block to the active store.
 use admitting::area;
+use blocks::descriptor;
 use blocks::descriptor::Descriptor;
 use blocks::numbers::Logical;
 use blocks::numbers::Physical;
 use blocks::sizes::BLOCK_SIZE;
+use blocks::sizes::STARTS_SIZE;
 use calls::answer;
 use calls::answer::Answer;
 use entries::find::Found;
@@ -12,9 +14,12 @@ use needing::need;
 use placing::put;
 use walking::chain;
 ghost use mathlib.Core.Path.{_≡_};
+ghost use lib.ListN.{length};
+ghost use Rattle.blocks.specs.Bytes.{blockSize};
 ghost use Rattle.entries.specs.Entry.{need};
 ghost use Rattle.entries.specs.Through.{WriteReady};
 ghost use Rattle.calls.specs.Call.{Write, Block};
+ghost use Rattle.calls.specs.Parts.{SoundCard};
 ghost use Rattle.calls.specs.Effect.{written};
 ghost use Rattle.calls.specs.Step.{step, done};
 
@@ -39,6 +44,29 @@ fn write_found(
     answer::ACCEPTED
 }
 
+// Writes a block through the regions of a sound chain: the tests that follow that of the chain.
+fn write_through(card: &mut [u8], starts: &[u32], count: usize, l: Logical, block: &[u8]) -> Answer
+    requires { ⌜ SoundCard (now card) count (now starts) × (length (now block) ≡ blockSize) ⌝ }
+    ensures { λ r. ⌜ done r (Block (now (block .entry))) (now (card .exit)) ≡ step (Write (l .0) (now (block .entry))) (now (card .entry)) ⌝ }
+{
+    let last = count - 1;
+    let alpha = starts[last];
+    let d = descriptor::read_descriptor(card, Physical(alpha));
+    if d.volume <= l.0 {
+        return answer::PAST_THE_VOLUME;
+    }
+    let at = find::locate(card, starts, count, d, l);
+    let entry = at.found;
+    let taken = need::need(last, d.alpha, entry, at.owner);
+    match entry {
+        Found::Misplaced(h) => Answer {
+            number: 10,
+            place: h.0,
+        },
+        Found::Entry(m, p) => write_found(card, d, m, p, l, taken, &block[..BLOCK_SIZE]),
+    }
+}
+
 // Writes a block of the active store.
 pub fn write(card: &mut [u8], l: Logical, block: &[u8]) -> Answer
     ensures { λ r. ⌜ done r (Block (now (block .entry))) (now (card .exit)) ≡ step (Write (l .0) (now (block .entry))) (now (card .entry)) ⌝ }
@@ -50,24 +78,12 @@ pub fn write(card: &mut [u8], l: Logical, block: &[u8]) -> Answer
     if block.len() != BLOCK_SIZE {
         return answer::BAD_BLOCK;
     }
-    let found = chain::walk_chain(card);
-    let count = found.count;
+    let mut starts = [0u32; STARTS_SIZE];
+    let found = chain::walk_chain(card, &mut starts);
     if !found.sound {
         let place = found.place.0;
         return Answer { number: 6, place };
     }
-    let d = found.active;
-    if d.volume <= l.0 {
-        return answer::PAST_THE_VOLUME;
-    }
-    let at = find::locate(card, &found.starts, count, d, l);
-    let entry = at.found;
-    let taken = need::need(count - 1, d.alpha, entry, at.owner);
-    match entry {
-        Found::Misplaced(h) => Answer {
-            number: 10,
-            place: h.0,
-        },
-        Found::Entry(m, p) => write_found(card, d, m, p, l, taken, block),
-    }
+    let count = found.count;
+    write_through(card, &starts[..count + 1], count, l, block)
 }

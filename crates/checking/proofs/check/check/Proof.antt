@@ -1,15 +1,13 @@
--- `check` meets its contract, row by row.
+-- `check` meets its contract, row by row up to that of the chain.
 use mathlib.Core.Path.{refl}
-use Rattle.calls.specs.Meaning.{lentOf, filledOf, storesOf, givenOf}
-use Rattle.blocks.specs.Bytes.{storeAll}
-use Rattle.calls.proofs.StepLaws.{step-barred, step-refused, step-accepted}
-use Rattle.calls.proofs.CardLaws.{regions-whole}
-use lib.ListN.{drop}
-use Rattle.calls.specs.Call.{Check}
-use Rattle.calls.specs.Ladder.{checkRows}
-use Rattle.calls.proofs.RowLaws.{Reached}
-use Rattle.calls.proofs.CheckCardLaws.{check-reached, check-6, check-0, check-10}
+use native.Mathlib.Omega.{arith}
 use borrow.Author.Needs.{needs}
+use borrow.Author.Tests.{not-false}
+use Rattle.calls.specs.Meaning.{lentOf}
+use Rattle.calls.proofs.StepLaws.{step-barred, step-refused}
+use Rattle.calls.proofs.CardLaws.{walked-card, walk-few, walk-long}
+use Rattle.calls.proofs.RowLaws.{admitted-card}
+use Rattle.calls.proofs.CheckCardLaws.{check-6}
 use Rattle.checking.proofs.check.check.Statement.{statement}
 use Rattle.checking.proofs.check.check.Tie as tie
 
@@ -20,33 +18,36 @@ returns : tie.Need-returns
 unfolding lentOf
 returns c = step-barred _ _ _ (c .before .before .admit .ensures) (c .if1 .taken)
 
+slice-aggregate-walk-chain : tie.Need-slice-aggregate-walk-chain
+slice-aggregate-walk-chain c = search needs
+
 walk-chain-requires : tie.Need-walk-chain-requires
-walk-chain-requires c κs = search needs
+walk-chain-requires c κs = refl
 
 returns-2 : tie.Need-returns-2
 unfolding lentOf
 returns-2 c = step-refused _ _ _ _ (search check-6) refl
 
--- what the tests have shown where the chain is sound
-past-chain : (c : tie.Else2) → let s = c .before .before .before .before .before .before .before .args in Reached Check (s .card .now) (drop 1 (checkRows (s .card .now))) (c .before .before .walk-chain .result)
-past-chain c = check-reached _ _ (c .before .before .before .before .before .admit .ensures) (c .before .before .before .if1 .left) _ (c .before .before .walk-chain .ensures) (c .if2 .left)
+add-starts : tie.Need-add-starts
+add-starts c = omega (arith, walk-few _ _ (c .before .before .before .walk-chain .ensures .0))
 
-check-regions-requires : tie.Need-check-regions-requires
-check-regions-requires c κs = let past = past-chain (c .before .before .before) in (past .area, regions-whole _ _ (past .walked) (past .sound) .1)
+array-share-prefix-starts : tie.Need-array-share-prefix-starts
+array-share-prefix-starts c = omega (arith, walk-few _ _ (c .before .before .before .walk-chain .ensures .0))
 
-enum-told : tie.Need-enum-told
-enum-told c = search needs
+slice-aggregate-check-through : tie.Need-slice-aggregate-check-through
+slice-aggregate-check-through c =
+    let w = c .before .before .before .before .walk-chain .ensures in
+    let whole = c .before .if2 .left in
+    walk-long _ _ (w .0) whole _ (w .1 (not-false _ whole))
 
-enum-known-h : tie.Need-enum-known-h
-enum-known-h c = search needs
+check-through-requires : tie.Need-check-through-requires
+check-through-requires c κs =
+    let w = c .before .before .before .before .walk-chain .ensures in
+    let whole = c .before .if2 .left in
+    walked-card _ (admitted-card _ _ (c .before .before .before .before .before .before .before .before .admit .ensures) (c .before .before .before .before .before .before .if1 .left)) _ (w .0) whole _ (w .1 (not-false _ whole))
 
 returns-3 : tie.Need-returns-3
-unfolding filledOf storesOf storeAll givenOf
-returns-3 c = step-accepted _ _ (check-0 _ _ (past-chain (c .before .before .before .before .before .before)) _ (c .before .before .check-regions .ensures) (cc)) _ refl _ refl refl
-
-returns-4 : tie.Need-returns-4
-unfolding lentOf
-returns-4 c = step-refused _ _ _ _ (check-10 _ _ (past-chain (c .before .before .before .before .before .before .before)) _ (c .before .before .before .check-regions .ensures) _ (cc)) refl
+returns-3 c = c .check-through .ensures
 
 pub check-spec : {M : Type 1} → statement M
 check-spec =
@@ -54,10 +55,11 @@ check-spec =
     (tie.spec
     admit-requires
     returns
+    slice-aggregate-walk-chain
     walk-chain-requires
     returns-2
-    check-regions-requires
-    enum-told
-    enum-known-h
-    returns-3
-    returns-4)
+    add-starts
+    array-share-prefix-starts
+    slice-aggregate-check-through
+    check-through-requires
+    returns-3)

@@ -12,7 +12,7 @@ slice-aggregate-check-chain c = search needs
 check-chain-requires : tie.Need-check-chain-requires
 check-chain-requires c κs =
     let s = c .before .before .before in
-    (s .pre .0, s .pre .1, zeros-at 65536, omega (arith, card-small _ (s .pre .0)))
+    (s .pre, zeros-at 65536, omega (arith, card-small _ (s .pre .area)))
 
 returns : tie.Need-returns
 returns c = search needs

@@ -11,7 +11,7 @@ slice-aggregate-check-chain c = search needs
 check-chain-requires : tie.Need-check-chain-requires
 check-chain-requires c κs =
     let s = c .before .before .before in
-    (s .pre .0, s .pre .1, zeros-at 2048, omega arith)
+    (s .pre .0, zeros-at 2048, omega arith)
 
 returns : tie.Need-returns
 returns c = search needs

@@ -47,7 +47,7 @@ use base.Logic.{emp, via, fst∗}
 use denote.Exit.{yes}
 use Rattle.calls.specs.Call.{Listing, Records}
 use Rattle.calls.specs.Step.{Done, step, done as doneOf}
-use Rattle.calls.specs.Listing.{planOf, filled}
+use Rattle.calls.specs.Listing.{PlanFor, filled}
 use Rattle.calls.specs.declared.answer.Record.{Record}
 use Rattle.calls.specs.declared.answer.Answer.{Answer}
 use Rattle.calls.specs.declared.list.Plan.{Plan}
@@ -82,7 +82,7 @@ svals = array-vals (uint-vals w32)
 
 -- what `make_plan` ensures for a room of n records
 abbrev Planned : List ℕ → ℕ → Plan → Type 0
-Planned c n r = (records : List Record) → length records ≡ n → r ≡ planOf c records
+Planned c n r = (records : List Record) → length records ≡ n → PlanFor c records r
 
 abbrev stayed : Stays (list.ended .signature .params) (list.ended .kept)
 stayed = (stay-none-slice (0 ∷ []) tt (plain (λ _. u8)) yes, (gave-slice (1 ∷ []) tt (plain (λ _. R)), tt))
@@ -255,7 +255,7 @@ module _ {M : Type 1} (𝓤 : URA M) (H : Heap 𝓤) (A : Atoms 𝓤) (W : Given
         move ! (24 ∷ 25 ∷ []) $ free1 ! $ move ! (22 ∷ 23 ∷ []) $ free1 ! $ move ! (20 ∷ 21 ∷ []) $ free1 ! $ move ! (18 ∷ 19 ∷ []) $ free1 ! $ move ! (0 ∷ 17 ∷ []) $ free1 ! $
         move ! (14 ∷ 15 ∷ []) $ free1 ! $ move ! (12 ∷ 13 ∷ []) $ free1 ! $ move ! (10 ∷ 11 ∷ []) $ free1 ! $ move ! (8 ∷ 9 ∷ []) $ free1 ! $ move ! (6 ∷ 7 ∷ []) $ free1 ! $ move ! (4 ∷ 5 ∷ []) $ free1 ! $ free0 ! $
         move ! (1 ∷ 0 ∷ []) $ join ! $
-        by ! (exits l (r .answer) _ (fields .0) len (plan-done (now x) ys l r (e ys refl) e₁)))))))))))))))))))))))))))
+        by ! (exits l (r .answer) _ (fields .0) len (plan-done (now x) ys r (e ys refl) l e₁)))))))))))))))))))))))))))
 
 module _ {M : Type 1} (𝓤 : URA M) (H : Heap 𝓤) (A : Atoms 𝓤) (W : Given 𝓤 H A) (mem : Memory → SProp 𝓤) (run : Routine → Fun 𝓤) where
   list-walks : (C : Calls 𝓤 H) (Λ : Loops 𝓤 H) → FmC 𝓤 H (W .laws) C → Triple 𝓤 (C #listing·make-plan) (MakePlan 𝓤 H A mem run) → Triple 𝓤 (C #listing·fill) (Fill 𝓤 H A mem run)

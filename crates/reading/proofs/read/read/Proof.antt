@@ -1,14 +1,13 @@
--- `read` meets its contract, row by row.
-use mathlib.Core.Path.{refl}
+-- `read` meets its contract, row by row up to that of the chain.
+use mathlib.Core.Path.{refl, sym, _∙_}
+use native.Mathlib.Omega.{arith}
 use borrow.Author.Needs.{needs}
-use lib.ListN.{drop}
-use Rattle.calls.specs.Call.{Read}
-use Rattle.calls.specs.Ladder.{entryRows}
+use borrow.Author.Tests.{not-false}
 use Rattle.calls.specs.Meaning.{lentOf}
 use Rattle.calls.proofs.StepLaws.{step-barred, step-refused}
-use Rattle.calls.proofs.CardLaws.{card-some, card-inside, card-long, card-through, card-whole}
-use Rattle.calls.proofs.RowLaws.{Reached}
-use Rattle.calls.proofs.ReadLaws.{read-reached, read-4, read-9, read-6, entry-7, entry-8, entry-below, entry-rest, target-is, read-done, index-inside}
+use Rattle.calls.proofs.CardLaws.{walked-card, walk-few, walk-long}
+use Rattle.calls.proofs.RowLaws.{admitted-card}
+use Rattle.calls.proofs.ReadLaws.{read-4, read-9, read-6}
 use Rattle.reading.proofs.read.read.Statement.{statement}
 use Rattle.reading.proofs.read.read.Tie as tie
 
@@ -30,64 +29,39 @@ returns-3 : tie.Need-returns-3
 unfolding lentOf
 returns-3 c = step-refused _ _ _ _ (search read-9) refl
 
+slice-aggregate-walk-chain : tie.Need-slice-aggregate-walk-chain
+slice-aggregate-walk-chain c = search needs
+
 walk-chain-requires : tie.Need-walk-chain-requires
-walk-chain-requires c κs = search needs
+walk-chain-requires c κs = refl
 
 returns-4 : tie.Need-returns-4
 unfolding lentOf
 returns-4 c = step-refused _ _ _ _ (search read-6) refl
 
--- what the tests have shown where the chain is sound
-past-chain : (c : tie.Else4) → let s = c .before .before .before .before .before .before .before .before .before .before .before .args in
-    Reached (Read (s .target) (s .name) (s .l .0) (s .out .now)) (s .card .now) (drop 1 (entryRows (s .card .now) (s .target) (s .name) (s .l .0))) (c .before .before .walk-chain .result)
-past-chain c =
-    let w = c .before .before in
-    let u = w .before .before in
-    read-reached _ _ _ _ _ _ (u .before .before .before .before .admit .ensures) (u .before .before .if1 .left) _ (u .before .is-unnamed .ensures) (u .if2 .left) (w .before .if3 .left) _ (w .walk-chain .ensures) (c .if4 .left)
+add-starts : tie.Need-add-starts
+add-starts c = omega (arith, walk-few _ _ (c .before .before .before .walk-chain .ensures .0))
 
-target-index-requires : tie.Need-target-index-requires
-target-index-requires c κs =
-    let past = past-chain (c .before .before .before) in
-    (card-some _ _ (past .walked) (past .area) (past .sound), card-long _ _ (past .walked) (past .area) (past .sound), λ j h. card-inside _ _ (past .walked) (past .area) (past .sound) j h)
+array-share-prefix-starts : tie.Need-array-share-prefix-starts
+array-share-prefix-starts c = omega (arith, walk-few _ _ (c .before .before .before .walk-chain .ensures .0))
 
-returns-5 : tie.Need-returns-5
-unfolding lentOf
-returns-5 c =
-    step-refused _ _ _ _ (entry-7 _ _ _ _ _ _ (past-chain (c .before .before .before .before .before)) _ (c .before .target-index .ensures) (c .if5 .taken)) refl
+slice-aggregate-read-through : tie.Need-slice-aggregate-read-through
+slice-aggregate-read-through c =
+    let w = c .before .before .before .before .walk-chain .ensures in
+    let whole = c .before .if4 .left in
+    walk-long _ _ (w .0) whole _ (w .1 (not-false _ whole))
 
-returns-6 : tie.Need-returns-6
-unfolding lentOf
-returns-6 c =
-    step-refused _ _ _ _ (entry-8 _ _ _ _ _ _ (past-chain (c .before .before .before .before .before .before .before .before)) _ (c .before .before .before .before .target-index .ensures) (c .before .before .before .if5 .left) (c .if6 .taken)) refl
-
-descriptor-of-requires : tie.Need-descriptor-of-requires
-descriptor-of-requires c κs =
-    let t = c .before .before .before .before .before .before in
-    let past = past-chain (t .before .before .before .before .before) in
-    (card-whole _ _ (past .walked) (past .area) (past .sound), index-inside _ _ _ _ _ _ past _ (t .before .target-index .ensures) (t .if5 .left))
-
-deliver-requires : tie.Need-deliver-requires
-deliver-requires c κs =
-    let t = c .before .before .before .before .before .before .before .before .before .before .before in
-    let past = past-chain (t .before .before .before .before .before) in
-    let d = c .before .before .before .before .descriptor-of .ensures in
-    let k = index-inside _ _ _ _ _ _ past _ (t .before .target-index .ensures) (t .if5 .left) in (
-      card-through _ _ (past .walked) (past .area) (past .sound) _ k _ d,
-      entry-below _ _ _ _ _ _ past _ (t .before .target-index .ensures) (t .if5 .left) (c .before .before .before .before .before .before .before .before .if6 .left) _ d,
-      t .before .before .before .before .before .before .before .before .if3 .left,
-    )
+read-through-requires : tie.Need-read-through-requires
+read-through-requires c κs =
+    let w = c .before .before .before .before .before .walk-chain .ensures in
+    let whole = c .before .before .if4 .left in
+    (walked-card _ (admitted-card _ _ (c .before .before .before .before .before .before .before .before .before .before .before .before .admit .ensures) (c .before .before .before .before .before .before .before .before .before .before .if1 .left)) _ (w .0) whole _ (w .1 (not-false _ whole)), sym (c .before .before .before .before .before .before .before .before .before .is-unnamed .ensures) ∙ c .before .before .before .before .before .before .before .before .if2 .left, c .before .before .before .before .before .before .before .if3 .left)
 
 same-length : tie.Need-same-length
 same-length c = search needs
 
-returns-7 : tie.Need-returns-7
-returns-7 c =
-    let t = c .before .before .before .before .before .before .before .before .before .before .before .before .before .before in
-    let past = past-chain (t .before .before .before .before .before) in
-    let below = c .before .before .before .before .before .before .before .before .before .before .before .if6 .left in
-    let d = c .before .before .before .before .before .before .before .descriptor-of .ensures in
-    let k = t .before .target-index .ensures in
-    read-done _ _ _ _ _ _ (target-is _ _ _ _ _ _ past _ k (t .if5 .left) below _ d) (entry-rest _ _ _ _ _ _ past _ k (t .if5 .left) below _ d) _ _ (c .before .before .deliver .ensures)
+returns-5 : tie.Need-returns-5
+returns-5 c = c .before .before .read-through .ensures
 
 pub read-spec : {M : Type 1} → statement M
 read-spec =
@@ -98,12 +72,12 @@ read-spec =
     is-unnamed-requires
     returns-2
     returns-3
+    slice-aggregate-walk-chain
     walk-chain-requires
     returns-4
-    target-index-requires
-    returns-5
-    returns-6
-    descriptor-of-requires
-    deliver-requires
+    add-starts
+    array-share-prefix-starts
+    slice-aggregate-read-through
+    read-through-requires
     same-length
-    returns-7)
+    returns-5)
