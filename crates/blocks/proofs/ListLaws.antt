@@ -1,6 +1,6 @@
--- Laws of `same`, `allZero`, `nameLength`, `nameOrZero` and `zerosLast` with i of the elements passed, as a loop over a slice asks them.
+-- Laws of `same`, `allZero`, `nameLength` and `nameOrZero` with i of the elements passed, as a loop over a slice asks them.
 use mathlib.Core.Path.{_≡_, refl, sym, ap, _∙_}
-use mathlib.Core.Bool.{Bool, true, false, not, _&&_, _||_}
+use mathlib.Core.Bool.{Bool, true, false, _&&_, _||_}
 use mathlib.Core.List.{List, [], _∷_}
 use Prim.Native.Nat.{ℕ, suc, _+_, _*_, _≤_, _<_}
 use native.Mathlib.Numerals.{add-one}
@@ -11,7 +11,7 @@ use lib.Dec.{eqb}
 use borrow.Author.Tests.{eq-eqb, ne-eqb, eqb-true, eqb-false}
 use Rattle.blocks.specs.Pick.{same, allZero}
 use Rattle.blocks.specs.Bytes.{u32At, u64At, part}
-use Rattle.blocks.specs.Name.{nameByte, nameLength, nameOrZero, zerosLast}
+use Rattle.blocks.specs.Name.{nameByte, nameLength, nameOrZero}
 use Rattle.blocks.proofs.Tests.{and-left, and-right}
 
 -- what is left to compare from index i
@@ -197,27 +197,3 @@ module _ (a : List ℕ) where
   unfolding nameOrZero nameOrZeroFrom
   name-or-zero-last i true h q = sym (q ∙ rw (drop-of-length-le a h))
   name-or-zero-last i false h q = sym q
-
--- what is left to have only zeros after a zero from index i
-unfoldable pub zerosLastFrom : List ℕ → ℕ → Bool
-zerosLastFrom a i = zerosLast (drop i a)
-
-module _ (a : List ℕ) where
-  pub zeros-last-start : zerosLast a ≡ zerosLastFrom a 0
-  unfolding zerosLastFrom
-  zeros-last-start = refl
-
-  zeros-last-step : (i : ℕ) → i + 1 < length a → zerosLastFrom a i ≡ ((not (eqb (getD a i 0) 0) || eqb (getD a (i + 1) 0) 0) && zerosLastFrom a (i + 1))
-  unfolding zerosLast zerosLastFrom
-  zeros-last-step i h = rw (add-one, drop-cons a i 0 (omega arith), drop-cons a (suc i) 0 (omega arith))
-
-  pub zeros-last-next : (i : ℕ) (z r : Bool) → i + 1 < length a → r ≡ (z && (not (eqb (getD a i 0) 0) || eqb (getD a (i + 1) 0) 0)) → zerosLast a ≡ (z && zerosLastFrom a i) → zerosLast a ≡ (r && zerosLastFrom a (i + 1))
-  zeros-last-next i true r h e q = q ∙ zeros-last-step i h ∙ rw e
-  zeros-last-next i false r h e q = q ∙ rw e
-
-  pub zeros-last-last : (i : ℕ) (z : Bool) → length a ≡ i + 1 → zerosLast a ≡ (z && zerosLastFrom a i) → z ≡ zerosLast a
-  unfolding zerosLast zerosLastFrom
-  zeros-last-last i true h q =
-      let past : length a ≤ suc i = omega arith in
-      sym (q ∙ rw (drop-cons a i 0 (omega arith), drop-of-length-le a past))
-  zeros-last-last i false h q = sym q

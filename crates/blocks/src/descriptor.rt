@@ -80,8 +80,8 @@ impl Descriptor {
         d
     }
 
-    // The descriptor of a region that opens at this one's beta. It is made field by field: of a descriptor copied whole the compiler reads layout and L as one
-    // number, and waits for the two stores of a caller that has just made it.
+    // The descriptor of a region that opens at this one's beta. It is made field by field: of a descriptor copied whole the compiled code reads layout and L as
+    // one number, which must wait for the two stores of a caller that has just made it.
     pub fn reopened(self) -> Descriptor
         requires { ⌜ self .beta .0 + costOf self < 2 ^ 32 ⌝ }
         ensures { λ r. ⌜ r ≡ reopenedOf self ⌝ }

@@ -28,7 +28,7 @@ fn put_record_bytes(area: &mut [u8], at: usize, r: Record)
 }
 
 // The first `n` records are now those of the `n` regions.
-pub fn fill_bytes(card: &[u8], starts: &[u32], area: &mut [u8], n: usize)
+fn fill_bytes(card: &[u8], starts: &[u32], area: &mut [u8], n: usize)
     requires { ⌜ (recordSize * n ≤ length (now area)) × (n < length (now starts)) × ((j : ℕ) → j < n → blockSize * getD (now starts) j 0 + blockSize ≤ length (now card)) ⌝ }
     ensures { λ _. ⌜ now (area .exit) ≡ filledBytes (now (card .entry)) (now (starts .entry)) (now (area .entry)) n ⌝ }
 {

@@ -37,7 +37,7 @@ fillingBy c sound place count room =
     let a = firstRow (admission c) in
     pick (isAccepted a) (pick sound (pick (ltb room count) (fillingWith 14 0 0) (fillingWith 0 0 count)) (fillingWith 6 place 0)) (fillingWith (a .number) (a .place) 0)
 
--- a plan for the records: the listing's answer, how many it fills and, where it is accepted, where the regions start, in one place more than that
+-- a plan for the records: the listing's answer, how many it fills and, where it is accepted, where the regions start, in one place more than that; there is at least one place
 pub record PlanFor (c : List ℕ) (records : List Record) (plan : Plan) : Type 0 where
   pub filling : record { answer = plan .answer; count = plan .count } ≡ fillingOf c records
   pub starts-are : isAccepted (plan .answer) ≡ true → take (plan .count + 1) (plan .starts) ≡ startsOf (descriptorsOf c)

@@ -11,7 +11,7 @@ pub struct Filling {
     pub count: usize,
 }
 
-// The same, and where the regions start, in the first places.
+// The same, and where the regions start, in the first places: of a refused listing these say nothing.
 pub struct Plan {
     pub answer: Answer,
     pub count: usize,

@@ -6,12 +6,12 @@ use Prim.Native.Nat.{ℕ, _/_, _%_, _^_, _<_}
 use lib.ListN.{length, getD, set}
 use lib.Bits.{bitOr}
 use lib.Dec.{eqb}
-use Rattle.blocks.specs.Name.{hashOf}
+use Rattle.blocks.specs.Name.{hashCount, hashOf}
 use Rattle.blocks.specs.Descriptor.{descriptorAt}
 
 -- how many words of 32 bits hold a flag for each hash of a name
 abbrev pub flagWords : ℕ
-flagWords = 32
+flagWords = hashCount / 32
 
 -- whether flag h is set, and the words with it set
 unfoldable pub hasFlag : List ℕ → ℕ → Bool

@@ -63,7 +63,7 @@ fn write_through(card: &mut [u8], starts: &[u32], count: usize, l: Logical, bloc
             number: 10,
             place: h.0,
         },
-        Found::Entry(m, p) => write_found(card, d, m, p, l, taken, &block[..BLOCK_SIZE]),
+        Found::Entry(m, p) => write_found(card, d, m, p, l, taken, block),
     }
 }
 

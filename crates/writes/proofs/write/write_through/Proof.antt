@@ -3,8 +3,7 @@ use mathlib.Core.Path.{_≡_, refl, sym, ap, _∙_}
 use mathlib.Core.Bool.{true}
 use Prim.Native.Nat.{_-_}
 use native.Mathlib.Omega.{arith}
-use lib.ListN.{take, drop, getD}
-use lib.Seq.{take-length, length-take-le}
+use lib.ListN.{drop, getD}
 use borrow.Author.Needs.{needs}
 use Rattle.blocks.specs.Descriptor.{physical, descriptorAt}
 use Rattle.blocks.specs.declared.descriptor.Descriptor.{Descriptor}
@@ -37,10 +36,6 @@ active-is c d e = let past = past-chain c in e ∙ sym (card-active _ _ (past .w
 
 through : (c : tie.Start) (d : Descriptor) → let s = c .args in d ≡ descriptorAt (s .card .now) (getD (s .starts .now) (s .count - 1) 0) → Through (s .card .now) (s .starts .now) (s .count) d
 through c d e = let past = past-chain c in card-through _ _ (past .walked) (past .area) (past .sound) _ (omega (arith, card-some _ _ (past .walked) (past .area) (past .sound))) d e
-
--- the block is as long as the part of it that is lent
-whole : (c : tie.Start) → take 512 (c .args .block .now) ≡ c .args .block .now
-whole c = rw (← (c .pre .1)) (take-length (c .args .block .now))
 
 sub-last : tie.Need-sub-last
 sub-last c =
@@ -81,19 +76,16 @@ enum-known-entry c = search needs
 enum-known-entry-2 : tie.Need-enum-known-entry-2
 enum-known-entry-2 c = search needs
 
-slice-aggregate-write-found : tie.Need-slice-aggregate-write-found
-slice-aggregate-write-found c = sym (length-take-le 512 (c .before .before .before .before .before .before .before .before .before .before .before .before .before .before .before .before .before .args .block .now) (omega (arith, c .before .before .before .before .before .before .before .before .before .before .before .before .before .before .before .before .before .pre .1)))
-
 write-found-requires : tie.Need-write-found-requires
 write-found-requires c κs =
-    let f = c .before .before .before .entry2 .given .0 in
-    let e = c .before .before .before .before .before .before .before .before .before .before .before .before .before .before .before .before .before in
-    let t = through e _ (c .before .before .before .before .before .before .before .before .before .before .before .read-descriptor .ensures) in
-    let at = c .before .before .before .before .before .before .locate .ensures in
+    let f = c .before .before .entry2 .given .0 in
+    let e = c .before .before .before .before .before .before .before .before .before .before .before .before .before .before .before .before in
+    let t = through e _ (c .before .before .before .before .before .before .before .before .before .before .read-descriptor .ensures) in
+    let at = c .before .before .before .before .before .locate .ensures in
     let found = located-found _ _ _ _ _ at in
-    let is : Entry (f .0) (f .1 .0) ≡ c .before .before .before .before .before .before .locate .result .found = cc in (
-      write-ready _ _ _ _ t _ _ (length-take-le 512 (e .args .block .now) (omega (arith, e .pre .1))) (c .before .before .before .before .before .before .before .before .if1 .left) _ found (f .0) (f .1 .0) (sym is),
-      c .before .before .before .before .before .need .ensures ∙ need-active _ _ (through-linked _ _ _ _ t) _ (through-count _ _ _ _ t) _ (active-is e _ (c .before .before .before .before .before .before .before .before .before .before .before .read-descriptor .ensures)) _ _ at ∙ ap (need _) (sym found ∙ sym is),
+    let is : Entry (f .0) (f .1 .0) ≡ c .before .before .before .before .before .locate .result .found = cc in (
+      write-ready _ _ _ _ t _ _ (e .pre .1) (c .before .before .before .before .before .before .before .if1 .left) _ found (f .0) (f .1 .0) (sym is),
+      c .before .before .before .before .need .ensures ∙ need-active _ _ (through-linked _ _ _ _ t) _ (through-count _ _ _ _ t) _ (active-is e _ (c .before .before .before .before .before .before .before .before .before .before .read-descriptor .ensures)) _ _ at ∙ ap (need _) (sym found ∙ sym is),
     )
 
 same-length-2 : tie.Need-same-length-2
@@ -108,8 +100,8 @@ same-length-3 c = search needs
 
 returns-3 : tie.Need-returns-3
 returns-3 c =
-    let f = c .before .before .before .before .before .before .entry2 .given .0 in
-    write-done _ _ _ _ (past-chain (c .before .before .before .before .before .before .before .before .before .before .before .before .before .before .before .before .before .before .before .before)) _ (active-is (c .before .before .before .before .before .before .before .before .before .before .before .before .before .before .before .before .before .before .before .before) _ (c .before .before .before .before .before .before .before .before .before .before .before .before .before .before .read-descriptor .ensures)) (c .before .before .before .before .before .before .before .before .before .before .before .if1 .left) _ (located-found _ _ _ _ _ (c .before .before .before .before .before .before .before .before .before .locate .ensures)) (f .0) (f .1 .0) (cc) _ _ (rw (← (whole (c .before .before .before .before .before .before .before .before .before .before .before .before .before .before .before .before .before .before .before .before))) (c .before .before .write-found .ensures))
+    let f = c .before .before .before .before .before .entry2 .given .0 in
+    write-done _ _ _ _ (past-chain (c .before .before .before .before .before .before .before .before .before .before .before .before .before .before .before .before .before .before .before)) _ (active-is (c .before .before .before .before .before .before .before .before .before .before .before .before .before .before .before .before .before .before .before) _ (c .before .before .before .before .before .before .before .before .before .before .before .before .before .read-descriptor .ensures)) (c .before .before .before .before .before .before .before .before .before .before .if1 .left) _ (located-found _ _ _ _ _ (c .before .before .before .before .before .before .before .before .locate .ensures)) (f .0) (f .1 .0) (cc) _ _ (c .before .before .write-found .ensures)
 
 pub write-through-spec : {M : Type 1} → statement M
 write-through-spec =
@@ -125,7 +117,6 @@ write-through-spec =
     need-requires
     enum-known-entry
     enum-known-entry-2
-    slice-aggregate-write-found
     write-found-requires
     same-length-2
     returns-2
