@@ -1,4 +1,4 @@
--- Parts of a card that the calls speak of: its area, its chain, the active descriptor, a snapshot by name, the block that a read gives.
+-- Parts of a card that the calls speak of: its area, its chain, the active descriptor, a snapshot by name, the block that a read gives; and what the code of a call knows after the walk.
 use mathlib.Core.Path.{_≡_}
 use mathlib.Core.Bool.{Bool, true, false, not, _||_}
 use mathlib.Core.List.{List, [], _∷_}
