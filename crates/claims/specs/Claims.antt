@@ -146,9 +146,8 @@ FrameClaim =
 
 -- What the definitions by kind say of each call by its name, on a card c: which calls alter no byte of the card, which alter nothing that is lent, the
 -- blocks that each takes ("A write takes at most two blocks; a snap takes c"), the bytes that it is lent to write, whether it is a ream, whether it is an
--- accepted format of the card (a refused ream is none, and stands in lists of calls), whether it is a snap of the visit v, and that it gives nothing besides its answer,
--- as every call but a visit. Other claims go by these, and
--- would say less if one were changed.
+-- accepted format of the card (a refused ream is none, and stands in lists of calls), whether it is a snap of the visit v, and that it gives nothing
+-- besides its answer, as every call but a visit. Other claims go by these, and would say less if one were changed.
 pub record ByName (c v : List ℕ) : Type 0 where
   pub ream : (format : Format) → let k = Ream format in
       (step k c .outcome .lent ≡ None) × (blocksNeeded k c ≡ 0) × (writtenBy k ≡ []) × (isReam k ≡ true) × (isFormat k c ≡ isAccepted (answerOf k c)) × (isSnapOf v k ≡ false) × (step k c .outcome .given ≡ NoneGiven)
