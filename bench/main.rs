@@ -97,12 +97,25 @@ impl Bench {
         }
     }
 
-    // The time of `batch` calls.
-    fn time(&mut self, side: Side, call: &Call, batch: u32) -> Duration {
+    // The time of `batch` calls; with `undo` what each changes is put back before the next.
+    fn time(&mut self, side: Side, call: &Call, batch: u32, undo: bool) -> Duration {
         let start = Instant::now();
         for _ in 0..batch {
             black_box(make(side, black_box(call), &mut self.card, &mut self.lent))
                 .expect("an accepted call");
+            if undo {
+                self.restore();
+            }
+        }
+        start.elapsed()
+    }
+
+    // The time of putting the same blocks back, `batch` times.
+    fn undo_time(&mut self, batch: u32) -> Duration {
+        let start = Instant::now();
+        for _ in 0..batch {
+            black_box(&mut self.card);
+            self.restore();
         }
         start.elapsed()
     }
@@ -193,24 +206,24 @@ fn times(budget: Duration) {
         let mut bench = Bench::new(card, &call);
         let mut once = Duration::ZERO;
         for side in SIDES {
-            once += bench.time(side, &call, 1);
-            bench.restore();
+            once += bench.time(side, &call, 1, true);
         }
         let once = once.as_nanos().max(1) as u64;
-        // calls that may be repeated are timed together, 20 µs at least
-        let batch = if row.repeats() {
-            (40_000 / once).clamp(1, 1000) as u32
-        } else {
-            1
-        };
+        // so many calls are timed together that the clock's steps do not count, 20 µs at least; those that change what
+        // the next one finds, with what puts it back, whose time alone is taken off
+        let batch = (40_000 / once).clamp(1, 1000) as u32;
+        let undo = !row.repeats();
         let pairs =
             (budget.as_nanos() as u64 / (once * u64::from(batch))).clamp(21, 20_001) as usize;
         let mut taken = [Vec::new(), Vec::new()];
         for _ in 0..pairs {
             for (i, side) in SIDES.into_iter().enumerate() {
-                let time = bench.time(side, &call, batch).as_nanos() as f64;
-                taken[i].push((time - overhead).max(1.0) / f64::from(batch));
-                bench.restore();
+                let time = bench.time(side, &call, batch, undo).as_nanos() as f64;
+                let rest = match undo {
+                    true => bench.undo_time(batch).as_nanos() as f64,
+                    false => overhead,
+                };
+                taken[i].push((time - rest).max(1.0) / f64::from(batch));
             }
         }
         let ratios = sorted(taken[0].iter().zip(&taken[1]).map(|(a, b)| a / b).collect());

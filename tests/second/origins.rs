@@ -14,6 +14,7 @@ pub const AT_END: u64 = 300;
 /// For each block none, where it was never written, or the place of a region, at most 255.
 type Blocks = Vec<Option<u8>>;
 
+#[derive(Clone)]
 pub struct Origins {
     /// The frozen volumes in order, by name. The k-th one froze the k-th region.
     frozen: Vec<(Vec<u8>, Blocks)>,

@@ -71,12 +71,12 @@ pub fn get_bytes(area: &[u8], at: usize, out: &mut [u8])
     put_bytes(out, 0, &area[at..at + out.len()]);
 }
 
-// Block `p` is now `block`.
+// Block `p` is now `block`. Its first 512 bytes are all of it: the compiler then knows how many it copies.
 pub fn store_block(card: &mut [u8], p: Physical, block: &[u8])
     requires { ⌜ (length (now block) ≡ blockSize) × (blockSize * p .0 + blockSize ≤ length (now card)) ⌝ }
     ensures { λ _. ⌜ now (card .exit) ≡ storeBlock (now (card .entry)) (p .0) (now (block .entry)) ⌝ }
 {
-    put_bytes(card, BLOCK_SIZE * (p.0 as usize), block);
+    put_bytes(card, BLOCK_SIZE * (p.0 as usize), &block[..BLOCK_SIZE]);
 }
 
 // Block `p` is now zeros.

@@ -26,9 +26,12 @@ pub const REVISION_START: usize = 40;
 
 pub const PHI_START: usize = 64;
 
-// The most snapshots and the most descriptors of a chain, and the places of the starts of its regions: one more, for the end of the last.
+// The most snapshots of a chain, and the places for the starts of the regions of the longest: one for each descriptor, and one for the end of the last.
 pub const MOST_SNAPSHOTS: usize = 255;
 
-pub const MOST_DESCRIPTORS: usize = 256;
-
 pub const STARTS_SIZE: usize = 257;
+
+// The most descriptors of a chain that is walked with few places, and those places.
+pub const FEW_DESCRIPTORS: usize = 8;
+
+pub const FEW_STARTS: usize = 9;

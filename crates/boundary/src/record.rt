@@ -2,13 +2,17 @@
 use blocks::bytes;
 use blocks::descriptor;
 use blocks::numbers::Physical;
+use blocks::sizes::FEW_STARTS;
+use blocks::sizes::STARTS_SIZE;
 use calls::answer::Answer;
 use calls::answer::Record;
 use listing::list;
+use walking::chain;
 ghost use mathlib.Core.Path.{_≡_};
 ghost use Prim.Native.Nat.{ℕ, _+_, _*_, _≤_, _<_};
 ghost use lib.ListN.{length, getD};
 ghost use Rattle.blocks.specs.Bytes.{blockSize, splice};
+ghost use Rattle.chains.specs.Walk.{Enough, placesLeft};
 ghost use Rattle.calls.specs.Listing.{ListReady};
 ghost use Rattle.boundary.specs.RecordBytes.{recordSize, recordBytes, filledBytes, listingOf};
 
@@ -41,7 +45,7 @@ fn fill_bytes(card: &[u8], starts: &[u32], area: &mut [u8], n: usize)
 }
 
 // Lists into bytes by what the walk found: the tests, then the records of a listing that passes them.
-pub fn list_bytes(
+fn list_bytes(
     card: &[u8],
     starts: &[u32],
     sound: bool,
@@ -56,4 +60,34 @@ pub fn list_bytes(
     let f = list::plan_filling(card, sound, place, count, room);
     fill_bytes(card, starts, area, f.count);
     f.answer
+}
+
+// Lists into bytes with enough lent places for the walk.
+fn list_with(card: &[u8], starts: &mut [u32], area: &mut [u8]) -> Answer
+    requires { ⌜ Enough (now card) (now starts) ⌝ }
+    ensures { λ r. ⌜ record { answer = r; bytes = now (area .exit) } ≡ listingOf (now (card .entry)) (now (area .entry)) ⌝ }
+    ensures { λ _. ⌜ now (starts .exit) ≡ placesLeft (now (card .entry)) (now (starts .entry)) ⌝ }
+{
+    let found = chain::walk_chain(&*card, starts);
+    let count = found.count;
+    list_bytes(
+        card,
+        &starts[..count + 1],
+        found.sound,
+        found.place,
+        count,
+        area,
+    )
+}
+
+// Lists the chain into bytes.
+pub fn list_chain(card: &[u8], area: &mut [u8]) -> Answer
+    ensures { λ r. ⌜ record { answer = r; bytes = now (area .exit) } ≡ listingOf (now (card .entry)) (now (area .entry)) ⌝ }
+{
+    if !chain::is_short(card) {
+        let mut starts = [0u32; STARTS_SIZE];
+        return list_with(card, &mut starts, area);
+    }
+    let mut starts = [0u32; FEW_STARTS];
+    list_with(card, &mut starts, area)
 }

@@ -18,7 +18,8 @@ use Rattle.entries.specs.Through.{Through}
 use Rattle.entries.proofs.RegionLaws.{through-at, through-rising}
 use Rattle.entries.proofs.EntryLaws.{through-alpha}
 use Rattle.calls.specs.Parts.{areaBad, snapshotsOf, SoundCard}
-use Rattle.links.proofs.ChainLaws.{active-snoc, length-ends}
+use Rattle.chains.specs.Walk.{Enough, endsWithin}
+use Rattle.links.proofs.ChainLaws.{active-snoc, length-ends, suffice-all, suffice-few}
 
 -- all but the last of a list
 pub snapshots-take : (d : Descriptor) (ds : List Descriptor) → snapshotsOf (d ∷ ds) ≡ take (length ds) (d ∷ ds)
@@ -176,6 +177,25 @@ module _ (c : List ℕ) (r : Regions) (is : r ≡ regionsOf (chain c)) where
         ap (λ (xs : List Descriptor). getD xs k noDescriptor) (snapshots-at ds (linked-some linked))
         ∙ getD-take (length ds - 1) ds k noDescriptor (omega (arith, card-count))
         ∙ card-at k (omega arith)
+
+-- what is asked to look up an index in the chain
+pub card-ready : (c : List ℕ) (count : ℕ) (starts : List ℕ) → SoundCard c count starts → (0 < count) × (count ≤ length starts) × ((j : ℕ) → j < count → 512 * getD starts j 0 + 512 ≤ length c)
+card-ready c count starts s = let w = sym (s .regions) in (card-some c _ w (s .area) refl, card-long c _ w (s .area) refl, λ j h. card-inside c _ w (s .area) refl j h)
+
+-- places for the most descriptors are enough for a walk, and few where the links end within few descriptors
+pub enough-all : (c places : List ℕ) → length places ≡ 257 → Enough c places
+enough-all c places e = (omega (arith, e), omega (arith, e), suffice-all c (length places) e)
+
+pub enough-few : (c places : List ℕ) (b : Bool) → b ≡ endsWithin c 8 0 → not b ≡ false → length places ≡ 9 → Enough c places
+enough-few c places b short h e = (omega (arith, e), omega (arith, e), suffice-few c (sym short ∙ not-false b h) (length places) e)
+
+-- the places past the walk: as many as there are descriptors and one more, and the card with them
+module _ (c : List ℕ) (w : Walk) (walked : w ≡ walkOf (chain c)) (whole : not (w .sound) ≡ false) (starts : List ℕ) (are : w .sound ≡ true → starts ≡ startsOf (descriptors (chain c))) where
+  pub places-long : w .count + 1 ≡ length starts
+  places-long = walk-long (chain c) w walked whole starts (are (not-false (w .sound) whole))
+
+  pub places-card : areaBad c ≡ false → SoundCard c (w .count) starts
+  places-card area = walked-card c area w walked whole starts (are (not-false (w .sound) whole))
 
 -- a sound chain is its descriptors
 pub chain-is : (ch : Chain) → chainSound ch ≡ true → ch ≡ Sound (descriptors ch)

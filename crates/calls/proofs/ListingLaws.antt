@@ -5,7 +5,7 @@ use mathlib.Core.List.{List, [], _∷_, _++_}
 use Prim.Native.Nat.{ℕ, zero, suc, _+_, _*_, _≤_, _<_}
 use native.Mathlib.Numerals.{add-one}
 use native.Mathlib.Omega.{arith}
-use lib.ListN.{length, take, drop, getD, set, length-set, length-take}
+use lib.ListN.{length, take, drop, getD, set, replicate, length-set, length-take}
 use lib.Seq.{drop-cons, drop-length, take-suc, take-length, length-take-le, getD-take}
 use lib.Dec.{ltb}
 use borrow.Author.Tests.{lt-ltb, le-ltb, not-true, not-false, eq-eqb, ne-eqb, eqb-true, eqb-false}
@@ -13,8 +13,10 @@ use Rattle.blocks.specs.Pick.{pick}
 use Rattle.blocks.specs.Bytes.{storeAll}
 use Rattle.blocks.specs.Descriptor.{physical, noDescriptor}
 use Rattle.chains.specs.Chain.{activeOf, chain, startsOf, regionsOf, walkOf}
+use Rattle.chains.specs.Walk.{placesLeft}
 use Rattle.blocks.specs.declared.descriptor.Descriptor.{Descriptor}
 use Rattle.chains.specs.declared.chain.Walk.{Walk}
+use Rattle.links.proofs.ChainLaws.{places-starts, length-places, suffice-all}
 use Rattle.links.proofs.LinkedLaws.{Linked, last, more, chain-linked, starts-long, region-of, found-inside, found-descriptor}
 use Rattle.calls.specs.declared.answer.Answer.{Answer}
 use Rattle.calls.specs.declared.answer.Record.{Record}
@@ -26,8 +28,8 @@ use Rattle.calls.specs.Ladder.{admission, firstRow, listRows}
 use Rattle.calls.specs.Effect.{recordOf, listed}
 use Rattle.calls.specs.Meaning.{rowsOf, answerOf, storesOf, lentOf, filledOf, givenOf}
 use Rattle.calls.specs.Step.{Done, step, isAccepted, done}
-use Rattle.calls.specs.Listing.{fillingWith, fillingOf, fillingBy, recordBy, filledTo, filled, recordCount, PlanFor, ListReady}
-use Rattle.calls.proofs.CardLaws.{walk-whole, walk-accords, chain-is}
+use Rattle.calls.specs.Listing.{fillingWith, fillingOf, fillingBy, recordBy, filledTo, filled, recordCount, planOf, PlanFor, ListReady}
+use Rattle.calls.proofs.CardLaws.{walk-whole, walk-accords, walk-few, chain-is}
 use Rattle.calls.proofs.Passed.{list-passed}
 use Rattle.calls.proofs.StepLaws.{step-answer, step-lent}
 use Rattle.calls.proofs.RowLaws.{row-given, last-passed, not-admitted, admitted, chain-given, chain-passed}
@@ -247,6 +249,26 @@ plan-for c sound place count starts ready records room long f planned some = rec
         let whole : walkOf (chain c) .sound ≡ true = walk-accords (chain c) (walkOf (chain c)) refl (list-passed c records yes .sound) in
         let m : count ≡ length (descriptorsOf c) = ready .count-is ∙ walk-whole (chain c) (walkOf (chain c)) refl whole .1 in
         ap (λ (x : ℕ). take (x + 1) starts) (n ∙ sym m) ∙ ready .starts-are (ready .sound-is ∙ whole)
+
+pub plan-is : (c : List ℕ) (w : Walk) → w ≡ walkOf (chain c) → (room : ℕ) (f : Filling) → f ≡ fillingBy c (w .sound) (w .place .0) (w .count) room → (starts : List ℕ) → starts ≡ placesLeft c (replicate 257 0)
+    → _≡_ {A = Plan} (record { answer = f .answer; count = f .count; starts = starts }) (planOf c room)
+unfolding planOf
+plan-is c w walked room f planned starts left = rw (planned, walked, left)
+
+-- so it is a plan for records of that number
+pub plan-told : (c : List ℕ) (records : List Record) (room : ℕ) → length records ≡ room → (r : Plan) → r ≡ planOf c room → PlanFor c records r
+unfolding planOf
+plan-told c records room long r e =
+    let w = walkOf (chain c) in
+    let starts = placesLeft c (replicate 257 0) in
+    let size : length starts ≡ 257 = length-places c (replicate 257 0) in
+    let few = walk-few c w refl in
+    rw e (plan-for c (w .sound) (w .place .0) (w .count) starts (walked-listed c w refl (take (w .count + 1) starts) are (length-take-le (w .count + 1) starts (omega (arith, few, size)))) records room long (fillingBy c (w .sound) (w .place .0) (w .count) room) refl (omega (arith, size)))
+  where
+    are : walkOf (chain c) .sound ≡ true → take (walkOf (chain c) .count + 1) (placesLeft c (replicate 257 0)) ≡ startsOf (descriptorsOf c)
+    are h =
+        let whole = walk-whole (chain c) (walkOf (chain c)) refl h in
+        rw (whole .1) (places-starts c (replicate 257 0) (omega arith) (suffice-all c 257 refl) (descriptorsOf c) (chain-is (chain c) (whole .0)))
 
 -- counting the records that a listing has filled: i of them, and those after
 unfoldable pub countFrom : List Record → ℕ → ℕ

@@ -2,20 +2,20 @@
 use mathlib.Core.Path.{_≡_, refl, sym, ap, _∙_}
 use mathlib.Core.Bool.{Bool, true, false, not, _&&_}
 use mathlib.Core.List.{List, _∷_}
-use Prim.Native.Nat.{ℕ, _+_, _-_, _≤_, _<_}
+use Prim.Native.Nat.{ℕ, _+_, _-_, _≤_, _<_, _*_}
 use native.Mathlib.Omega.{arith}
 use lib.ListN.{length, take, drop, getD}
 use lib.Dec.{eqb}
 use borrow.Author.Tests.{eq-eqb, ne-eqb, lt-ltb, le-ltb, eqb-true, eqb-false}
 use Rattle.blocks.specs.Pick.{pick}
-use Rattle.blocks.specs.Bytes.{blockCount, blockAt, zeroBlock, splice, storeAll}
+use Rattle.blocks.specs.Bytes.{blockCount, part, blockAt, zeroBlock, splice, storeAll}
 use Rattle.blocks.specs.Name.{isName, noName}
 use Rattle.blocks.specs.Descriptor.{physical, descriptorAt, noDescriptor}
 use Rattle.chains.specs.Chain.{chain, descriptors, named, descriptorsAt, Regions, regionsOf, walkOf, indexOf, activeOf}
 use Rattle.blocks.specs.declared.numbers.Physical.{Physical}
 use Rattle.blocks.specs.declared.descriptor.Descriptor.{Descriptor}
 use Rattle.chains.specs.declared.chain.Walk.{Walk}
-use Rattle.blocks.proofs.ByteLaws.{splice-whole}
+use Rattle.blocks.proofs.ByteLaws.{splice-whole, length-part}
 use Rattle.chains.proofs.NamedLaws.{index-le}
 use Rattle.links.proofs.ChainLaws.{region-volume}
 use Rattle.entries.specs.Entry.{find, foundBlock, locatedIn, locate}
@@ -87,6 +87,12 @@ module _ (c : List ℕ) (f : Found) (out : List ℕ) where
 -- the caller's block filled
 pub filled-nil : (c out out′ zeros : List ℕ) (p : ℕ) → p ≡ 0 → length out ≡ 512 → zeros ≡ zeroBlock → out′ ≡ splice out 0 zeros → out′ ≡ pick (eqb p 0) zeroBlock (blockAt c p)
 filled-nil c out out′ zeros p e l z s = s ∙ splice-whole out zeros (ap length z ∙ sym l) ∙ rw (eq-eqb p 0 e) z
+
+pub filled-block : (c out out′ : List ℕ) (p : ℕ) → (p ≡ 0 → ⊥) → length out ≡ 512 → 512 * p + 512 ≤ length c → out′ ≡ splice out 0 (part c (512 * p) (512 * p + 512 - 512 * p)) → out′ ≡ pick (eqb p 0) zeroBlock (blockAt c p)
+unfolding blockAt
+filled-block c out out′ p some long fits e =
+    let size : 512 * p + 512 - 512 * p ≡ 512 = omega arith in
+    e ∙ rw (size, ne-eqb p 0 some) (splice-whole out (part c (512 * p) 512) (length-part c (512 * p) 512 fits ∙ sym long))
 
 -- what a visit gives once its entry was looked for, case by case
 module _ (c : List ℕ) (d : Descriptor) (l : ℕ) where

@@ -3,11 +3,12 @@ use mathlib.Core.Path.{_≡_}
 use mathlib.Core.Bool.{Bool, true}
 use mathlib.Core.List.{List, [], _∷_}
 use Prim.Native.Nat.{ℕ, zero, suc, _+_, _<_}
-use lib.ListN.{length, take, getD, set}
+use lib.ListN.{length, take, getD, set, replicate}
 use lib.Dec.{eqb, ltb}
 use Rattle.blocks.specs.Pick.{pick}
 use Rattle.blocks.specs.Descriptor.{physical, descriptorAt}
-use Rattle.chains.specs.Chain.{chain, startsOf, walkOf}
+use Rattle.chains.specs.Chain.{chain, startsOf, startsSize, walkOf}
+use Rattle.chains.specs.Walk.{placesLeft}
 use Rattle.calls.specs.declared.answer.Record.{Record}
 use Rattle.calls.specs.declared.list.Filling.{Filling}
 use Rattle.calls.specs.declared.list.Plan.{Plan}
@@ -36,6 +37,13 @@ unfoldable pub fillingBy : List ℕ → Bool → ℕ → ℕ → ℕ → Filling
 fillingBy c sound place count room =
     let a = firstRow (admission c) in
     pick (isAccepted a) (pick sound (pick (ltb room count) (fillingWith 14 0 0) (fillingWith 0 0 count)) (fillingWith 6 place 0)) (fillingWith (a .number) (a .place) 0)
+
+-- what a listing into so many records plans: its answer, how many it fills, and the places as the walk leaves them
+unfoldable pub planOf : List ℕ → ℕ → Plan
+planOf c room =
+    let w = walkOf (chain c) in
+    let f = fillingBy c (w .sound) (w .place .0) (w .count) room in
+    record { answer = f .answer; count = f .count; starts = placesLeft c (replicate startsSize 0) }
 
 -- a plan for the records: the listing's answer, how many it fills and, where it is accepted, where the regions start, in one place more than that; there is at least one place
 pub record PlanFor (c : List ℕ) (records : List Record) (plan : Plan) : Type 0 where

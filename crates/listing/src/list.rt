@@ -10,12 +10,11 @@ use calls::list::Plan;
 use indexing::index;
 use walking::chain;
 ghost use mathlib.Core.Path.{_≡_};
-ghost use mathlib.Core.List.{List};
 ghost use Prim.Native.Nat.{ℕ, _+_, _*_, _≤_, _<_};
 ghost use lib.ListN.{length, getD};
 ghost use Rattle.calls.specs.Call.{Listing, Records};
 ghost use Rattle.calls.specs.Step.{step, done};
-ghost use Rattle.calls.specs.Listing.{fillingWith, fillingBy, PlanFor, recordBy, filled, recordCount};
+ghost use Rattle.calls.specs.Listing.{fillingWith, fillingBy, planOf, recordBy, filled, recordCount};
 ghost use Rattle.blocks.specs.Bytes.{blockSize};
 
 // What has this answer and fills so many records.
@@ -47,7 +46,7 @@ pub fn plan_filling(card: &[u8], sound: bool, place: Physical, count: usize, roo
 
 // What a listing into `room` records answers and fills, and where the regions start.
 fn make_plan(card: &[u8], room: usize) -> Plan
-    ensures { λ r. ⌜ ((records : List Record) → length records ≡ room → PlanFor (now (card .entry)) records r) ⌝ }
+    ensures { λ r. ⌜ r ≡ planOf (now (card .entry)) room ⌝ }
 {
     let mut starts = [0u32; STARTS_SIZE];
     let found = chain::walk_chain(card, &mut starts);

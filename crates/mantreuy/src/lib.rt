@@ -4,7 +4,6 @@ use blocks::descriptor;
 use blocks::descriptor::Format;
 use blocks::numbers::Logical;
 use blocks::sizes::NAME_SIZE;
-use blocks::sizes::STARTS_SIZE;
 use boundary::argument;
 use boundary::record;
 use checking::check;
@@ -14,7 +13,6 @@ use reams::ream;
 use reverts::revert;
 use snaps::snap;
 use visiting::visit;
-use walking::chain;
 use writes::write;
 ghost use mathlib.Core.Path.{_≡_};
 ghost use Rattle.calls.specs.Call.{Ream, Read, Write, Snap, Revert, Check, Visit, None, Block, answer};
@@ -121,19 +119,9 @@ pub extern "C" fn mantreuy_revert(card: &mut [u8], name: &[u8], place: &mut u32)
 pub extern "C" fn mantreuy_list(card: &[u8], records: &mut [u8], place: &mut u32) -> u32
     ensures { λ r. ⌜ record { answer = answer r (now (place .exit)); bytes = now (records .exit) } ≡ listingOf (now (card .entry)) (now (records .entry)) ⌝ }
 {
-    let mut starts = [0u32; STARTS_SIZE];
-    let found = chain::walk_chain(card, &mut starts);
-    let count = found.count;
-    let listed = record::list_bytes(
-        card,
-        &starts[..count + 1],
-        found.sound,
-        found.place,
-        count,
-        records,
-    );
-    *place = listed.place;
-    listed.number
+    let a = record::list_chain(card, records);
+    *place = a.place;
+    a.number
 }
 
 // Checks the card.

@@ -6,6 +6,7 @@ use blocks::descriptor::Descriptor;
 use blocks::numbers::Logical;
 use blocks::numbers::Physical;
 use blocks::sizes::BLOCK_SIZE;
+use blocks::sizes::FEW_STARTS;
 use blocks::sizes::NAME_SIZE;
 use blocks::sizes::STARTS_SIZE;
 use calls::answer;
@@ -17,17 +18,18 @@ use targets::target;
 use walking::chain;
 ghost use mathlib.Core.Path.{_≡_};
 ghost use mathlib.Core.Bool.{false, not, _&&_};
-ghost use Prim.Native.Nat.{_+_, _*_, _≤_, _<_};
-ghost use lib.ListN.{length};
+ghost use mathlib.Core.List.{List};
+ghost use Prim.Native.Nat.{ℕ, _+_, _*_, _-_, _≤_, _<_};
+ghost use lib.ListN.{length, take};
 ghost use lib.Dec.{eqb};
 ghost use Rattle.blocks.specs.Pick.{pick};
 ghost use Rattle.blocks.specs.Bytes.{zeroBlock, blockAt, blockSize};
 ghost use Rattle.blocks.specs.Name.{isName};
-ghost use Rattle.chains.specs.Chain.{chain as chainOf, descriptors};
+ghost use Rattle.chains.specs.Chain.{chain as chainOf, descriptors, descriptorsAt};
 ghost use Rattle.entries.specs.Through.{Through};
 ghost use Rattle.entries.specs.Entry.{find as finding};
 ghost use Rattle.calls.specs.Call.{Read, Block};
-ghost use Rattle.calls.specs.Parts.{isSnapshot, SoundCard};
+ghost use Rattle.calls.specs.Parts.{areaBad, isSnapshot, targetIndex, SoundCard};
 ghost use Rattle.calls.specs.Effect.{delivered};
 ghost use Rattle.calls.specs.Step.{step, done};
 
@@ -41,7 +43,8 @@ fn fill_block(card: &[u8], p: Physical, out: &mut [u8])
         bytes::put_bytes(out, 0, &zeros);
         return;
     }
-    bytes::get_bytes(card, BLOCK_SIZE * (p.0 as usize), out);
+    let at = BLOCK_SIZE * (p.0 as usize);
+    bytes::put_bytes(out, 0, &card[at..at + BLOCK_SIZE]);
 }
 
 // The block of logical number `l` through the descriptor `d`, or the refusal of an entry that is not in place.
@@ -56,7 +59,7 @@ fn deliver(
     requires { ⌜ Through (now card) (now starts) count d × (l .0 < d .volume) × (length (now out) ≡ blockSize) ⌝ }
     ensures { λ r. ⌜ record { answer = r; block = now (out .exit) } ≡ delivered (now (card .entry)) (finding (now (card .entry)) (descriptors (chainOf (now (card .entry)))) d (l .0)) (now (out .entry)) ⌝ }
 {
-    let at = find::locate(card, starts, count, d, l);
+    let at = find::locate(&*card, &*starts, count, d, l);
     let found = at.found;
     match found {
         Found::Misplaced(h) => Answer {
@@ -70,20 +73,19 @@ fn deliver(
     }
 }
 
-// Reads a block through the regions of a sound chain: the tests that follow that of the chain.
-fn read_through(
+// Reads the block through descriptor `k` of a sound chain, that of the target: the tests that follow that of the chain. `k` is `count` where no snapshot has the
+// name.
+fn read_at(
     card: &[u8],
     starts: &[u32],
     count: usize,
-    target: Target,
-    name: [u8; NAME_SIZE],
+    k: usize,
     l: Logical,
     out: &mut [u8],
 ) -> Answer
-    requires { ⌜ SoundCard (now card) count (now starts) × ((isSnapshot target && not (isName name)) ≡ false) × (length (now out) ≡ blockSize) ⌝ }
-    ensures { λ r. ⌜ done r (Block (now (out .exit))) (now (card .entry)) ≡ step (Read target name (l .0) (now (out .entry))) (now (card .entry)) ⌝ }
+    requires { ⌜ SoundCard (now card) count (now starts) × (k ≤ count) × (length (now out) ≡ blockSize) ⌝ }
+    ensures { λ r. ⌜ ((target : Target) → (name : List ℕ) → (isSnapshot target && not (isName name)) ≡ false → k ≡ targetIndex (descriptorsAt (now (card .entry)) (take (count - 1) (now (starts .entry)))) target name → done r (Block (now (out .exit))) (now (card .entry)) ≡ step (Read target name (l .0) (now (out .entry))) (now (card .entry))) ⌝ }
 {
-    let k = target::target_index(card, starts, count, target, name);
     if k == count {
         return answer::NO_SNAPSHOT;
     }
@@ -95,7 +97,30 @@ fn read_through(
     deliver(card, starts, count, d, l, out)
 }
 
-// Reads a block of the active store, or of the snapshot that has the name.
+// Reads a block through a chain of any length.
+fn read_long(
+    card: &[u8],
+    target: Target,
+    name: [u8; NAME_SIZE],
+    l: Logical,
+    out: &mut [u8],
+) -> Answer
+    requires { ⌜ (areaBad (now card) ≡ false) × ((isSnapshot target && not (isName name)) ≡ false) × (length (now out) ≡ blockSize) ⌝ }
+    ensures { λ r. ⌜ done r (Block (now (out .exit))) (now (card .entry)) ≡ step (Read target name (l .0) (now (out .entry))) (now (card .entry)) ⌝ }
+{
+    let mut starts = [0u32; STARTS_SIZE];
+    let found = chain::walk_chain(card, &mut starts);
+    if !found.sound {
+        let place = found.place.0;
+        return Answer { number: 6, place };
+    }
+    let count = found.count;
+    let k = target::target_index(card, &starts[..count + 1], count, target, name);
+    read_at(card, &starts[..count + 1], count, k, l, out)
+}
+
+// Reads a block of the active store, or of the snapshot that has the name. A short chain is walked here with few places, so that a card with few snapshots does
+// not wait until 257 are cleared.
 pub fn read(
     card: &[u8],
     target: Target,
@@ -115,12 +140,16 @@ pub fn read(
     if out.len() != BLOCK_SIZE {
         return answer::BAD_BLOCK;
     }
-    let mut starts = [0u32; STARTS_SIZE];
+    if !chain::is_short(card) {
+        return read_long(card, target, name, l, out);
+    }
+    let mut starts = [0u32; FEW_STARTS];
     let found = chain::walk_chain(card, &mut starts);
     if !found.sound {
         let place = found.place.0;
         return Answer { number: 6, place };
     }
     let count = found.count;
-    read_through(card, &starts[..count + 1], count, target, name, l, out)
+    let k = target::target_index(card, &starts[..count + 1], count, target, name);
+    read_at(card, &starts[..count + 1], count, k, l, out)
 }

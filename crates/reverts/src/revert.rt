@@ -3,6 +3,7 @@ use admitting::area;
 use blocks::descriptor;
 use blocks::descriptor::Descriptor;
 use blocks::numbers::Physical;
+use blocks::sizes::FEW_STARTS;
 use blocks::sizes::NAME_SIZE;
 use blocks::sizes::STARTS_SIZE;
 use calls::answer;
@@ -12,15 +13,16 @@ use names::name;
 use regions::region;
 use walking::chain;
 ghost use mathlib.Core.Path.{_≡_};
-ghost use mathlib.Core.Bool.{true};
+ghost use mathlib.Core.Bool.{true, false};
 ghost use mathlib.Core.List.{[]};
 ghost use Prim.Native.Nat.{_+_, _*_, _≤_, _<_};
 ghost use lib.ListN.{length};
 ghost use Rattle.blocks.specs.Bytes.{storeBlock, storeAll, blockSize};
 ghost use Rattle.blocks.specs.Name.{isName};
 ghost use Rattle.blocks.specs.Descriptor.{costOf, tailAt, descriptorBlock, reopening};
+ghost use Rattle.chains.specs.Walk.{Enough, placesLeft};
 ghost use Rattle.calls.specs.Call.{Revert, None};
-ghost use Rattle.calls.specs.Parts.{SoundCard};
+ghost use Rattle.calls.specs.Parts.{areaBad, SoundCard};
 ghost use Rattle.calls.specs.Effect.{activatedOf};
 ghost use Rattle.calls.specs.Step.{step, done};
 
@@ -64,6 +66,21 @@ fn revert_through(card: &mut [u8], starts: &[u32], count: usize, name: [u8; NAME
     answer::ACCEPTED
 }
 
+// Rolls the card back with enough lent places for the walk: the tests from that of the chain on.
+fn revert_with(card: &mut [u8], starts: &mut [u32], name: [u8; NAME_SIZE]) -> Answer
+    requires { ⌜ (areaBad (now card) ≡ false) × (isName name ≡ true) × Enough (now card) (now starts) ⌝ }
+    ensures { λ r. ⌜ done r None (now (card .exit)) ≡ step (Revert name) (now (card .entry)) ⌝ }
+    ensures { λ _. ⌜ now (starts .exit) ≡ placesLeft (now (card .entry)) (now (starts .entry)) ⌝ }
+{
+    let found = chain::walk_chain(card, starts);
+    if !found.sound {
+        let place = found.place.0;
+        return Answer { number: 6, place };
+    }
+    let count = found.count;
+    revert_through(card, &starts[..count + 1], count, name)
+}
+
 // Rolls the card back to the snapshot that has the name.
 pub fn revert(card: &mut [u8], name: [u8; NAME_SIZE]) -> Answer
     ensures { λ r. ⌜ done r None (now (card .exit)) ≡ step (Revert name) (now (card .entry)) ⌝ }
@@ -75,12 +92,10 @@ pub fn revert(card: &mut [u8], name: [u8; NAME_SIZE]) -> Answer
     if !name::is_name(name) {
         return answer::BAD_NAME;
     }
-    let mut starts = [0u32; STARTS_SIZE];
-    let found = chain::walk_chain(card, &mut starts);
-    if !found.sound {
-        let place = found.place.0;
-        return Answer { number: 6, place };
+    if !chain::is_short(card) {
+        let mut starts = [0u32; STARTS_SIZE];
+        return revert_with(card, &mut starts, name);
     }
-    let count = found.count;
-    revert_through(card, &starts[..count + 1], count, name)
+    let mut starts = [0u32; FEW_STARTS];
+    revert_with(card, &mut starts, name)
 }

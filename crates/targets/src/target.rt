@@ -32,6 +32,7 @@ pub fn target_index(
 ) -> usize
     requires { ⌜ (0 < count) × (count ≤ length (now starts)) × ((j : ℕ) → j < count → blockSize * getD (now starts) j 0 + blockSize ≤ length (now card)) ⌝ }
     ensures { λ r. ⌜ r ≡ targetIndex (descriptorsAt (now (card .entry)) (take (count - 1) (now (starts .entry)))) target name ⌝ }
+    ensures { λ r. ⌜ r ≤ count ⌝ }
 {
     let last = count - 1;
     match target {
@@ -44,6 +45,7 @@ pub fn target_index(
 fn snapshot_index(card: &[u8], starts: &[u32], last: usize, name: [u8; NAME_SIZE]) -> usize
     requires { ⌜ (last < length (now starts)) × ((j : ℕ) → j < last → blockSize * getD (now starts) j 0 + blockSize ≤ length (now card)) ⌝ }
     ensures { λ r. ⌜ r ≡ targetIndex (descriptorsAt (now (card .entry)) (take last (now (starts .entry)))) Target.Snapshot name ⌝ }
+    ensures { λ r. ⌜ r ≤ last + 1 ⌝ }
 {
     let k = index::index_of(card, starts, last, name);
     if k == last {

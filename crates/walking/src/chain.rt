@@ -2,7 +2,7 @@
 use blocks::descriptor;
 use blocks::numbers::Physical;
 use blocks::sizes::BLOCK_SIZE;
-use blocks::sizes::MOST_DESCRIPTORS;
+use blocks::sizes::FEW_DESCRIPTORS;
 use blocks::sizes::NAME_SIZE;
 use chains::chain::Walk;
 use indexing::index;
@@ -13,8 +13,8 @@ ghost use mathlib.Core.Bool.{true};
 ghost use Prim.Native.Nat.{ℕ, _+_, _*_, _≤_, _<_};
 ghost use lib.ListN.{length, take, getD};
 ghost use Rattle.blocks.specs.Bytes.{blockSize};
-ghost use Rattle.chains.specs.Chain.{named, descriptorsAt, chain, descriptors, startsOf, startsSize, walkOf, Unsound};
-ghost use Rattle.chains.specs.Walk.{hasFlag, withFlag, Hashed};
+ghost use Rattle.chains.specs.Chain.{named, descriptorsAt, chain, descriptors, startsOf, walkOf, Unsound};
+ghost use Rattle.chains.specs.Walk.{hasFlag, withFlag, Hashed, Enough, fewDescriptors, endsWithin, placesLeft};
 
 // How many words of 32 bits hold a flag for each hash of a name.
 const FLAG_WORDS: usize = name::HASH_COUNT / 32;
@@ -61,14 +61,38 @@ fn unsound(p: Physical) -> Walk
     }
 }
 
-// Walks the chain of the card. Where it is sound, the first of the lent places, one more than there are descriptors, are set to where the regions start and
-// where the last one ends. A chain of one descriptor ends before any flag is cleared. Else a flag for each name's hash says of most names that no earlier
-// descriptor has them.
+// Whether the links from block 0 end within a few descriptors, so that a few places are enough for the walk. Which of them are sound is left to it.
+pub fn is_short(card: &[u8]) -> bool
+    ensures { λ r. ⌜ r ≡ endsWithin (now (card .entry)) fewDescriptors 0 ⌝ }
+{
+    let n = card.len() / BLOCK_SIZE;
+    let mut p: u32 = 0;
+    let mut k: usize = 0;
+    while k < FEW_DESCRIPTORS {
+        if n <= p as usize {
+            return false;
+        }
+        let d = descriptor::read_descriptor(card, Physical(p));
+        p = d.next.0;
+        if p == 0 {
+            return true;
+        }
+        k += 1;
+    }
+    false
+}
+
+// Walks the chain of the card with enough lent places. Where it is sound, the first of these, one more than there are descriptors, are set to where the regions
+// start and where the last one ends. A chain of one descriptor ends before any flag is cleared. Else a flag for each name's hash says of most names that no
+// earlier descriptor has them.
 pub fn walk_chain(card: &[u8], starts: &mut [u32]) -> Walk
-    requires { ⌜ length (now starts) ≡ startsSize ⌝ }
+    requires { ⌜ Enough (now card) (now starts) ⌝ }
     ensures { λ r. ⌜ r ≡ walkOf (chain (now (card .entry))) ⌝ }
     ensures { λ r. ⌜ (r .sound ≡ true → take (r .count + 1) (now (starts .exit)) ≡ startsOf (descriptors (chain (now (card .entry))))) ⌝ }
+    ensures { λ r. ⌜ now (starts .exit) ≡ placesLeft (now (card .entry)) (now (starts .entry)) ⌝ }
+    ensures { λ r. ⌜ r .count < length (now (starts .entry)) ⌝ }
 {
+    starts[0] = 0;
     let n = card.len() / BLOCK_SIZE;
     if n == 0 {
         return unsound(Physical(0));
@@ -78,7 +102,6 @@ pub fn walk_chain(card: &[u8], starts: &mut [u32]) -> Walk
         return unsound(Physical(0));
     }
     let end = first.beta.0;
-    starts[0] = 0;
     starts[1] = end;
     let mut p = first.next.0;
     if p == 0 {
@@ -88,12 +111,13 @@ pub fn walk_chain(card: &[u8], starts: &mut [u32]) -> Walk
             count: 1,
         };
     }
+    let most = starts.len() - 1;
     let mut words = [0u32; FLAG_WORDS];
     let called = first.name;
     set_flag(&mut words, name::hash(called));
     let mut d = descriptor::read_descriptor(card, Physical(p));
     let mut k: usize = 1;
-    while k < MOST_DESCRIPTORS {
+    while k < most {
         if !sound::is_next(card, first, n, Physical(p), d) {
             return unsound(Physical(p));
         }

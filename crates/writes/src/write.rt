@@ -5,6 +5,7 @@ use blocks::descriptor::Descriptor;
 use blocks::numbers::Logical;
 use blocks::numbers::Physical;
 use blocks::sizes::BLOCK_SIZE;
+use blocks::sizes::FEW_STARTS;
 use blocks::sizes::STARTS_SIZE;
 use calls::answer;
 use calls::answer::Answer;
@@ -14,12 +15,14 @@ use needing::need;
 use placing::put;
 use walking::chain;
 ghost use mathlib.Core.Path.{_≡_};
+ghost use mathlib.Core.Bool.{false};
 ghost use lib.ListN.{length};
 ghost use Rattle.blocks.specs.Bytes.{blockSize};
+ghost use Rattle.chains.specs.Walk.{Enough, placesLeft};
 ghost use Rattle.entries.specs.Entry.{need};
 ghost use Rattle.entries.specs.Through.{WriteReady};
 ghost use Rattle.calls.specs.Call.{Write, Block};
-ghost use Rattle.calls.specs.Parts.{SoundCard};
+ghost use Rattle.calls.specs.Parts.{areaBad, SoundCard};
 ghost use Rattle.calls.specs.Effect.{written};
 ghost use Rattle.calls.specs.Step.{step, done};
 
@@ -67,6 +70,21 @@ fn write_through(card: &mut [u8], starts: &[u32], count: usize, l: Logical, bloc
     }
 }
 
+// Writes a block with enough lent places for the walk: the tests from that of the chain on.
+fn write_with(card: &mut [u8], starts: &mut [u32], l: Logical, block: &[u8]) -> Answer
+    requires { ⌜ (areaBad (now card) ≡ false) × (length (now block) ≡ blockSize) × Enough (now card) (now starts) ⌝ }
+    ensures { λ r. ⌜ done r (Block (now (block .entry))) (now (card .exit)) ≡ step (Write (l .0) (now (block .entry))) (now (card .entry)) ⌝ }
+    ensures { λ _. ⌜ now (starts .exit) ≡ placesLeft (now (card .entry)) (now (starts .entry)) ⌝ }
+{
+    let found = chain::walk_chain(card, starts);
+    if !found.sound {
+        let place = found.place.0;
+        return Answer { number: 6, place };
+    }
+    let count = found.count;
+    write_through(card, &starts[..count + 1], count, l, block)
+}
+
 // Writes a block of the active store.
 pub fn write(card: &mut [u8], l: Logical, block: &[u8]) -> Answer
     ensures { λ r. ⌜ done r (Block (now (block .entry))) (now (card .exit)) ≡ step (Write (l .0) (now (block .entry))) (now (card .entry)) ⌝ }
@@ -78,12 +96,10 @@ pub fn write(card: &mut [u8], l: Logical, block: &[u8]) -> Answer
     if block.len() != BLOCK_SIZE {
         return answer::BAD_BLOCK;
     }
-    let mut starts = [0u32; STARTS_SIZE];
-    let found = chain::walk_chain(card, &mut starts);
-    if !found.sound {
-        let place = found.place.0;
-        return Answer { number: 6, place };
+    if !chain::is_short(card) {
+        let mut starts = [0u32; STARTS_SIZE];
+        return write_with(card, &mut starts, l, block);
     }
-    let count = found.count;
-    write_through(card, &starts[..count + 1], count, l, block)
+    let mut starts = [0u32; FEW_STARTS];
+    write_with(card, &mut starts, l, block)
 }

@@ -11,6 +11,7 @@ use crate::rng::Rng;
 use crate::store::{self, padded, shown, Name, Target, NOTHING};
 use crate::table::Table;
 
+#[derive(Clone)]
 pub struct Pair {
     pub library: Lent,
     pub own: Lent,

@@ -50,15 +50,15 @@ pub const ROLLBACK: Expected = [
     &[],
 ];
 
-/// What the cases worked out by hand give.
+/// What the cases worked out by hand give, and chains of each length, whole and with a last descriptor that is unsound.
 pub const VALUES: Expected = [
     &[0, 1, 2, 3, 4, 5, 17],
-    &[0, 7, 10],
-    &[0, 11],
-    &[0, 11, 12, 13],
+    &[0, 6, 7, 10],
+    &[0, 6, 11],
+    &[0, 6, 11, 12, 13],
     &[0, 1, 4, 6, 7],
-    &[0],
-    &[0],
+    &[0, 6],
+    &[0, 6],
     &[0, 1, 4, 6, 7, 8, 10],
     &[],
 ];

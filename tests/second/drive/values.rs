@@ -1,15 +1,15 @@
 //! The bench value of document 01 that is not marked, on the library and on the own store:
 //! layout 2, N 256, 255 snaps pass, the next gives 13. Then the cases by hand of document 02's
-//! revisions and visits.
+//! revisions and visits, and every call on chains of each length up to twelve.
 
 use crate::boundary::Ask;
-use crate::call::Said;
+use crate::call::{Call, Said};
 use crate::cases::{self, Case};
 use crate::lent::Lent;
-use crate::numbers::BLOCK;
+use crate::numbers::{BLOCK, NEXT};
 use crate::pair::Pair;
 use crate::rng::Rng;
-use crate::store::{self, Answer};
+use crate::store::{self, number_at, Answer, Logical, Target, NOTHING};
 use crate::table::Table;
 use crate::visits;
 
@@ -20,6 +20,9 @@ pub fn one(seed: u64, table: &mut Table) -> Result<(), String> {
     let volume = [1, 128, 14_336][(seed % 3) as usize];
     for revision in [0, 1] {
         bench(&mut rng, volume, revision, table)?;
+        for layout in [1, 2] {
+            lengths(&mut rng, layout, revision.into(), table)?;
+        }
     }
     for case in cases::all().into_iter().chain(visits::all()) {
         for fill in [0, 0xff] {
@@ -46,6 +49,95 @@ fn bench(rng: &mut Rng, volume: u32, revision: u32, table: &mut Table) -> Result
     }
     let visit = name(rng, "visit-255");
     expect(&mut pair, &Ask::Snap { name: visit }, 13, table)
+}
+
+/// A card of one to twelve descriptors: the library walks a short chain and a long one in
+/// different ways.
+fn lengths(rng: &mut Rng, layout: u64, revision: u64, table: &mut Table) -> Result<(), String> {
+    let area = vec![0; 96 * BLOCK];
+    let mut pair = Pair::new(Lent::new(rng, &area, 0));
+    let mut run = |pair: &mut Pair, call: Call| {
+        let ask = Ask::of(&call, rng);
+        let words = ask.words();
+        let said = pair.call(area.len(), &ask, table);
+        said.map_err(|reason| format!("{words}: {reason}"))
+            .map(|(answer, _)| answer)
+    };
+    let name = |text: &str| text.as_bytes().to_vec();
+    let ream = Call::Ream {
+        layout,
+        volume: 200,
+        revision,
+        name: name("fs"),
+    };
+    run(&mut pair, ream)?;
+    let mut visits: Vec<String> = Vec::new();
+    for k in 0..12u64 {
+        let blocks = [0, k, 199].map(Logical);
+        for logical in blocks {
+            let lent = vec![k as u8 + 1; BLOCK];
+            run(&mut pair.clone(), Call::Write { logical, lent })?;
+        }
+        let lent = vec![k as u8 + 1; BLOCK];
+        let logical = Logical(k);
+        run(&mut pair, Call::Write { logical, lent })?;
+        let mut broken = pair.clone();
+        let alpha = BLOCK * last_start(pair.library.part());
+        broken.damage(|card| card[alpha] ^= 1);
+        for pair in [&mut pair, &mut broken] {
+            let sound = run(pair, Call::Check)? == (0, 0);
+            let lent = vec![NOTHING; 12];
+            run(pair, Call::List { lent })?;
+            let snapshots = visits
+                .iter()
+                .map(|v| Target::Snapshot(v.as_bytes().to_vec()));
+            for target in snapshots.chain([Target::Active]) {
+                for logical in blocks {
+                    let lent = vec![0xee; BLOCK];
+                    let target = target.clone();
+                    run(
+                        pair,
+                        Call::Visit {
+                            target: target.clone(),
+                            logical,
+                        },
+                    )?;
+                    run(
+                        pair,
+                        Call::Read {
+                            target,
+                            logical,
+                            lent,
+                        },
+                    )?;
+                }
+            }
+            for visit in visits.iter().map(String::as_str).chain(["none"]) {
+                run(&mut pair.clone(), Call::Revert { name: name(visit) })?;
+                run(&mut pair.clone(), Call::Snap { name: name(visit) })?;
+            }
+            if !sound {
+                let lent = vec![1; BLOCK];
+                run(pair, Call::Write { logical, lent })?;
+            }
+        }
+        let visit = format!("visit-{k}");
+        run(&mut pair, Call::Snap { name: name(&visit) })?;
+        visits.push(visit);
+    }
+    Ok(())
+}
+
+/// The block of the last descriptor.
+fn last_start(card: &[u8]) -> usize {
+    let mut p = 0;
+    loop {
+        let next = number_at(card, BLOCK * p + NEXT) as usize;
+        if next == 0 {
+            return p;
+        }
+        p = next;
+    }
 }
 
 /// Runs a case on both cards and holds the library's against it.

@@ -47,11 +47,11 @@ use base.Logic.{emp, via, fst∗}
 use denote.Exit.{yes}
 use Rattle.calls.specs.Call.{Listing, Records}
 use Rattle.calls.specs.Step.{Done, step, done as doneOf}
-use Rattle.calls.specs.Listing.{PlanFor, filled}
+use Rattle.calls.specs.Listing.{planOf, filled}
 use Rattle.calls.specs.declared.answer.Record.{Record}
 use Rattle.calls.specs.declared.answer.Answer.{Answer}
 use Rattle.calls.specs.declared.list.Plan.{Plan}
-use Rattle.calls.proofs.ListingLaws.{Ready, plan-ready, plan-done}
+use Rattle.calls.proofs.ListingLaws.{Ready, plan-told, plan-ready, plan-done}
 use Rattle.calls.proofs.answer.Record as T
 use Rattle.calls.proofs.list.Plan as P
 use Rattle.calls.proofs.list.Plan.Laws as P′
@@ -82,7 +82,7 @@ svals = array-vals (uint-vals w32)
 
 -- what `make_plan` ensures for a room of n records
 abbrev Planned : List ℕ → ℕ → Plan → Type 0
-Planned c n r = (records : List Record) → length records ≡ n → PlanFor c records r
+Planned c n r = r ≡ planOf c n
 
 abbrev stayed : Stays (list.ended .signature .params) (list.ended .kept)
 stayed = (stay-none-slice (0 ∷ []) tt (plain (λ _. u8)) yes, (gave-slice (1 ∷ []) tt (plain (λ _. R)), tt))
@@ -196,7 +196,7 @@ module _ {M : Type 1} (𝓤 : URA M) (H : Heap 𝓤) (A : Atoms 𝓤) (W : Given
         split ! $ move ! (1 ∷ []) $ peeks ! P.the-row (Is P.the-row) (shows 𝓤 H A P.the-row) r (w ∷ []) (λ r-is.
         let fields = LL.owed P.the-type P′.the-laws r _ r-is in
         let tl : w ≡ LL.val P.the-type P′.the-laws r = ap only (LL.tells P.the-type P′.the-laws r (w ∷ []) r-is) in
-        let ready : Ready (now x) (r .starts) ys (r .count) = plan-ready (now x) ys r (e ys refl) in
+        let ready : Ready (now x) (r .starts) ys (r .count) = plan-ready (now x) ys r (plan-told (now x) ys (length ys) refl r e) in
         let starts-is : Is AS (r .starts) (svals (r .starts)) = subst (λ (l : List ℕ). Is AS l (svals l)) (map-id (r .starts)) (fields .1 .1 .0) in
         let long : length (r .starts) ≡ 257 = starts-is .1 .0 .1 in
         land ! (from ! (stop !)) (init ! 19 refl (LL.lawful P.the-type P′.the-laws 𝓤 H A W .typed r _ r-is .0)) $
@@ -255,7 +255,7 @@ module _ {M : Type 1} (𝓤 : URA M) (H : Heap 𝓤) (A : Atoms 𝓤) (W : Given
         move ! (24 ∷ 25 ∷ []) $ free1 ! $ move ! (22 ∷ 23 ∷ []) $ free1 ! $ move ! (20 ∷ 21 ∷ []) $ free1 ! $ move ! (18 ∷ 19 ∷ []) $ free1 ! $ move ! (0 ∷ 17 ∷ []) $ free1 ! $
         move ! (14 ∷ 15 ∷ []) $ free1 ! $ move ! (12 ∷ 13 ∷ []) $ free1 ! $ move ! (10 ∷ 11 ∷ []) $ free1 ! $ move ! (8 ∷ 9 ∷ []) $ free1 ! $ move ! (6 ∷ 7 ∷ []) $ free1 ! $ move ! (4 ∷ 5 ∷ []) $ free1 ! $ free0 ! $
         move ! (1 ∷ 0 ∷ []) $ join ! $
-        by ! (exits l (r .answer) _ (fields .0) len (plan-done (now x) ys r (e ys refl) l e₁)))))))))))))))))))))))))))
+        by ! (exits l (r .answer) _ (fields .0) len (plan-done (now x) ys r (plan-told (now x) ys (length ys) refl r e) l e₁)))))))))))))))))))))))))))
 
 module _ {M : Type 1} (𝓤 : URA M) (H : Heap 𝓤) (A : Atoms 𝓤) (W : Given 𝓤 H A) (mem : Memory → SProp 𝓤) (run : Routine → Fun 𝓤) where
   list-walks : (C : Calls 𝓤 H) (Λ : Loops 𝓤 H) → FmC 𝓤 H (W .laws) C → Triple 𝓤 (C #listing·make-plan) (MakePlan 𝓤 H A mem run) → Triple 𝓤 (C #listing·fill) (Fill 𝓤 H A mem run)

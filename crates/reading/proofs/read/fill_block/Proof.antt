@@ -2,9 +2,7 @@
 use mathlib.Core.Path.{refl}
 use native.Mathlib.Omega.{arith}
 use borrow.Author.Needs.{needs}
-use borrow.Author.Tests.{ne-eqb}
-use Rattle.blocks.specs.Bytes.{blockAt}
-use Rattle.calls.proofs.ReadLaws.{filled-nil}
+use Rattle.calls.proofs.ReadLaws.{filled-nil, filled-block}
 use Rattle.reading.proofs.read.fill_block.Statement.{statement}
 use Rattle.reading.proofs.read.fill_block.Tie as tie
 
@@ -20,21 +18,32 @@ same-length c = search needs
 returns : tie.Need-returns
 returns c = filled-nil _ _ _ _ _ (c .before .before .before .before .before .if1 .taken) (c .before .before .before .before .before .before .before .before .before .pre .0) refl (c .before .before .put-bytes .ensures)
 
-cast-get-bytes : tie.Need-cast-get-bytes
-cast-get-bytes c = search needs
+cast-at : tie.Need-cast-at
+cast-at c = search needs
 
-mul-get-bytes : tie.Need-mul-get-bytes
-mul-get-bytes c = search needs
+mul-at : tie.Need-mul-at
+mul-at c = search needs
 
-get-bytes-requires : tie.Need-get-bytes-requires
-get-bytes-requires c κs = omega (arith, c .before .before .before .before .before .before .pre .0, c .before .before .before .before .before .before .pre .1 (c .before .before .if1 .left))
+add-put-bytes : tie.Need-add-put-bytes
+add-put-bytes c = search needs
+
+sub-put-bytes : tie.Need-sub-put-bytes
+sub-put-bytes c = search needs
+
+part-put-bytes-start : tie.Need-part-put-bytes-start
+part-put-bytes-start c = search needs
+
+part-put-bytes-end : tie.Need-part-put-bytes-end
+part-put-bytes-end c = omega (arith, c .before .before .before .before .before .before .pre .1 (c .before .before .if1 .left))
+
+put-bytes-requires-2 : tie.Need-put-bytes-requires-2
+put-bytes-requires-2 c κs = search needs
 
 same-length-2 : tie.Need-same-length-2
 same-length-2 c = search needs
 
 returns-2 : tie.Need-returns-2
-unfolding blockAt
-returns-2 c = rw (c .before .before .get-bytes .ensures, c .before .before .before .before .before .before .before .before .before .pre .0, ne-eqb _ _ (c .before .before .before .before .before .if1 .left))
+returns-2 c = filled-block _ _ _ _ (c .before .before .before .before .before .before .if1 .left) (c .before .before .before .before .before .before .before .before .before .before .pre .0) (c .before .before .before .before .before .before .before .before .before .before .pre .1 (c .before .before .before .before .before .before .if1 .left)) (c .before .before .put-bytes2 .ensures)
 
 pub fill-block-spec : {M : Type 1} → statement M
 fill-block-spec =
@@ -44,8 +53,12 @@ fill-block-spec =
     put-bytes-requires
     same-length
     returns
-    cast-get-bytes
-    mul-get-bytes
-    get-bytes-requires
+    cast-at
+    mul-at
+    add-put-bytes
+    sub-put-bytes
+    part-put-bytes-start
+    part-put-bytes-end
+    put-bytes-requires-2
     same-length-2
     returns-2)

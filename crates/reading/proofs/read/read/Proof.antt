@@ -1,11 +1,12 @@
--- `read` meets its contract, row by row up to that of the chain.
+-- `read` meets its contract, row by row up to that of the chain; then by the index of the target.
 use mathlib.Core.Path.{refl, sym, _∙_}
 use native.Mathlib.Omega.{arith}
+use lib.ListN.{replicate}
 use borrow.Author.Needs.{needs}
-use borrow.Author.Tests.{not-false}
+use Rattle.calls.specs.Call.{accepted}
 use Rattle.calls.specs.Meaning.{lentOf}
 use Rattle.calls.proofs.StepLaws.{step-barred, step-refused}
-use Rattle.calls.proofs.CardLaws.{walked-card, walk-few, walk-long}
+use Rattle.calls.proofs.CardLaws.{enough-few, card-ready, places-long, places-card}
 use Rattle.calls.proofs.RowLaws.{admitted-card}
 use Rattle.calls.proofs.ReadLaws.{read-4, read-9, read-6}
 use Rattle.reading.proofs.read.read.Statement.{statement}
@@ -29,39 +30,57 @@ returns-3 : tie.Need-returns-3
 unfolding lentOf
 returns-3 c = step-refused _ _ _ _ (search read-9) refl
 
-slice-aggregate-walk-chain : tie.Need-slice-aggregate-walk-chain
-slice-aggregate-walk-chain c = search needs
+is-short-requires : tie.Need-is-short-requires
+is-short-requires c κs = search needs
 
-walk-chain-requires : tie.Need-walk-chain-requires
-walk-chain-requires c κs = refl
-
-returns-4 : tie.Need-returns-4
-unfolding lentOf
-returns-4 c = step-refused _ _ _ _ (search read-6) refl
-
-add-starts : tie.Need-add-starts
-add-starts c = omega (arith, walk-few _ _ (c .before .before .before .walk-chain .ensures .0))
-
-array-share-prefix-starts : tie.Need-array-share-prefix-starts
-array-share-prefix-starts c = omega (arith, walk-few _ _ (c .before .before .before .walk-chain .ensures .0))
-
-slice-aggregate-read-through : tie.Need-slice-aggregate-read-through
-slice-aggregate-read-through c =
-    let w = c .before .before .before .before .walk-chain .ensures in
-    let whole = c .before .if4 .left in
-    walk-long _ _ (w .0) whole _ (w .1 (not-false _ whole))
-
-read-through-requires : tie.Need-read-through-requires
-read-through-requires c κs =
-    let w = c .before .before .before .before .before .walk-chain .ensures in
-    let whole = c .before .before .if4 .left in
-    (walked-card _ (admitted-card _ _ (c .before .before .before .before .before .before .before .before .before .before .before .before .admit .ensures) (c .before .before .before .before .before .before .before .before .before .before .if1 .left)) _ (w .0) whole _ (w .1 (not-false _ whole)), sym (c .before .before .before .before .before .before .before .before .before .is-unnamed .ensures) ∙ c .before .before .before .before .before .before .before .before .if2 .left, c .before .before .before .before .before .before .before .if3 .left)
+read-long-requires : tie.Need-read-long-requires
+read-long-requires c κs = (admitted-card _ _ (c .before .before .before .before .before .before .before .before .admit .ensures) (c .before .before .before .before .before .before .if1 .left), sym (c .before .before .before .before .before .is-unnamed .ensures) ∙ c .before .before .before .before .if2 .left, c .before .before .before .if3 .left)
 
 same-length : tie.Need-same-length
 same-length c = search needs
 
+returns-4 : tie.Need-returns-4
+returns-4 c = c .before .before .read-long .ensures
+
+slice-aggregate-walk-chain : tie.Need-slice-aggregate-walk-chain
+slice-aggregate-walk-chain c = search needs
+
+walk-chain-requires : tie.Need-walk-chain-requires
+walk-chain-requires c κs = enough-few _ (replicate 9 0) _ (c .before .before .is-short .ensures) (c .before .if4 .left) refl
+
 returns-5 : tie.Need-returns-5
-returns-5 c = c .before .before .read-through .ensures
+unfolding lentOf
+returns-5 c = step-refused _ _ _ _ (search read-6) refl
+
+add-starts : tie.Need-add-starts
+add-starts c = omega (arith, c .before .before .before .walk-chain .ensures .1 .1 .1)
+
+array-share-prefix-starts : tie.Need-array-share-prefix-starts
+array-share-prefix-starts c = omega (arith, c .before .before .before .walk-chain .ensures .1 .1 .1)
+
+slice-aggregate-target-index : tie.Need-slice-aggregate-target-index
+slice-aggregate-target-index c = let w = c .before .before .before .before .walk-chain .ensures in places-long _ _ (w .0) (c .before .if5 .left) _ (w .1 .0)
+
+target-index-requires : tie.Need-target-index-requires
+target-index-requires c κs = let w = c .before .before .before .before .walk-chain .ensures in card-ready _ _ _ (places-card _ _ (w .0) (c .before .if5 .left) _ (w .1 .0) (admitted-card _ _ (c .before .before .before .before .before .before .before .before .before .before .before .before .before .admit .ensures) (c .before .before .before .before .before .before .before .before .before .before .before .if1 .left)))
+
+add-starts-2 : tie.Need-add-starts-2
+add-starts-2 c = omega (arith, c .before .before .before .before .before .walk-chain .ensures .1 .1 .1)
+
+array-share-prefix-starts-2 : tie.Need-array-share-prefix-starts-2
+array-share-prefix-starts-2 c = omega (arith, c .before .before .before .before .before .walk-chain .ensures .1 .1 .1)
+
+slice-aggregate-read-at : tie.Need-slice-aggregate-read-at
+slice-aggregate-read-at c = let w = c .before .before .before .before .before .before .walk-chain .ensures in places-long _ _ (w .0) (c .before .before .before .if5 .left) _ (w .1 .0)
+
+read-at-requires : tie.Need-read-at-requires
+read-at-requires c κs = let w = c .before .before .before .before .before .before .before .walk-chain .ensures in (places-card _ _ (w .0) (c .before .before .before .before .if5 .left) _ (w .1 .0) (admitted-card _ _ (c .before .before .before .before .before .before .before .before .before .before .before .before .before .before .before .before .admit .ensures) (c .before .before .before .before .before .before .before .before .before .before .before .before .before .before .if1 .left)), c .before .before .target-index .ensures .1, c .before .before .before .before .before .before .before .before .before .before .before .if3 .left)
+
+same-length-2 : tie.Need-same-length-2
+same-length-2 c = search needs
+
+returns-6 : tie.Need-returns-6
+returns-6 c = c .before .before .read-at .ensures _ _ (sym (c .before .before .before .before .before .before .before .before .before .before .before .before .before .before .before .before .is-unnamed .ensures) ∙ c .before .before .before .before .before .before .before .before .before .before .before .before .before .before .before .if2 .left) (c .before .before .before .before .before .target-index .ensures .0)
 
 pub read-spec : {M : Type 1} → statement M
 read-spec =
@@ -72,12 +91,20 @@ read-spec =
     is-unnamed-requires
     returns-2
     returns-3
+    is-short-requires
+    read-long-requires
+    same-length
+    returns-4
     slice-aggregate-walk-chain
     walk-chain-requires
-    returns-4
+    returns-5
     add-starts
     array-share-prefix-starts
-    slice-aggregate-read-through
-    read-through-requires
-    same-length
-    returns-5)
+    slice-aggregate-target-index
+    target-index-requires
+    add-starts-2
+    array-share-prefix-starts-2
+    slice-aggregate-read-at
+    read-at-requires
+    same-length-2
+    returns-6)

@@ -1,13 +1,13 @@
--- `revert` meets its contract, row by row up to that of the chain.
+-- `revert` meets its contract, row by row up to that of the chain; then by the walk with places that are enough.
 use mathlib.Core.Path.{refl, sym, _∙_}
-use native.Mathlib.Omega.{arith}
+use lib.ListN.{replicate}
 use borrow.Author.Needs.{needs}
 use borrow.Author.Tests.{not-false}
 use Rattle.calls.specs.Ladder.{revertRows}
 use Rattle.calls.specs.Meaning.{rowsOf, answerOf, lentOf}
 use Rattle.calls.proofs.StepLaws.{step-barred, step-refused}
-use Rattle.calls.proofs.CardLaws.{walked-card, walk-few, walk-long}
-use Rattle.calls.proofs.RowLaws.{admitted-card, named-4, named-6}
+use Rattle.calls.proofs.CardLaws.{enough-all, enough-few}
+use Rattle.calls.proofs.RowLaws.{admitted-card, named-4}
 use Rattle.reverts.proofs.revert.revert.Statement.{statement}
 use Rattle.reverts.proofs.revert.revert.Tie as tie
 
@@ -31,42 +31,32 @@ returns-2 : tie.Need-returns-2
 unfolding lentOf answerOf rowsOf revertRows
 returns-2 c = step-refused _ _ _ _ (search named-4) refl
 
-slice-aggregate-walk-chain : tie.Need-slice-aggregate-walk-chain
-slice-aggregate-walk-chain c = search needs
+is-short-requires : tie.Need-is-short-requires
+is-short-requires c κs = search needs
 
-walk-chain-requires : tie.Need-walk-chain-requires
-walk-chain-requires c κs = refl
+slice-aggregate-revert-with : tie.Need-slice-aggregate-revert-with
+slice-aggregate-revert-with c = search needs
+
+revert-with-requires : tie.Need-revert-with-requires
+revert-with-requires c κs = (admitted-card _ _ (c .before .before .before .before .before .before .before .before .before .admit .ensures) (c .before .before .before .before .before .before .before .if1 .left), sym (c .before .before .before .before .before .before .is-name .ensures) ∙ not-false _ (c .before .before .before .before .before .if2 .left), enough-all _ (replicate 257 0) refl)
 
 same-length-3 : tie.Need-same-length-3
 same-length-3 c = search needs
 
 returns-3 : tie.Need-returns-3
-unfolding lentOf answerOf rowsOf revertRows
-returns-3 c = step-refused _ _ _ _ (search named-6) refl
+returns-3 c = c .before .before .before .revert-with .ensures .0
 
-add-starts : tie.Need-add-starts
-add-starts c = omega (arith, walk-few _ _ (c .before .before .before .before .walk-chain .ensures .0))
+slice-aggregate-revert-with-2 : tie.Need-slice-aggregate-revert-with-2
+slice-aggregate-revert-with-2 c = search needs
 
-array-share-prefix-starts : tie.Need-array-share-prefix-starts
-array-share-prefix-starts c = omega (arith, walk-few _ _ (c .before .before .before .before .walk-chain .ensures .0))
-
-slice-aggregate-revert-through : tie.Need-slice-aggregate-revert-through
-slice-aggregate-revert-through c =
-    let w = c .before .before .before .before .before .walk-chain .ensures in
-    let whole = c .before .before .if3 .left in
-    walk-long _ _ (w .0) whole _ (w .1 (not-false _ whole))
-
-revert-through-requires : tie.Need-revert-through-requires
-revert-through-requires c κs =
-    let w = c .before .before .before .before .before .walk-chain .ensures in
-    let whole = c .before .before .if3 .left in
-    (walked-card _ (admitted-card _ _ (c .before .before .before .before .before .before .before .before .before .before .before .before .admit .ensures) (c .before .before .before .before .before .before .before .before .before .before .if1 .left)) _ (w .0) whole _ (w .1 (not-false _ whole)), sym (c .before .before .before .before .before .before .before .before .before .is-name .ensures) ∙ not-false _ (c .before .before .before .before .before .before .before .before .if2 .left))
+revert-with-requires-2 : tie.Need-revert-with-requires-2
+revert-with-requires-2 c κs = (admitted-card _ _ (c .before .before .before .before .before .before .before .before .before .admit .ensures) (c .before .before .before .before .before .before .before .if1 .left), sym (c .before .before .before .before .before .before .is-name .ensures) ∙ not-false _ (c .before .before .before .before .before .if2 .left), enough-few _ (replicate 9 0) _ (c .before .before .before .is-short .ensures) (c .before .before .if3 .left) refl)
 
 same-length-4 : tie.Need-same-length-4
 same-length-4 c = search needs
 
 returns-4 : tie.Need-returns-4
-returns-4 c = c .before .before .revert-through .ensures
+returns-4 c = c .before .before .before .revert-with2 .ensures .0
 
 pub revert-spec : {M : Type 1} → statement M
 revert-spec =
@@ -78,13 +68,12 @@ revert-spec =
     is-name-requires
     same-length-2
     returns-2
-    slice-aggregate-walk-chain
-    walk-chain-requires
+    is-short-requires
+    slice-aggregate-revert-with
+    revert-with-requires
     same-length-3
     returns-3
-    add-starts
-    array-share-prefix-starts
-    slice-aggregate-revert-through
-    revert-through-requires
+    slice-aggregate-revert-with-2
+    revert-with-requires-2
     same-length-4
     returns-4)

@@ -1,13 +1,13 @@
--- `snap` meets its contract, row by row up to that of the chain.
+-- `snap` meets its contract, row by row up to that of the chain; then by the walk with places that are enough.
 use mathlib.Core.Path.{refl, sym, _∙_}
-use native.Mathlib.Omega.{arith}
+use lib.ListN.{replicate}
 use borrow.Author.Needs.{needs}
 use borrow.Author.Tests.{not-false}
 use Rattle.calls.specs.Ladder.{snapRows}
 use Rattle.calls.specs.Meaning.{rowsOf, answerOf, lentOf}
 use Rattle.calls.proofs.StepLaws.{step-barred, step-refused}
-use Rattle.calls.proofs.CardLaws.{walked-card, walk-few, walk-long}
-use Rattle.calls.proofs.RowLaws.{admitted-card, named-4, named-6}
+use Rattle.calls.proofs.CardLaws.{enough-all, enough-few}
+use Rattle.calls.proofs.RowLaws.{admitted-card, named-4}
 use Rattle.snaps.proofs.snap.snap.Statement.{statement}
 use Rattle.snaps.proofs.snap.snap.Tie as tie
 
@@ -31,42 +31,32 @@ returns-2 : tie.Need-returns-2
 unfolding lentOf answerOf rowsOf snapRows
 returns-2 c = step-refused _ _ _ _ (search named-4) refl
 
-slice-aggregate-walk-chain : tie.Need-slice-aggregate-walk-chain
-slice-aggregate-walk-chain c = search needs
+is-short-requires : tie.Need-is-short-requires
+is-short-requires c κs = search needs
 
-walk-chain-requires : tie.Need-walk-chain-requires
-walk-chain-requires c κs = refl
+slice-aggregate-snap-with : tie.Need-slice-aggregate-snap-with
+slice-aggregate-snap-with c = search needs
+
+snap-with-requires : tie.Need-snap-with-requires
+snap-with-requires c κs = (admitted-card _ _ (c .before .before .before .before .before .before .before .before .before .admit .ensures) (c .before .before .before .before .before .before .before .if1 .left), sym (c .before .before .before .before .before .before .is-name .ensures) ∙ not-false _ (c .before .before .before .before .before .if2 .left), enough-all _ (replicate 257 0) refl)
 
 same-length-3 : tie.Need-same-length-3
 same-length-3 c = search needs
 
 returns-3 : tie.Need-returns-3
-unfolding lentOf answerOf rowsOf snapRows
-returns-3 c = step-refused _ _ _ _ (search named-6) refl
+returns-3 c = c .before .before .before .snap-with .ensures .0
 
-add-starts : tie.Need-add-starts
-add-starts c = omega (arith, walk-few _ _ (c .before .before .before .before .walk-chain .ensures .0))
+slice-aggregate-snap-with-2 : tie.Need-slice-aggregate-snap-with-2
+slice-aggregate-snap-with-2 c = search needs
 
-array-share-prefix-starts : tie.Need-array-share-prefix-starts
-array-share-prefix-starts c = omega (arith, walk-few _ _ (c .before .before .before .before .walk-chain .ensures .0))
-
-slice-aggregate-snap-through : tie.Need-slice-aggregate-snap-through
-slice-aggregate-snap-through c =
-    let w = c .before .before .before .before .before .walk-chain .ensures in
-    let whole = c .before .before .if3 .left in
-    walk-long _ _ (w .0) whole _ (w .1 (not-false _ whole))
-
-snap-through-requires : tie.Need-snap-through-requires
-snap-through-requires c κs =
-    let w = c .before .before .before .before .before .walk-chain .ensures in
-    let whole = c .before .before .if3 .left in
-    (walked-card _ (admitted-card _ _ (c .before .before .before .before .before .before .before .before .before .before .before .before .admit .ensures) (c .before .before .before .before .before .before .before .before .before .before .if1 .left)) _ (w .0) whole _ (w .1 (not-false _ whole)), sym (c .before .before .before .before .before .before .before .before .before .is-name .ensures) ∙ not-false _ (c .before .before .before .before .before .before .before .before .if2 .left))
+snap-with-requires-2 : tie.Need-snap-with-requires-2
+snap-with-requires-2 c κs = (admitted-card _ _ (c .before .before .before .before .before .before .before .before .before .admit .ensures) (c .before .before .before .before .before .before .before .if1 .left), sym (c .before .before .before .before .before .before .is-name .ensures) ∙ not-false _ (c .before .before .before .before .before .if2 .left), enough-few _ (replicate 9 0) _ (c .before .before .before .is-short .ensures) (c .before .before .if3 .left) refl)
 
 same-length-4 : tie.Need-same-length-4
 same-length-4 c = search needs
 
 returns-4 : tie.Need-returns-4
-returns-4 c = c .before .before .snap-through .ensures
+returns-4 c = c .before .before .before .snap-with2 .ensures .0
 
 pub snap-spec : {M : Type 1} → statement M
 snap-spec =
@@ -78,13 +68,12 @@ snap-spec =
     is-name-requires
     same-length-2
     returns-2
-    slice-aggregate-walk-chain
-    walk-chain-requires
+    is-short-requires
+    slice-aggregate-snap-with
+    snap-with-requires
     same-length-3
     returns-3
-    add-starts
-    array-share-prefix-starts
-    slice-aggregate-snap-through
-    snap-through-requires
+    slice-aggregate-snap-with-2
+    snap-with-requires-2
     same-length-4
     returns-4)

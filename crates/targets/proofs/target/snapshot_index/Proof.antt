@@ -13,10 +13,10 @@ add-result : tie.Need-add-result
 add-result c = search needs
 
 returns : tie.Need-returns
-returns c = index-none _ _ _ (descriptors-counted _ _ _ (omega (arith, c .before .before .before .before .pre .0))) _ (c .before .index-of .ensures .0) (c .if1 .taken)
+returns c = (index-none _ _ _ (descriptors-counted _ _ _ (omega (arith, c .before .before .before .before .pre .0))) _ (c .before .index-of .ensures .0) (c .if1 .taken), omega arith)
 
 returns-2 : tie.Need-returns-2
-returns-2 c = index-some _ _ _ (descriptors-counted _ _ _ (omega (arith, c .before .before .before .before .pre .0))) _ (c .before .index-of .ensures .0) (c .if1 .left)
+returns-2 c = (index-some _ _ _ (descriptors-counted _ _ _ (omega (arith, c .before .before .before .before .pre .0))) _ (c .before .index-of .ensures .0) (c .if1 .left), omega (arith, c .before .index-of .ensures .1))
 
 pub snapshot-index-spec : {M : Type 1} → statement M
 snapshot-index-spec = tie.close (tie.spec index-of-requires add-result returns returns-2)

@@ -24,12 +24,12 @@ returns : tie.Need-returns
 returns c =
     let s = c .before .before .before .before in
     let e : s .args .target ≡ Active = cc in
-    rw e (index-active _ _ _ (descriptors-counted _ _ _ (omega (arith, s .pre .1))))
+    (rw e (index-active _ _ _ (descriptors-counted _ _ _ (omega (arith, s .pre .1)))), omega (arith, s .pre .0))
 
 returns-2 : tie.Need-returns-2
 returns-2 c =
     let e : c .before .before .before .before .before .args .target ≡ Snapshot = cc in
-    rw e (c .snapshot-index .ensures)
+    (rw e (c .snapshot-index .ensures .0), omega (arith, c .snapshot-index .ensures .1, c .before .before .before .before .before .pre .0))
 
 pub target-index-spec : {M : Type 1} → statement M
 target-index-spec =

@@ -1,13 +1,12 @@
--- `write` meets its contract, row by row up to that of the chain.
+-- `write` meets its contract, row by row up to that of the chain; then by the walk with places that are enough.
 use mathlib.Core.Path.{refl}
-use native.Mathlib.Omega.{arith}
+use lib.ListN.{replicate}
 use borrow.Author.Needs.{needs}
-use borrow.Author.Tests.{not-false}
 use Rattle.calls.specs.Meaning.{lentOf}
 use Rattle.calls.proofs.StepLaws.{step-barred, step-refused}
-use Rattle.calls.proofs.CardLaws.{walked-card, walk-few, walk-long}
+use Rattle.calls.proofs.CardLaws.{enough-all, enough-few}
 use Rattle.calls.proofs.RowLaws.{admitted-card}
-use Rattle.calls.proofs.WriteLaws.{write-9, write-6}
+use Rattle.calls.proofs.WriteLaws.{write-9}
 use Rattle.writes.proofs.write.write.Statement.{statement}
 use Rattle.writes.proofs.write.write.Tie as tie
 
@@ -28,42 +27,32 @@ returns-2 : tie.Need-returns-2
 unfolding lentOf
 returns-2 c = step-refused _ _ _ _ (search write-9) refl
 
-slice-aggregate-walk-chain : tie.Need-slice-aggregate-walk-chain
-slice-aggregate-walk-chain c = search needs
+is-short-requires : tie.Need-is-short-requires
+is-short-requires c κs = search needs
 
-walk-chain-requires : tie.Need-walk-chain-requires
-walk-chain-requires c κs = refl
+slice-aggregate-write-with : tie.Need-slice-aggregate-write-with
+slice-aggregate-write-with c = search needs
+
+write-with-requires : tie.Need-write-with-requires
+write-with-requires c κs = (admitted-card _ _ (c .before .before .before .before .before .before .before .before .admit .ensures) (c .before .before .before .before .before .before .if1 .left), c .before .before .before .before .before .if2 .left, enough-all _ (replicate 257 0) refl)
 
 same-length-3 : tie.Need-same-length-3
 same-length-3 c = search needs
 
 returns-3 : tie.Need-returns-3
-unfolding lentOf
-returns-3 c = step-refused _ _ _ _ (search write-6) refl
+returns-3 c = c .before .before .before .write-with .ensures .0
 
-add-starts : tie.Need-add-starts
-add-starts c = omega (arith, walk-few _ _ (c .before .before .before .before .walk-chain .ensures .0))
+slice-aggregate-write-with-2 : tie.Need-slice-aggregate-write-with-2
+slice-aggregate-write-with-2 c = search needs
 
-array-share-prefix-starts : tie.Need-array-share-prefix-starts
-array-share-prefix-starts c = omega (arith, walk-few _ _ (c .before .before .before .before .walk-chain .ensures .0))
-
-slice-aggregate-write-through : tie.Need-slice-aggregate-write-through
-slice-aggregate-write-through c =
-    let w = c .before .before .before .before .before .walk-chain .ensures in
-    let whole = c .before .before .if3 .left in
-    walk-long _ _ (w .0) whole _ (w .1 (not-false _ whole))
-
-write-through-requires : tie.Need-write-through-requires
-write-through-requires c κs =
-    let w = c .before .before .before .before .before .walk-chain .ensures in
-    let whole = c .before .before .if3 .left in
-    (walked-card _ (admitted-card _ _ (c .before .before .before .before .before .before .before .before .before .before .before .admit .ensures) (c .before .before .before .before .before .before .before .before .before .if1 .left)) _ (w .0) whole _ (w .1 (not-false _ whole)), c .before .before .before .before .before .before .before .before .if2 .left)
+write-with-requires-2 : tie.Need-write-with-requires-2
+write-with-requires-2 c κs = (admitted-card _ _ (c .before .before .before .before .before .before .before .before .admit .ensures) (c .before .before .before .before .before .before .if1 .left), c .before .before .before .before .before .if2 .left, enough-few _ (replicate 9 0) _ (c .before .before .before .is-short .ensures) (c .before .before .if3 .left) refl)
 
 same-length-4 : tie.Need-same-length-4
 same-length-4 c = search needs
 
 returns-4 : tie.Need-returns-4
-returns-4 c = c .before .before .write-through .ensures
+returns-4 c = c .before .before .before .write-with2 .ensures .0
 
 pub write-spec : {M : Type 1} → statement M
 write-spec =
@@ -74,13 +63,12 @@ write-spec =
     returns
     same-length-2
     returns-2
-    slice-aggregate-walk-chain
-    walk-chain-requires
+    is-short-requires
+    slice-aggregate-write-with
+    write-with-requires
     same-length-3
     returns-3
-    add-starts
-    array-share-prefix-starts
-    slice-aggregate-write-through
-    write-through-requires
+    slice-aggregate-write-with-2
+    write-with-requires-2
     same-length-4
     returns-4)
