@@ -3,6 +3,7 @@ use admitting::area;
 use blocks::descriptor;
 use blocks::numbers::Physical;
 use blocks::sizes::BLOCK_SIZE;
+use blocks::sizes::FEW_STARTS;
 use blocks::sizes::MOST_BLOCKS;
 use blocks::sizes::STARTS_SIZE;
 use calls::answer;
@@ -12,13 +13,15 @@ use flagging::flags;
 use judging::check as rules;
 use walking::chain;
 ghost use mathlib.Core.Path.{_≡_};
+ghost use mathlib.Core.Bool.{false};
 ghost use Prim.Native.Nat.{ℕ, _*_, _≤_};
 ghost use lib.ListN.{length, getD};
 ghost use Rattle.blocks.specs.Descriptor.{costOf};
 ghost use Rattle.chains.specs.Chain.{chain as chainOf, descriptors, activeOf};
+ghost use Rattle.chains.specs.Walk.{Enough, placesLeft};
 ghost use Rattle.entries.specs.Marks.{openingsFlagged};
 ghost use Rattle.calls.specs.Call.{Check, None};
-ghost use Rattle.calls.specs.Parts.{SoundCard};
+ghost use Rattle.calls.specs.Parts.{areaBad, SoundCard};
 ghost use Rattle.calls.specs.Check.{checkCard, takingChain};
 ghost use Rattle.calls.specs.Step.{step, done};
 ghost use Rattle.blocks.specs.Bytes.{blockSize};
@@ -108,6 +111,21 @@ fn check_through(card: &[u8], starts: &[u32], count: usize) -> Answer
     }
 }
 
+// Checks the card with enough lent places for the walk: the tests from that of the chain on.
+fn check_with(card: &[u8], starts: &mut [u32]) -> Answer
+    requires { ⌜ (areaBad (now card) ≡ false) × Enough (now card) (now starts) ⌝ }
+    ensures { λ r. ⌜ done r None (now (card .entry)) ≡ step Check (now (card .entry)) ⌝ }
+    ensures { λ _. ⌜ now (starts .exit) ≡ placesLeft (now (card .entry)) (now (starts .entry)) ⌝ }
+{
+    let found = chain::walk_chain(&*card, starts);
+    if !found.sound {
+        let place = found.place.0;
+        return Answer { number: 6, place };
+    }
+    let count = found.count;
+    check_through(card, &starts[..count + 1], count)
+}
+
 // Checks the card.
 pub fn check(card: &[u8]) -> Answer
     ensures { λ r. ⌜ done r None (now (card .entry)) ≡ step Check (now (card .entry)) ⌝ }
@@ -116,12 +134,10 @@ pub fn check(card: &[u8]) -> Answer
     if admitted.number != 0 {
         return admitted;
     }
-    let mut starts = [0u32; STARTS_SIZE];
-    let found = chain::walk_chain(card, &mut starts);
-    if !found.sound {
-        let place = found.place.0;
-        return Answer { number: 6, place };
+    if !chain::is_short(card) {
+        let mut starts = [0u32; STARTS_SIZE];
+        return check_with(card, &mut starts);
     }
-    let count = found.count;
-    check_through(card, &starts[..count + 1], count)
+    let mut starts = [0u32; FEW_STARTS];
+    check_with(card, &mut starts)
 }

@@ -1,13 +1,11 @@
--- `check` meets its contract, row by row up to that of the chain.
+-- `check` meets its contract, row by row up to that of the chain; then by the walk with places that are enough.
 use mathlib.Core.Path.{refl}
-use native.Mathlib.Omega.{arith}
 use lib.ListN.{replicate}
 use borrow.Author.Needs.{needs}
 use Rattle.calls.specs.Meaning.{lentOf}
-use Rattle.calls.proofs.StepLaws.{step-barred, step-refused}
-use Rattle.calls.proofs.CardLaws.{enough-all, places-long, places-card}
+use Rattle.calls.proofs.StepLaws.{step-barred}
+use Rattle.calls.proofs.CardLaws.{enough-all, enough-few}
 use Rattle.calls.proofs.RowLaws.{admitted-card}
-use Rattle.calls.proofs.CheckCardLaws.{check-6}
 use Rattle.checking.proofs.check.check.Statement.{statement}
 use Rattle.checking.proofs.check.check.Tie as tie
 
@@ -18,32 +16,26 @@ returns : tie.Need-returns
 unfolding lentOf
 returns c = step-barred _ _ _ (c .before .before .admit .ensures) (c .if1 .taken)
 
-slice-aggregate-walk-chain : tie.Need-slice-aggregate-walk-chain
-slice-aggregate-walk-chain c = search needs
+is-short-requires : tie.Need-is-short-requires
+is-short-requires c κs = search needs
 
-walk-chain-requires : tie.Need-walk-chain-requires
-walk-chain-requires c κs = enough-all _ (replicate 257 0) refl
+slice-aggregate-check-with : tie.Need-slice-aggregate-check-with
+slice-aggregate-check-with c = search needs
+
+check-with-requires : tie.Need-check-with-requires
+check-with-requires c κs = (admitted-card _ _ (c .before .before .before .before .before .admit .ensures) (c .before .before .before .if1 .left), enough-all _ (replicate 257 0) refl)
 
 returns-2 : tie.Need-returns-2
-unfolding lentOf
-returns-2 c = step-refused _ _ _ _ (search check-6) refl
+returns-2 c = c .before .check-with .ensures .0
 
-add-starts : tie.Need-add-starts
-add-starts c = omega (arith, c .before .before .before .walk-chain .ensures .1 .1 .1)
+slice-aggregate-check-with-2 : tie.Need-slice-aggregate-check-with-2
+slice-aggregate-check-with-2 c = search needs
 
-array-share-prefix-starts : tie.Need-array-share-prefix-starts
-array-share-prefix-starts c = omega (arith, c .before .before .before .walk-chain .ensures .1 .1 .1)
-
-slice-aggregate-check-through : tie.Need-slice-aggregate-check-through
-slice-aggregate-check-through c = let w = c .before .before .before .before .walk-chain .ensures in places-long _ _ (w .0) (c .before .if2 .left) _ (w .1 .0)
-
-check-through-requires : tie.Need-check-through-requires
-check-through-requires c κs =
-    let w = c .before .before .before .before .walk-chain .ensures in
-    places-card _ _ (w .0) (c .before .if2 .left) _ (w .1 .0) (admitted-card _ _ (c .before .before .before .before .before .before .before .before .admit .ensures) (c .before .before .before .before .before .before .if1 .left))
+check-with-requires-2 : tie.Need-check-with-requires-2
+check-with-requires-2 c κs = (admitted-card _ _ (c .before .before .before .before .before .admit .ensures) (c .before .before .before .if1 .left), enough-few _ (replicate 9 0) _ (c .before .before .is-short .ensures) (c .before .if2 .left) refl)
 
 returns-3 : tie.Need-returns-3
-returns-3 c = c .check-through .ensures
+returns-3 c = c .before .check-with2 .ensures .0
 
 pub check-spec : {M : Type 1} → statement M
 check-spec =
@@ -51,11 +43,10 @@ check-spec =
     (tie.spec
     admit-requires
     returns
-    slice-aggregate-walk-chain
-    walk-chain-requires
+    is-short-requires
+    slice-aggregate-check-with
+    check-with-requires
     returns-2
-    add-starts
-    array-share-prefix-starts
-    slice-aggregate-check-through
-    check-through-requires
+    slice-aggregate-check-with-2
+    check-with-requires-2
     returns-3)
