@@ -42,7 +42,8 @@ drive calls SEED COUNT       random lists of calls
 drive damaged SEED COUNT     random calls on damaged cards
 drive rollback SEED COUNT    each accepted revert beside the shorter list
 drive names SEED COUNT       lists of texts made into names
-drive values SEED COUNT      the bench value of 255 snaps and one more, and cases by hand
+drive values SEED COUNT      the bench value of 255 snaps and one more, cases by hand, chains of each
+                             length up to twelve
 ";
 
 /// One list: it counts its answers in the table, or says what differed.

@@ -1,4 +1,4 @@
-// The sizes that the papers give: of a block, of a table and of what stands in a descriptor.
+// The sizes that the papers give: of a block, of a table and of what stands in a descriptor; and the places that a walk along the chain is lent.
 
 // Bytes in a block.
 pub const BLOCK_SIZE: usize = 512;

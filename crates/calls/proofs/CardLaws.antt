@@ -56,7 +56,7 @@ few-by c (Sound ds) w e few = omega (arith, ap (λ (x : Walk). x .count) e, few 
 pub walk-few : (c : List ℕ) (w : Walk) → w ≡ walkOf (chain c) → w .count ≤ 256
 walk-few c w walked = few-by c (chain c) w walked (chain-few c)
 
-pub walk-long : (ch : Chain) (w : Walk) → w ≡ walkOf ch → not (w .sound) ≡ false → (starts : List ℕ) → starts ≡ startsOf (descriptors ch) → w .count + 1 ≡ length starts
+walk-long : (ch : Chain) (w : Walk) → w ≡ walkOf ch → not (w .sound) ≡ false → (starts : List ℕ) → starts ≡ startsOf (descriptors ch) → w .count + 1 ≡ length starts
 unfolding startsOf
 walk-long ch w walked h starts e = omega (arith, ap length e, length-ends (descriptors ch), walk-whole ch w walked (not-false (w .sound) h) .1)
 
@@ -103,7 +103,7 @@ pub card-fault : (c : List ℕ) (w : Walk) → w ≡ walkOf (chain c) → w .sou
 card-fault c w walked h = walk-fault (chain c) w walked h
 
 -- what the code of a call knows past the walk
-pub walked-card : (c : List ℕ) → areaBad c ≡ false → (w : Walk) → w ≡ walkOf (chain c) → not (w .sound) ≡ false → (starts : List ℕ) → starts ≡ startsOf (descriptors (chain c)) → SoundCard c (w .count) starts
+walked-card : (c : List ℕ) → areaBad c ≡ false → (w : Walk) → w ≡ walkOf (chain c) → not (w .sound) ≡ false → (starts : List ℕ) → starts ≡ startsOf (descriptors (chain c)) → SoundCard c (w .count) starts
 walked-card c area w walked h starts e = record { area = area; regions = walk-regions (chain c) w walked (not-false (w .sound) h) starts e }
 
 module _ (c : List ℕ) (r : Regions) (is : r ≡ regionsOf (chain c)) where

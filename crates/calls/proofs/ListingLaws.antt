@@ -28,11 +28,17 @@ use Rattle.calls.specs.Ladder.{admission, firstRow, listRows}
 use Rattle.calls.specs.Effect.{recordOf, listed}
 use Rattle.calls.specs.Meaning.{rowsOf, answerOf, storesOf, lentOf, filledOf, givenOf}
 use Rattle.calls.specs.Step.{Done, step, isAccepted, done}
-use Rattle.calls.specs.Listing.{fillingWith, fillingOf, fillingBy, recordBy, filledTo, filled, recordCount, planOf, PlanFor, ListReady}
+use Rattle.calls.specs.Listing.{fillingWith, fillingOf, fillingBy, recordBy, filledTo, filled, recordCount, planOf, ListReady}
 use Rattle.calls.proofs.CardLaws.{walk-whole, walk-accords, walk-few, chain-is}
 use Rattle.calls.proofs.Passed.{list-passed}
 use Rattle.calls.proofs.StepLaws.{step-answer, step-lent}
 use Rattle.calls.proofs.RowLaws.{row-given, last-passed, not-admitted, admitted, chain-given, chain-passed}
+
+-- a plan for the records: the listing's answer, how many it fills and, where it is accepted, where the regions start, in one place more than that; there is at least one place
+pub record PlanFor (c : List ℕ) (records : List Record) (plan : Plan) : Type 0 where
+  pub filling : record { answer = plan .answer; count = plan .count } ≡ fillingOf c records
+  pub starts-are : isAccepted (plan .answer) ≡ true → take (plan .count + 1) (plan .starts) ≡ startsOf (descriptorsOf c)
+  pub some : 0 < length (plan .starts)
 
 -- what a listing answers and fills, by its tests
 module _ (c : List ℕ) (records : List Record) (r : Walk) (walked : r ≡ walkOf (chain c)) (room : ℕ) (long : length records ≡ room) where
@@ -234,7 +240,7 @@ pub walked-listed : (c : List ℕ) (w : Walk) → w ≡ walkOf (chain c) → (st
 walked-listed c w walked starts are long = record { sound-is = rw walked; place-is = rw walked; count-is = rw walked; starts-are = are; long = omega arith }
 
 -- the plan that the code makes
-pub plan-for : (c : List ℕ) (sound : Bool) (place count : ℕ) (starts : List ℕ) → ListReady c sound place count (take (count + 1) starts) → (records : List Record) (room : ℕ) → length records ≡ room → (f : Filling)
+plan-for : (c : List ℕ) (sound : Bool) (place count : ℕ) (starts : List ℕ) → ListReady c sound place count (take (count + 1) starts) → (records : List Record) (room : ℕ) → length records ≡ room → (f : Filling)
     → f ≡ fillingBy c sound place count room → 0 < length starts → PlanFor c records (record { answer = f .answer; count = f .count; starts = starts })
 unfolding fillingOf
 plan-for c sound place count starts ready records room long f planned some = record { filling = told; starts-are = λ ok. are ok; some = some }

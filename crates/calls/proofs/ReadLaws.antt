@@ -197,7 +197,7 @@ module _ (call : Call) (c : List ℕ) (target : Target) (name : List ℕ) (l : �
         let s : k < r .count - 1 = omega (arith, f .0, card-snapshot-count c r walked good ok) in
         (omega arith, rw (← q) (card-snapshot c r walked good ok k s))
 
-    pub index-inside : (k ≡ r .count → ⊥) → k < r .count
+    index-inside : (k ≡ r .count → ⊥) → k < r .count
     index-inside n = place-of target index-is n .0
 
     module _ (some : k ≡ r .count → ⊥) where

@@ -3,7 +3,7 @@ use mathlib.Core.Path.{_≡_}
 use mathlib.Core.Bool.{Bool, true}
 use mathlib.Core.List.{List, [], _∷_}
 use Prim.Native.Nat.{ℕ, zero, suc, _+_, _<_}
-use lib.ListN.{length, take, getD, set, replicate}
+use lib.ListN.{length, getD, set, replicate}
 use lib.Dec.{eqb, ltb}
 use Rattle.blocks.specs.Pick.{pick}
 use Rattle.blocks.specs.Descriptor.{physical, descriptorAt}
@@ -44,12 +44,6 @@ planOf c room =
     let w = walkOf (chain c) in
     let f = fillingBy c (w .sound) (w .place .0) (w .count) room in
     record { answer = f .answer; count = f .count; starts = placesLeft c (replicate startsSize 0) }
-
--- a plan for the records: the listing's answer, how many it fills and, where it is accepted, where the regions start, in one place more than that; there is at least one place
-pub record PlanFor (c : List ℕ) (records : List Record) (plan : Plan) : Type 0 where
-  pub filling : record { answer = plan .answer; count = plan .count } ≡ fillingOf c records
-  pub starts-are : isAccepted (plan .answer) ≡ true → take (plan .count + 1) (plan .starts) ≡ startsOf (descriptorsOf c)
-  pub some : 0 < length (plan .starts)
 
 -- what the code of a listing knows after the walk: whether the chain is sound, the place of its fault and how many descriptors it has; and, of a sound one, where its regions start
 pub record ListReady (c : List ℕ) (sound : Bool) (place count : ℕ) (starts : List ℕ) : Type 0 where

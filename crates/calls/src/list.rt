@@ -11,7 +11,7 @@ pub struct Filling {
     pub count: usize,
 }
 
-// The same, and where the regions start, in the first places: of a refused listing these say nothing.
+// The same, and the places as the walk leaves them: in the first of them where the regions start, if the chain is sound.
 pub struct Plan {
     pub answer: Answer,
     pub count: usize,

@@ -29,7 +29,7 @@ pub record Hashed (c starts : List ℕ) (k : ℕ) (words : List ℕ) : Type 0 wh
   pub long : length words ≡ flagWords
   pub each : (j : ℕ) → j < k → hasFlag words (hashOf (descriptorAt c (getD starts j 0) .name)) ≡ true
 
--- so many places suffice for the walk: with at most one descriptor less the chain is the same
+-- so many places suffice for the walk: one of at most one descriptor fewer than places finds the same chain
 abbrev pub Suffice : List ℕ → ℕ → Type 0
 Suffice c n = chainFrom c (n - 1) [] 0 ≡ chain c
 
@@ -37,12 +37,9 @@ Suffice c n = chainFrom c (n - 1) [] 0 ≡ chain c
 abbrev pub Enough : List ℕ → List ℕ → Type 0
 Enough c places = (1 < length places) × (length places ≤ startsSize) × Suffice c (length places)
 
--- the most descriptors of a chain that is walked with few places, and those places
+-- the most descriptors of a chain that is walked with few places
 abbrev pub fewDescriptors : ℕ
 fewDescriptors = 8
-
-abbrev pub fewStarts : ℕ
-fewStarts = fewDescriptors + 1
 
 -- whether the links from block p end within n descriptors, all of them in blocks of the card: whether these are sound is not asked
 unfoldable pub endsWithin : List ℕ → ℕ → ℕ → Bool

@@ -199,10 +199,11 @@ unfolding placesLeft
 length-places c places = length-from c (length places - 1) [] 0 (set places 0 0) ∙ length-set places 0 0
 
 -- how a walk of the card ends: the chain that it has found, and the lent places as it is to leave them
-abbrev pub Ended : List ℕ → List ℕ → Chain → List ℕ → Type 0
+abbrev Ended : List ℕ → List ℕ → Chain → List ℕ → Type 0
 Ended c left ch starts = (chain c ≡ ch) × (left ≡ starts)
 
--- what the walk in code gives: whether the chain is sound, the place and how many and, where it is sound, the starts in one place more; what it leaves in the lent places, which are more than the descriptors
+-- what the walk in code gives: whether the chain is sound, the place and how many and, where it is sound, the starts in one place more; what it leaves in the
+-- lent places, which are more than the descriptors
 abbrev pub Gives : List ℕ → List ℕ → Walk → List ℕ → Type 0
 Gives c entry r starts = (r ≡ walkOf (chain c)) × ((r .sound ≡ true → take (r .count + 1) starts ≡ startsOf (descriptors (chain c))) × ((starts ≡ placesLeft c entry) × (r .count < length entry)))
 

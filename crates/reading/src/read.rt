@@ -73,8 +73,8 @@ fn deliver(
     }
 }
 
-// Reads the block through descriptor `k` of a sound chain, that of the target: the tests that follow that of the chain. `k` is `count` where no snapshot has the
-// name.
+// Reads the block through descriptor `k` of a sound chain, that of the target: the tests that follow that of the chain. `k` is `count` where no snapshot has
+// the name.
 fn read_at(
     card: &[u8],
     starts: &[u32],

@@ -1,5 +1,5 @@
 -- `read_long` meets its contract: the walk with places for every chain, and the rest by the index of the target.
-use mathlib.Core.Path.{refl, sym, _∙_}
+use mathlib.Core.Path.{refl, sym}
 use native.Mathlib.Omega.{arith}
 use lib.ListN.{replicate}
 use borrow.Author.Needs.{needs}
