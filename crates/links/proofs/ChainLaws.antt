@@ -212,10 +212,12 @@ unfolding walkOf regionsOf
 gives-fault c entry some left to p starts end r e =
     (e ∙ sym (ap walkOf (end .0)), (λ h. let f : false ≡ true = sym (ap (λ (x : Walk). x .sound) e) ∙ h in let z : _≡_ {A = ℕ} 0 1 = cc in absurd (omega arith), (sym (to ∙ end .1), rw e (omega (arith, some)))))
 
-gives-sound : (c entry left : List ℕ) → placesLeft c entry ≡ left → (ds : List Descriptor) (starts : List ℕ) → Ended c left (Sound ds) starts → (n : ℕ) → n ≡ length ds → take (n + 1) starts ≡ startsOf ds → n < length entry
+gives-sound : (c entry left : List ℕ) → Suffice c (length entry) → placesLeft c entry ≡ left → (ds : List Descriptor) (starts : List ℕ) → Ended c left (Sound ds) starts → (n : ℕ) → n ≡ length ds → n < length entry
     → Gives c entry (record { sound = true; place = physical 0; count = n }) starts
 unfolding walkOf regionsOf descriptors
-gives-sound c entry left to ds starts end n count e few = (rw count (sym (ap walkOf (end .0))), (λ h. e ∙ ap startsOf (sym (ap descriptors (end .0))), (sym (to ∙ end .1), few)))
+gives-sound c entry left enough to ds starts end n count few =
+    let are : take (n + 1) starts ≡ startsOf ds = rw (← (end .1), ← to, count) (places-starts c entry (omega (arith, few)) enough ds (end .0)) in
+    (rw count (sym (ap walkOf (end .0))), (λ h. are ∙ ap startsOf (sym (ap descriptors (end .0))), (sym (to ∙ end .1), few)))
 
 -- places for the most descriptors are enough; and fewer, where the links end before
 pub suffice-all : (c : List ℕ) (n : ℕ) → n ≡ 257 → Suffice c n
@@ -277,16 +279,15 @@ active-snoc [] d = refl
 active-snoc (e ∷ []) d = refl
 active-snoc (e ∷ f ∷ ds) d = active-snoc (f ∷ ds) d
 
--- where the walk with places for m descriptors stands after k sound ones: block p is next, and starts holds the regions so far
+-- where the walk with places for m descriptors stands after k sound ones: block p is next
 pub record Walked (c left : List ℕ) (m : ℕ) (starts : List ℕ) (p k : ℕ) : Type 0 where
   pub few : k ≤ m
   pub long : length starts ≡ suc m
   pub here : getD starts k 0 ≡ p
   pub inside : (j : ℕ) → j ≤ k → 512 * getD starts j 0 + 512 ≤ length c
-  pub so-far : take (suc k) starts ≡ startsOf (descriptorsAt c (take k starts))
   pub rest : Ended c left (chainFrom c (m - k) (descriptorsAt c (take k starts)) p) (placesFrom c (m - k) (descriptorsAt c (take k starts)) p starts)
 
-pub walked-none : (c entry : List ℕ) (m : ℕ) → (length c / 512 ≡ 0 → ⊥) → length entry ≡ suc m → Suffice c (length entry) → Walked c (placesLeft c entry) m (set entry 0 0) 0 0
+walked-none : (c entry : List ℕ) (m : ℕ) → (length c / 512 ≡ 0 → ⊥) → length entry ≡ suc m → Suffice c (length entry) → Walked c (placesLeft c entry) m (set entry 0 0) 0 0
 unfolding startsOf ends descriptorsAt placesLeft
 walked-none c entry m h long enough =
     let zeroth : getD (set entry 0 0) 0 0 ≡ 0 = getD-set-same entry 0 0 0 (omega (arith, long)) in
@@ -296,7 +297,6 @@ walked-none c entry m h long enough =
       long = length-set entry 0 0 ∙ long;
       here = zeroth;
       inside = λ j l. let e : j ≡ 0 = omega arith in rw (e, zeroth) (omega (arith, h));
-      so-far = take-suc (set entry 0 0) 0 0 (omega (arith, long, length-set entry 0 0)) ∙ rw zeroth;
       rest = (sym enough ∙ ap (λ (n : ℕ). chainFrom c n [] 0) most, ap (λ (n : ℕ). placesFrom c n [] 0 (set entry 0 0)) most);
     }
 
@@ -385,13 +385,10 @@ module _ (c left : List ℕ) (m : ℕ) (starts : List ℕ) (p k : ℕ) (w : Walk
           ds-more : descriptorsAt c (take (k + 1) starts′) ≡ ds ++ (d ∷ [])
           ds-more = rw take-more (descriptors-snoc c (take k starts) p ∙ rw (← is))
 
-          starts-more : take (k + 1 + 1) starts′ ≡ startsOf (ds ++ (d ∷ []))
-          starts-more = starts-snoc starts ds d k (omega (arith, w .long)) (w .so-far)
-
-          pub walk-end : (entry : List ℕ) → length entry ≡ suc m → placesLeft c entry ≡ left → d .next .0 ≡ 0 → Gives c entry (record { sound = true; place = physical 0; count = k + 1 }) starts′
-          walk-end entry long to z =
+          pub walk-end : (entry : List ℕ) → length entry ≡ suc m → Suffice c (length entry) → placesLeft c entry ≡ left → d .next .0 ≡ 0 → Gives c entry (record { sound = true; place = physical 0; count = k + 1 }) starts′
+          walk-end entry long enough to z =
               let size : length (ds ++ (d ∷ [])) ≡ k + 1 = length-append ds (d ∷ []) ∙ ap (λ (x : ℕ). x + 1) length-ds in
-              gives-sound c entry left to (ds ++ (d ∷ [])) starts′ (walk-on .0 ∙ rw z, walk-on .1 ∙ rw z) (k + 1) (sym size) starts-more (omega (arith, long, more))
+              gives-sound c entry left enough to (ds ++ (d ∷ [])) starts′ (walk-on .0 ∙ rw z, walk-on .1 ∙ rw z) (k + 1) (sym size) (omega (arith, long, more))
 
           -- the next descriptor's block is on the card
           pub walked-next : (d .next .0 ≡ 0 → ⊥) → 512 * d .next .0 + 512 ≤ length c
@@ -406,7 +403,6 @@ module _ (c left : List ℕ) (m : ℕ) (starts : List ℕ) (p k : ℕ) (w : Walk
                 long = length-set starts (k + 1) (d .beta .0) ∙ w .long;
                 here = at-end;
                 inside = λ j l. inside-by j l at-end (walked-next z) (ltb j (k + 1)) refl;
-                so-far = rw (ds-more, ← starts-more) (let two : suc (k + 1) ≡ k + 1 + 1 = omega arith in ap (λ (n : ℕ). take n starts′) two);
                 rest = rw ds-more (walk-on .0 ∙ rw (ne-eqb (d .next .0) 0 z), walk-on .1 ∙ rw (ne-eqb (d .next .0) 0 z));
               }
             where
@@ -448,7 +444,7 @@ module _ (c : List ℕ) (some : length c / 512 ≡ 0 → ⊥) (entry : List ℕ)
     not-named = refl
 
     pub first-end : d .next .0 ≡ 0 → Gives c entry (record { sound = true; place = physical 0; count = 1 }) (set starts₀ 1 (d .beta .0))
-    first-end = walk-end c (placesLeft c entry) most starts₀ 0 0 walked₀ more₀ d is d is n count true (sym right) refl false not-named refl entry long refl
+    first-end = walk-end c (placesLeft c entry) most starts₀ 0 0 walked₀ more₀ d is d is n count true (sym right) refl false not-named refl entry long enough refl
 
     pub first-next : (d .next .0 ≡ 0 → ⊥) → 512 * d .next .0 + 512 ≤ length c
     first-next = walked-next c (placesLeft c entry) most starts₀ 0 0 walked₀ more₀ d is d is n count true (sym right) refl false not-named refl
@@ -461,7 +457,7 @@ module _ (c : List ℕ) (some : length c / 512 ≡ 0 → ⊥) (entry : List ℕ)
     first-left z = first-more z .rest .1
 
     pub first-on : (d .next .0 ≡ 0 → ⊥) → Walked c (placesFrom c (most - 1) (descriptorsAt c (take 1 (set starts₀ 1 (d .beta .0)))) (d .next .0) (set starts₀ 1 (d .beta .0))) most (set starts₀ 1 (d .beta .0)) (d .next .0) 1
-    first-on z = let w = first-more z in record { few = w .few; long = w .long; here = w .here; inside = w .inside; so-far = w .so-far; rest = (w .rest .0, refl) }
+    first-on z = let w = first-more z in record { few = w .few; long = w .long; here = w .here; inside = w .inside; rest = (w .rest .0, refl) }
 
   -- its name has its flag
   pub first-hashed : (words : List ℕ) → length words ≡ 32 → (hash : ℕ) → hash ≡ hashOf (d .name) → hash < 1024 → (words′ : List ℕ) → words′ ≡ withFlag words hash → Hashed c (set starts₀ 1 (d .beta .0)) 1 words′

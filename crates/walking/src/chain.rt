@@ -89,7 +89,7 @@ pub fn walk_chain(card: &[u8], starts: &mut [u32]) -> Walk
     requires { ⌜ Enough (now card) (now starts) ⌝ }
     ensures { λ r. ⌜ r ≡ walkOf (chain (now (card .entry))) ⌝ }
     ensures { λ r. ⌜ (r .sound ≡ true → take (r .count + 1) (now (starts .exit)) ≡ startsOf (descriptors (chain (now (card .entry))))) ⌝ }
-    ensures { λ r. ⌜ now (starts .exit) ≡ placesLeft (now (card .entry)) (now (starts .entry)) ⌝ }
+    ensures { λ _. ⌜ now (starts .exit) ≡ placesLeft (now (card .entry)) (now (starts .entry)) ⌝ }
     ensures { λ r. ⌜ r .count < length (now (starts .entry)) ⌝ }
 {
     starts[0] = 0;

@@ -50,7 +50,8 @@ pub const ROLLBACK: Expected = [
     &[],
 ];
 
-/// What the cases worked out by hand give, and chains of each length, whole and with a last descriptor that is unsound.
+/// What the cases worked out by hand give, and chains of each length, whole and with an unsound
+/// last descriptor.
 pub const VALUES: Expected = [
     &[0, 1, 2, 3, 4, 5, 17],
     &[0, 6, 7, 10],

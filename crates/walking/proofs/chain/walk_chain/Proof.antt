@@ -143,7 +143,7 @@ same-length-6 : tie.Need-same-length-6 Inv-loop μ-loop
 same-length-6 c = length-set (c .before .before .before .before .before .before .before .before .before .before .before .before .before .loop .starts) (c .before .before .before .before .before .before .before .before .before .before .before .before .before .loop .k + 1) (c .before .before .before .before .before .before .before .before .before .before .before .before .before .loop .d .beta .0) ∙ c .before .before .before .before .before .before .before .before .before .before .before .before .before .loop .inv .0 .long ∙ sym (whole-length (c .before .before .before .before .before .before .before .before .before .before .before .before .before .before .before))
 
 returns-6 : tie.Need-returns-6 Inv-loop μ-loop
-returns-6 c = let w = c .before .before .before .before .before .before .before .before .before .before .before .before .before .loop .inv in walk-end _ _ _ _ _ _ (w .0) (omega arith) _ (w .1) _ (w .3) _ (w .4) _ (c .before .before .before .before .before .before .before .before .before .before .before .is-next .ensures) (c .before .before .before .before .before .before .before .before .before .before .if4 .left) _ (c .before .before .before .before .before .before .is-repeated .ensures) (c .before .before .before .before .before .if5 .left) (c .before .before .before .before .before .before .before .before .before .before .before .before .before .before .before .before .before .before .before .before .before .before .before .before .before .before .before .args .starts .now) (whole-length (c .before .before .before .before .before .before .before .before .before .before .before .before .before .before .before)) (to-left (c .before .before .before .before .before .before .before .before .before .before .before .before .before .before)) (c .if6 .taken)
+returns-6 c = let w = c .before .before .before .before .before .before .before .before .before .before .before .before .before .loop .inv in walk-end _ _ _ _ _ _ (w .0) (omega arith) _ (w .1) _ (w .3) _ (w .4) _ (c .before .before .before .before .before .before .before .before .before .before .before .is-next .ensures) (c .before .before .before .before .before .before .before .before .before .before .if4 .left) _ (c .before .before .before .before .before .before .is-repeated .ensures) (c .before .before .before .before .before .if5 .left) (c .before .before .before .before .before .before .before .before .before .before .before .before .before .before .before .before .before .before .before .before .before .before .before .before .before .before .before .args .starts .now) (whole-length (c .before .before .before .before .before .before .before .before .before .before .before .before .before .before .before)) (c .before .before .before .before .before .before .before .before .before .before .before .before .before .before .before .before .before .before .before .before .before .before .before .before .before .before .before .pre .2) (to-left (c .before .before .before .before .before .before .before .before .before .before .before .before .before .before)) (c .if6 .taken)
 
 read-descriptor-requires-3 : tie.Need-read-descriptor-requires-3 Inv-loop μ-loop
 read-descriptor-requires-3 c κs = let w = c .before .before .before .before .before .before .before .before .before .before .before .before .before .loop .inv in walked-next _ _ _ _ _ _ (w .0) (omega arith) _ (w .1) _ (w .3) _ (w .4) _ (c .before .before .before .before .before .before .before .before .before .before .before .is-next .ensures) (c .before .before .before .before .before .before .before .before .before .before .if4 .left) _ (c .before .before .before .before .before .before .is-repeated .ensures) (c .before .before .before .before .before .if5 .left) (c .if6 .left)
