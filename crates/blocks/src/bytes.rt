@@ -71,12 +71,23 @@ pub fn get_bytes(area: &[u8], at: usize, out: &mut [u8])
     put_bytes(out, 0, &area[at..at + out.len()]);
 }
 
-// Block `p` is now `block`. Its first 512 bytes are all of it: the compiler then knows how many it copies.
+// Copies a block into `area` from index `at`, by way of a copy of its own: the compiler then knows that what it reads and what it stores are apart, and how many
+// bytes they are, and makes one move of both loops.
+pub fn put_whole(area: &mut [u8], at: usize, block: &[u8])
+    requires { ⌜ (length (now block) ≡ blockSize) × (at + blockSize ≤ length (now area)) ⌝ }
+    ensures { λ _. ⌜ now (area .exit) ≡ splice (now (area .entry)) at (now (block .entry)) ⌝ }
+{
+    let mut copy = [0u8; BLOCK_SIZE];
+    put_bytes(&mut copy, 0, &block[..BLOCK_SIZE]);
+    put_bytes(area, at, &copy);
+}
+
+// Block `p` is now `block`.
 pub fn store_block(card: &mut [u8], p: Physical, block: &[u8])
     requires { ⌜ (length (now block) ≡ blockSize) × (blockSize * p .0 + blockSize ≤ length (now card)) ⌝ }
     ensures { λ _. ⌜ now (card .exit) ≡ storeBlock (now (card .entry)) (p .0) (now (block .entry)) ⌝ }
 {
-    put_bytes(card, BLOCK_SIZE * (p.0 as usize), &block[..BLOCK_SIZE]);
+    put_whole(card, BLOCK_SIZE * (p.0 as usize), block);
 }
 
 // Block `p` is now zeros.

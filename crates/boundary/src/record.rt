@@ -12,7 +12,6 @@ ghost use mathlib.Core.Path.{_≡_};
 ghost use Prim.Native.Nat.{ℕ, _+_, _*_, _≤_, _<_};
 ghost use lib.ListN.{length, getD};
 ghost use Rattle.blocks.specs.Bytes.{blockSize, splice};
-ghost use Rattle.chains.specs.Walk.{Enough, placesLeft};
 ghost use Rattle.calls.specs.Listing.{ListReady};
 ghost use Rattle.boundary.specs.RecordBytes.{recordSize, recordBytes, filledBytes, listingOf};
 
@@ -62,13 +61,12 @@ fn list_bytes(
     f.answer
 }
 
-// Lists into bytes with enough lent places for the walk.
-fn list_with(card: &[u8], starts: &mut [u32], area: &mut [u8]) -> Answer
-    requires { ⌜ Enough (now card) (now starts) ⌝ }
+// Lists a chain of any length into bytes.
+fn list_long(card: &[u8], area: &mut [u8]) -> Answer
     ensures { λ r. ⌜ record { answer = r; bytes = now (area .exit) } ≡ listingOf (now (card .entry)) (now (area .entry)) ⌝ }
-    ensures { λ _. ⌜ now (starts .exit) ≡ placesLeft (now (card .entry)) (now (starts .entry)) ⌝ }
 {
-    let found = chain::walk_chain(&*card, starts);
+    let mut starts = [0u32; STARTS_SIZE];
+    let found = chain::walk_chain(card, &mut starts);
     let count = found.count;
     list_bytes(
         card,
@@ -80,14 +78,22 @@ fn list_with(card: &[u8], starts: &mut [u32], area: &mut [u8]) -> Answer
     )
 }
 
-// Lists the chain into bytes.
+// Lists the chain into bytes. A short chain is walked here with few places.
 pub fn list_chain(card: &[u8], area: &mut [u8]) -> Answer
     ensures { λ r. ⌜ record { answer = r; bytes = now (area .exit) } ≡ listingOf (now (card .entry)) (now (area .entry)) ⌝ }
 {
     if !chain::is_short(card) {
-        let mut starts = [0u32; STARTS_SIZE];
-        return list_with(card, &mut starts, area);
+        return list_long(card, area);
     }
     let mut starts = [0u32; FEW_STARTS];
-    list_with(card, &mut starts, area)
+    let found = chain::walk_chain(card, &mut starts);
+    let count = found.count;
+    list_bytes(
+        card,
+        &starts[..count + 1],
+        found.sound,
+        found.place,
+        count,
+        area,
+    )
 }

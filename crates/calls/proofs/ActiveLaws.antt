@@ -104,6 +104,15 @@ module _ (c : List ℕ) (ds : List Descriptor) (sound-c : chain c ≡ Sound ds) 
   pub active-linked : Linked c (snapshotsOf ds) (activeOf ds .alpha .0) (activeOf ds ∷ [])
   active-linked = member-from c ds xs d [] sound-c active-last
 
+  -- it stands in its own block
+  pub active-here : activeOf ds ≡ descriptorAt c (activeOf ds .alpha .0)
+  active-here =
+      let k = length ds - 1 in
+      let e = active-at ds chain-some in
+      let r = region-at k (omega (arith, chain-some)) in
+      let here : activeOf ds .alpha .0 ≡ regionStart 0 ds k = ap (λ (x : Descriptor). x .alpha .0) e ∙ at-alpha c _ _ (getD ds k noDescriptor) r in
+      e ∙ r .is ∙ ap (descriptorAt c) (sym here)
+
   pub active-next : activeOf ds .next .0 ≡ 0
   active-next = linked-next c active-linked d refl
 

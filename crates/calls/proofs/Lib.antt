@@ -12,5 +12,7 @@ pub mod SnapLaws
 pub mod CheckCardLaws
 pub mod ReadLaws
 pub mod WriteLaws
+pub mod AimLaws
+pub mod SiteLaws
 pub mod ListingLaws
 pub mod CellLaws

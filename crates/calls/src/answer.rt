@@ -93,3 +93,19 @@ pub struct Visited {
     pub answer: Answer,
     pub name: [u8; NAME_SIZE],
 }
+
+// Where a write goes: number and place of the refusal that bars it before its room is asked for, or the block of the active descriptor, the table block and the
+// entry that were found, and the blocks that it takes.
+pub struct Aim {
+    pub answer: Answer,
+    pub alpha: Physical,
+    pub table: Physical,
+    pub entry: Physical,
+    pub taken: u32,
+}
+
+// Where a snapshot is taken: number and place of the refusal that bars it before its room is asked for, or the block of the active descriptor.
+pub struct Site {
+    pub answer: Answer,
+    pub alpha: Physical,
+}

@@ -44,7 +44,7 @@ fn fill_block(card: &[u8], p: Physical, out: &mut [u8])
         return;
     }
     let at = BLOCK_SIZE * (p.0 as usize);
-    bytes::put_bytes(out, 0, &card[at..at + BLOCK_SIZE]);
+    bytes::put_whole(out, 0, &card[at..at + BLOCK_SIZE]);
 }
 
 // The block of logical number `l` through the descriptor `d`, or the refusal of an entry that is not in place.

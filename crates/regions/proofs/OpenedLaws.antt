@@ -35,3 +35,8 @@ module _ (c c₁ : List ℕ) (d : Descriptor) (k : ℕ) (some : 1 ≤ k) (below 
       ∙ upto-whole c₁ (d .beta .0) (descriptorBlock o (tailAt c₁ a)) long (omega (arith, length-is))
       ∙ rw (tail-found, o-is, done, k-is)
       (sym (stored-append c (copying c (a + 1) (d .beta .0 + 1) (costOf d - 1)) (store (d .beta .0) (descriptorBlock (reopenedOf d) (tailAt c a)) ∷ []) ∙ stored-one (storeAll c (copying c (a + 1) (d .beta .0 + 1) (costOf d - 1))) (d .beta .0) (descriptorBlock (reopenedOf d) (tailAt c a))))
+
+-- a descriptor that opens alone has no tables to copy
+pub none-copied : (c : List ℕ) (from to k : ℕ) → k ≡ 1 → c ≡ storeAll c (copying c from to (k - 1))
+unfolding copying storeAll
+none-copied c from to k e = rw e

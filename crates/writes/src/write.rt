@@ -8,6 +8,7 @@ use blocks::sizes::BLOCK_SIZE;
 use blocks::sizes::FEW_STARTS;
 use blocks::sizes::STARTS_SIZE;
 use calls::answer;
+use calls::answer::Aim;
 use calls::answer::Answer;
 use entries::find::Found;
 use finding::find;
@@ -16,14 +17,11 @@ use placing::put;
 use walking::chain;
 ghost use mathlib.Core.Path.{_≡_};
 ghost use mathlib.Core.Bool.{false};
-ghost use lib.ListN.{length};
-ghost use Rattle.blocks.specs.Bytes.{blockSize};
-ghost use Rattle.chains.specs.Walk.{Enough, placesLeft};
 ghost use Rattle.entries.specs.Entry.{need};
 ghost use Rattle.entries.specs.Through.{WriteReady};
 ghost use Rattle.calls.specs.Call.{Write, Block};
 ghost use Rattle.calls.specs.Parts.{areaBad, SoundCard};
-ghost use Rattle.calls.specs.Effect.{written};
+ghost use Rattle.calls.specs.Effect.{barredBy, aimOf, written};
 ghost use Rattle.calls.specs.Step.{step, done};
 
 // Writes the block through the entry `p` of table block `m`, if there is room for the blocks that it takes.
@@ -47,45 +45,83 @@ fn write_found(
     answer::ACCEPTED
 }
 
-// Writes a block through the regions of a sound chain: the tests that follow that of the chain.
-fn write_through(card: &mut [u8], starts: &[u32], count: usize, l: Logical, block: &[u8]) -> Answer
-    requires { ⌜ SoundCard (now card) count (now starts) × (length (now block) ≡ blockSize) ⌝ }
-    ensures { λ r. ⌜ done r (Block (now (block .entry))) (now (card .exit)) ≡ step (Write (l .0) (now (block .entry))) (now (card .entry)) ⌝ }
+// A write that is barred.
+fn barred(a: Answer) -> Aim
+    ensures { λ r. ⌜ r ≡ barredBy a ⌝ }
+{
+    Aim {
+        answer: a,
+        alpha: Physical(0),
+        table: Physical(0),
+        entry: Physical(0),
+        taken: 0,
+    }
+}
+
+// Where a write goes through the regions of a sound chain.
+fn aim_through(card: &[u8], starts: &[u32], count: usize, l: Logical) -> Aim
+    requires { ⌜ SoundCard (now card) count (now starts) ⌝ }
+    ensures { λ r. ⌜ r ≡ aimOf (now (card .entry)) (l .0) ⌝ }
 {
     let last = count - 1;
-    let alpha = starts[last];
-    let d = descriptor::read_descriptor(card, Physical(alpha));
+    let start = starts[last];
+    let d = descriptor::read_descriptor(card, Physical(start));
     if d.volume <= l.0 {
-        return answer::PAST_THE_VOLUME;
+        return barred(answer::PAST_THE_VOLUME);
     }
-    let at = find::locate(card, starts, count, d, l);
-    let entry = at.found;
-    let taken = need::need(last, d.alpha, entry, at.owner);
-    match entry {
-        Found::Misplaced(h) => Answer {
+    let alpha = d.alpha;
+    let at = find::locate(&*card, &*starts, count, d, l);
+    let found = at.found;
+    let taken = need::need(last, alpha, found, at.owner);
+    match found {
+        Found::Misplaced(h) => barred(Answer {
             number: 10,
             place: h.0,
+        }),
+        Found::Entry(m, p) => Aim {
+            answer: answer::ACCEPTED,
+            alpha,
+            table: m,
+            entry: p,
+            taken,
         },
-        Found::Entry(m, p) => write_found(card, d, m, p, l, taken, block),
     }
 }
 
-// Writes a block with enough lent places for the walk: the tests from that of the chain on.
-fn write_with(card: &mut [u8], starts: &mut [u32], l: Logical, block: &[u8]) -> Answer
-    requires { ⌜ (areaBad (now card) ≡ false) × (length (now block) ≡ blockSize) × Enough (now card) (now starts) ⌝ }
-    ensures { λ r. ⌜ done r (Block (now (block .entry))) (now (card .exit)) ≡ step (Write (l .0) (now (block .entry))) (now (card .entry)) ⌝ }
-    ensures { λ _. ⌜ now (starts .exit) ≡ placesLeft (now (card .entry)) (now (starts .entry)) ⌝ }
+// Where a write goes through a chain of any length.
+fn aim_long(card: &[u8], l: Logical) -> Aim
+    requires { ⌜ areaBad (now card) ≡ false ⌝ }
+    ensures { λ r. ⌜ r ≡ aimOf (now (card .entry)) (l .0) ⌝ }
 {
-    let found = chain::walk_chain(card, starts);
+    let mut starts = [0u32; STARTS_SIZE];
+    let found = chain::walk_chain(card, &mut starts);
     if !found.sound {
         let place = found.place.0;
-        return Answer { number: 6, place };
+        return barred(Answer { number: 6, place });
     }
     let count = found.count;
-    write_through(card, &starts[..count + 1], count, l, block)
+    aim_through(card, &starts[..count + 1], count, l)
 }
 
-// Writes a block of the active store.
+// Where a write goes. A short chain is walked here with few places.
+fn aim(card: &[u8], l: Logical) -> Aim
+    requires { ⌜ areaBad (now card) ≡ false ⌝ }
+    ensures { λ r. ⌜ r ≡ aimOf (now (card .entry)) (l .0) ⌝ }
+{
+    if !chain::is_short(card) {
+        return aim_long(card, l);
+    }
+    let mut starts = [0u32; FEW_STARTS];
+    let found = chain::walk_chain(card, &mut starts);
+    if !found.sound {
+        let place = found.place.0;
+        return barred(Answer { number: 6, place });
+    }
+    let count = found.count;
+    aim_through(card, &starts[..count + 1], count, l)
+}
+
+// Writes a block of the active store: where it goes is found before anything is stored.
 pub fn write(card: &mut [u8], l: Logical, block: &[u8]) -> Answer
     ensures { λ r. ⌜ done r (Block (now (block .entry))) (now (card .exit)) ≡ step (Write (l .0) (now (block .entry))) (now (card .entry)) ⌝ }
 {
@@ -96,10 +132,11 @@ pub fn write(card: &mut [u8], l: Logical, block: &[u8]) -> Answer
     if block.len() != BLOCK_SIZE {
         return answer::BAD_BLOCK;
     }
-    if !chain::is_short(card) {
-        let mut starts = [0u32; STARTS_SIZE];
-        return write_with(card, &mut starts, l, block);
+    let at = aim(card, l);
+    let answer = at.answer;
+    if answer.number != 0 {
+        return answer;
     }
-    let mut starts = [0u32; FEW_STARTS];
-    write_with(card, &mut starts, l, block)
+    let d = descriptor::read_descriptor(card, at.alpha);
+    write_found(card, d, at.table, at.entry, l, at.taken, block)
 }

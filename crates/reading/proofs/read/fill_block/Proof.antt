@@ -24,26 +24,26 @@ cast-at c = search needs
 mul-at : tie.Need-mul-at
 mul-at c = search needs
 
-add-put-bytes : tie.Need-add-put-bytes
-add-put-bytes c = search needs
+add-put-whole : tie.Need-add-put-whole
+add-put-whole c = search needs
 
-sub-put-bytes : tie.Need-sub-put-bytes
-sub-put-bytes c = search needs
+sub-put-whole : tie.Need-sub-put-whole
+sub-put-whole c = search needs
 
-part-put-bytes-start : tie.Need-part-put-bytes-start
-part-put-bytes-start c = search needs
+part-put-whole-start : tie.Need-part-put-whole-start
+part-put-whole-start c = search needs
 
-part-put-bytes-end : tie.Need-part-put-bytes-end
-part-put-bytes-end c = omega (arith, c .before .before .before .before .before .before .pre .1 (c .before .before .if1 .left))
+part-put-whole-end : tie.Need-part-put-whole-end
+part-put-whole-end c = omega (arith, c .before .before .before .before .before .before .pre .1 (c .before .before .if1 .left))
 
-put-bytes-requires-2 : tie.Need-put-bytes-requires-2
-put-bytes-requires-2 c κs = search needs
+put-whole-requires : tie.Need-put-whole-requires
+put-whole-requires c κs = search needs
 
 same-length-2 : tie.Need-same-length-2
 same-length-2 c = search needs
 
 returns-2 : tie.Need-returns-2
-returns-2 c = filled-block _ _ _ _ (c .before .before .before .before .before .before .if1 .left) (c .before .before .before .before .before .before .before .before .before .before .pre .0) (c .before .before .before .before .before .before .before .before .before .before .pre .1 (c .before .before .before .before .before .before .if1 .left)) (c .before .before .put-bytes2 .ensures)
+returns-2 c = filled-block _ _ _ _ (c .before .before .before .before .before .before .if1 .left) (c .before .before .before .before .before .before .before .before .before .before .pre .0) (c .before .before .before .before .before .before .before .before .before .before .pre .1 (c .before .before .before .before .before .before .if1 .left)) (c .before .before .put-whole .ensures)
 
 pub fill-block-spec : {M : Type 1} → statement M
 fill-block-spec =
@@ -55,10 +55,10 @@ fill-block-spec =
     returns
     cast-at
     mul-at
-    add-put-bytes
-    sub-put-bytes
-    part-put-bytes-start
-    part-put-bytes-end
-    put-bytes-requires-2
+    add-put-whole
+    sub-put-whole
+    part-put-whole-start
+    part-put-whole-end
+    put-whole-requires
     same-length-2
     returns-2)

@@ -1,13 +1,12 @@
--- `snap` meets its contract, row by row up to that of the chain; then by the walk with places that are enough.
+-- `snap` meets its contract: admission, the name, where it is taken, room, and what is stored.
 use mathlib.Core.Path.{refl, sym, _∙_}
-use lib.ListN.{replicate}
 use borrow.Author.Needs.{needs}
 use borrow.Author.Tests.{not-false}
 use Rattle.calls.specs.Ladder.{snapRows}
-use Rattle.calls.specs.Meaning.{rowsOf, answerOf, lentOf}
+use Rattle.calls.specs.Meaning.{lentOf, answerOf, rowsOf}
 use Rattle.calls.proofs.StepLaws.{step-barred, step-refused}
-use Rattle.calls.proofs.CardLaws.{enough-all, enough-few}
 use Rattle.calls.proofs.RowLaws.{admitted-card, named-4}
+use Rattle.calls.proofs.SiteLaws.{site-barred, site-inside, site-11, site-ready, site-done}
 use Rattle.snaps.proofs.snap.snap.Statement.{statement}
 use Rattle.snaps.proofs.snap.snap.Tie as tie
 
@@ -31,32 +30,54 @@ returns-2 : tie.Need-returns-2
 unfolding lentOf answerOf rowsOf snapRows
 returns-2 c = step-refused _ _ _ _ (search named-4) refl
 
-is-short-requires : tie.Need-is-short-requires
-is-short-requires c κs = search needs
-
-slice-aggregate-snap-with : tie.Need-slice-aggregate-snap-with
-slice-aggregate-snap-with c = search needs
-
-snap-with-requires : tie.Need-snap-with-requires
-snap-with-requires c κs = (admitted-card _ _ (c .before .before .before .before .before .before .before .before .before .admit .ensures) (c .before .before .before .before .before .before .before .if1 .left), sym (c .before .before .before .before .before .before .is-name .ensures) ∙ not-false _ (c .before .before .before .before .before .if2 .left), enough-all _ (replicate 257 0) refl)
+site-requires : tie.Need-site-requires
+site-requires c κs = admitted-card _ _ (c .before .before .before .before .before .admit .ensures) (c .before .before .before .if1 .left)
 
 same-length-3 : tie.Need-same-length-3
 same-length-3 c = search needs
 
 returns-3 : tie.Need-returns-3
-returns-3 c = c .before .before .before .snap-with .ensures .0
+returns-3 c =
+    let s = c .before .before .before in
+    site-barred _ _ (admitted-card _ _ (s .before .before .before .before .before .before .admit .ensures) (s .before .before .before .before .if1 .left)) (sym (s .before .before .before .is-name .ensures) ∙ not-false _ (s .before .before .if2 .left)) _ (s .site .ensures) (c .if3 .taken)
 
-slice-aggregate-snap-with-2 : tie.Need-slice-aggregate-snap-with-2
-slice-aggregate-snap-with-2 c = search needs
+read-descriptor-requires : tie.Need-read-descriptor-requires
+read-descriptor-requires c κs =
+    let s = c .before .before .before .before in
+    site-inside _ _ (admitted-card _ _ (s .before .before .before .before .before .before .admit .ensures) (s .before .before .before .before .if1 .left)) (sym (s .before .before .before .is-name .ensures) ∙ not-false _ (s .before .before .if2 .left)) _ (s .site .ensures) (c .before .if3 .left)
 
-snap-with-requires-2 : tie.Need-snap-with-requires-2
-snap-with-requires-2 c κs = (admitted-card _ _ (c .before .before .before .before .before .before .before .before .before .admit .ensures) (c .before .before .before .before .before .before .before .if1 .left), sym (c .before .before .before .before .before .before .is-name .ensures) ∙ not-false _ (c .before .before .before .before .before .if2 .left), enough-few _ (replicate 9 0) _ (c .before .before .before .is-short .ensures) (c .before .before .if3 .left) refl)
+opening-cost-requires : tie.Need-opening-cost-requires
+opening-cost-requires c κs = search needs
+
+cast-end : tie.Need-cast-end
+cast-end c = search needs
+
+cast-end-2 : tie.Need-cast-end-2
+cast-end-2 c = search needs
+
+add-end : tie.Need-add-end
+add-end c = search needs
 
 same-length-4 : tie.Need-same-length-4
 same-length-4 c = search needs
 
 returns-4 : tie.Need-returns-4
-returns-4 c = c .before .before .before .snap-with2 .ensures .0
+returns-4 c =
+    let s = c .before .before .before .before .before .before .before .before in
+    site-11 _ _ (admitted-card _ _ (s .before .before .before .before .before .before .admit .ensures) (s .before .before .before .before .if1 .left)) (sym (s .before .before .before .is-name .ensures) ∙ not-false _ (s .before .before .if2 .left)) _ (s .site .ensures) (c .before .before .before .before .before .if3 .left) _ (c .before .before .before .read-descriptor .ensures) _ (c .before .before .opening-cost .ensures) (c .if4 .taken)
+
+take-snapshot-requires : tie.Need-take-snapshot-requires
+take-snapshot-requires c κs =
+    let s = c .before .before .before .before .before .before .before .before .before in
+    site-ready _ _ (admitted-card _ _ (s .before .before .before .before .before .before .admit .ensures) (s .before .before .before .before .if1 .left)) (sym (s .before .before .before .is-name .ensures) ∙ not-false _ (s .before .before .if2 .left)) _ (s .site .ensures) (c .before .before .before .before .before .before .if3 .left) _ (c .before .before .before .before .read-descriptor .ensures) _ (c .before .before .before .opening-cost .ensures) (c .before .if4 .left)
+
+same-length-5 : tie.Need-same-length-5
+same-length-5 c = search needs
+
+returns-5 : tie.Need-returns-5
+returns-5 c =
+    let s = c .before .before .before .before .before .before .before .before .before .before .before .before in
+    site-done _ _ (admitted-card _ _ (s .before .before .before .before .before .before .admit .ensures) (s .before .before .before .before .if1 .left)) (sym (s .before .before .before .is-name .ensures) ∙ not-false _ (s .before .before .if2 .left)) _ (s .site .ensures) (c .before .before .before .before .before .before .before .before .before .if3 .left) _ (c .before .before .before .before .before .before .before .read-descriptor .ensures) _ (c .before .before .before .before .before .before .opening-cost .ensures) (c .before .before .before .before .if4 .left) _ (c .before .before .take-snapshot .ensures)
 
 pub snap-spec : {M : Type 1} → statement M
 snap-spec =
@@ -68,12 +89,16 @@ snap-spec =
     is-name-requires
     same-length-2
     returns-2
-    is-short-requires
-    slice-aggregate-snap-with
-    snap-with-requires
+    site-requires
     same-length-3
     returns-3
-    slice-aggregate-snap-with-2
-    snap-with-requires-2
+    read-descriptor-requires
+    opening-cost-requires
+    cast-end
+    cast-end-2
+    add-end
     same-length-4
-    returns-4)
+    returns-4
+    take-snapshot-requires
+    same-length-5
+    returns-5)

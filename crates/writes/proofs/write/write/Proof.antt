@@ -1,12 +1,11 @@
--- `write` meets its contract, row by row up to that of the chain; then by the walk with places that are enough.
+-- `write` meets its contract: admission, the caller's block, where it goes, and what it does there.
 use mathlib.Core.Path.{refl}
-use lib.ListN.{replicate}
 use borrow.Author.Needs.{needs}
 use Rattle.calls.specs.Meaning.{lentOf}
 use Rattle.calls.proofs.StepLaws.{step-barred, step-refused}
-use Rattle.calls.proofs.CardLaws.{enough-all, enough-few}
 use Rattle.calls.proofs.RowLaws.{admitted-card}
 use Rattle.calls.proofs.WriteLaws.{write-9}
+use Rattle.calls.proofs.AimLaws.{aim-barred, aim-inside, aim-ready, aim-done}
 use Rattle.writes.proofs.write.write.Statement.{statement}
 use Rattle.writes.proofs.write.write.Tie as tie
 
@@ -27,32 +26,34 @@ returns-2 : tie.Need-returns-2
 unfolding lentOf
 returns-2 c = step-refused _ _ _ _ (search write-9) refl
 
-is-short-requires : tie.Need-is-short-requires
-is-short-requires c κs = search needs
-
-slice-aggregate-write-with : tie.Need-slice-aggregate-write-with
-slice-aggregate-write-with c = search needs
-
-write-with-requires : tie.Need-write-with-requires
-write-with-requires c κs = (admitted-card _ _ (c .before .before .before .before .before .before .before .before .admit .ensures) (c .before .before .before .before .before .before .if1 .left), c .before .before .before .before .before .if2 .left, enough-all _ (replicate 257 0) refl)
+aim-requires : tie.Need-aim-requires
+aim-requires c κs = admitted-card _ _ (c .before .before .before .before .admit .ensures) (c .before .before .if1 .left)
 
 same-length-3 : tie.Need-same-length-3
 same-length-3 c = search needs
 
 returns-3 : tie.Need-returns-3
-returns-3 c = c .before .before .before .write-with .ensures .0
+returns-3 c =
+    let s = c .before .before .before in
+    aim-barred _ _ _ (admitted-card _ _ (s .before .before .before .before .before .admit .ensures) (s .before .before .before .if1 .left)) (s .before .before .if2 .left) _ (s .aim .ensures) (c .if3 .taken)
 
-slice-aggregate-write-with-2 : tie.Need-slice-aggregate-write-with-2
-slice-aggregate-write-with-2 c = search needs
+read-descriptor-requires : tie.Need-read-descriptor-requires
+read-descriptor-requires c κs =
+    let s = c .before .before .before .before in
+    aim-inside _ _ (s .before .before .before .before .before .before .before .before .before .args .block .now) (admitted-card _ _ (s .before .before .before .before .before .admit .ensures) (s .before .before .before .if1 .left)) (s .before .before .if2 .left) _ (s .aim .ensures) (c .before .if3 .left)
 
-write-with-requires-2 : tie.Need-write-with-requires-2
-write-with-requires-2 c κs = (admitted-card _ _ (c .before .before .before .before .before .before .before .before .admit .ensures) (c .before .before .before .before .before .before .if1 .left), c .before .before .before .before .before .if2 .left, enough-few _ (replicate 9 0) _ (c .before .before .before .is-short .ensures) (c .before .before .if3 .left) refl)
+write-found-requires : tie.Need-write-found-requires
+write-found-requires c κs =
+    let s = c .before .before .before .before .before .before in
+    aim-ready _ _ _ (admitted-card _ _ (s .before .before .before .before .before .admit .ensures) (s .before .before .before .if1 .left)) (s .before .before .if2 .left) _ (s .aim .ensures) (c .before .before .before .if3 .left) _ (c .before .read-descriptor .ensures)
 
 same-length-4 : tie.Need-same-length-4
 same-length-4 c = search needs
 
 returns-4 : tie.Need-returns-4
-returns-4 c = c .before .before .before .write-with2 .ensures .0
+returns-4 c =
+    let s = c .before .before .before .before .before .before .before .before .before in
+    aim-done _ _ _ (admitted-card _ _ (s .before .before .before .before .before .admit .ensures) (s .before .before .before .if1 .left)) (s .before .before .if2 .left) _ (s .aim .ensures) (c .before .before .before .before .before .before .if3 .left) _ (c .before .before .before .before .read-descriptor .ensures) _ _ (c .before .before .write-found .ensures)
 
 pub write-spec : {M : Type 1} → statement M
 write-spec =
@@ -63,12 +64,10 @@ write-spec =
     returns
     same-length-2
     returns-2
-    is-short-requires
-    slice-aggregate-write-with
-    write-with-requires
+    aim-requires
     same-length-3
     returns-3
-    slice-aggregate-write-with-2
-    write-with-requires-2
+    read-descriptor-requires
+    write-found-requires
     same-length-4
     returns-4)

@@ -1,0 +1,49 @@
+-- `site_long` meets its contract: the walk with places for every chain, and the rest by what it found.
+use mathlib.Core.Path.{refl, _∙_}
+use lib.ListN.{replicate}
+use borrow.Author.Needs.{needs}
+use Rattle.calls.proofs.CardLaws.{enough-all, places-long, places-card}
+use Rattle.calls.proofs.SiteLaws.{site-6}
+use Rattle.snaps.proofs.snap.site_long.Statement.{statement}
+use Rattle.snaps.proofs.snap.site_long.Tie as tie
+
+slice-aggregate-walk-chain : tie.Need-slice-aggregate-walk-chain
+slice-aggregate-walk-chain c = search needs
+
+walk-chain-requires : tie.Need-walk-chain-requires
+walk-chain-requires c κs = enough-all _ (replicate 257 0) refl
+
+barred-requires : tie.Need-barred-requires
+barred-requires c κs = search needs
+
+returns : tie.Need-returns
+returns c = c .barred .ensures ∙ site-6 _ _ _ (c .before .before .before .before .walk-chain .ensures .0) (c .before .if1 .taken)
+
+add-starts : tie.Need-add-starts
+add-starts c = search needs
+
+array-share-prefix-starts : tie.Need-array-share-prefix-starts
+array-share-prefix-starts c = search needs
+
+slice-aggregate-site-through : tie.Need-slice-aggregate-site-through
+slice-aggregate-site-through c = let w = c .before .before .before .before .walk-chain .ensures in places-long _ _ (w .0) (c .before .if1 .left) _ (w .1 .0)
+
+site-through-requires : tie.Need-site-through-requires
+site-through-requires c κs = let w = c .before .before .before .before .walk-chain .ensures in places-card _ _ (w .0) (c .before .if1 .left) _ (w .1 .0) (c .before .before .before .before .before .before .before .pre)
+
+returns-2 : tie.Need-returns-2
+returns-2 c = search needs
+
+pub site-long-spec : {M : Type 1} → statement M
+site-long-spec =
+    tie.close
+    (tie.spec
+    slice-aggregate-walk-chain
+    walk-chain-requires
+    barred-requires
+    returns
+    add-starts
+    array-share-prefix-starts
+    slice-aggregate-site-through
+    site-through-requires
+    returns-2)
