@@ -77,7 +77,7 @@
  *     call may change.
  *   - A check uses at most 72 KB of stack, any other call at most 5 KB. Measured
  *     on x86-64, on cards of 4,096 blocks, a check on 2,048 too, in accepted and
- *     some refused calls: 67,056 and 1,656 bytes.
+ *     some refused calls: 67,056 and 1,624 bytes.
  *
  * SIZES
  *

@@ -71,8 +71,8 @@ pub fn get_bytes(area: &[u8], at: usize, out: &mut [u8])
     put_bytes(out, 0, &area[at..at + out.len()]);
 }
 
-// Copies a block into `area` from index `at`, by way of a copy of its own: the compiler then knows that what it reads and what it stores are apart, and how many
-// bytes they are, and makes one move of both loops.
+// Copies a block into `area` from index `at`, by way of a copy of its own: the compiler then knows of each of the two loops that what it reads and what it stores
+// are apart, and how many bytes they are, and makes one move of both.
 pub fn put_whole(area: &mut [u8], at: usize, block: &[u8])
     requires { ⌜ (length (now block) ≡ blockSize) × (at + blockSize ≤ length (now area)) ⌝ }
     ensures { λ _. ⌜ now (area .exit) ≡ splice (now (area .entry)) at (now (block .entry)) ⌝ }

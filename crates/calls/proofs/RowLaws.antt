@@ -181,7 +181,7 @@ append-by : (r : Row) (rest all : Answer) (later : Answer) (h : Bool) → (r .nu
 append-by r rest all later true z e = rw (ne-eqb (r .number) 0 z)
 append-by r rest all later false z e = e
 
-first-append : (xs ys : List Row) → numbered xs ≡ true → firstRow (xs ++ ys) ≡ pick (isAccepted (firstRow xs)) (firstRow ys) (firstRow xs)
+pub first-append : (xs ys : List Row) → numbered xs ≡ true → firstRow (xs ++ ys) ≡ pick (isAccepted (firstRow xs)) (firstRow ys) (firstRow xs)
 unfolding firstRow
 first-append [] ys is = refl
 first-append (r ∷ xs) ys is = append-by r (firstRow (xs ++ ys)) (firstRow xs) (firstRow ys) (r .holds) (head-set r xs is) (first-append xs ys (tail-numbered r xs is))

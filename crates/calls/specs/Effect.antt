@@ -1,18 +1,16 @@
 -- The stores of a write, a snap and a revert, in order and computed from the card at entry; what stays of a list at a rollback; the records of a listing; what a read and a visit do once the entry is found, where a write goes and what it does there, and where a snapshot is taken.
-use mathlib.Core.Bool.{not}
 use mathlib.Core.List.{List, [], _∷_}
 use Prim.Native.Nat.{ℕ, suc, _+_}
-use lib.ListN.{length, getD}
+use lib.ListN.{getD}
 use Rattle.blocks.specs.Pick.{pick}
-use lib.Dec.{eqb, ltb, leb}
+use lib.Dec.{eqb, ltb}
 use Rattle.blocks.specs.Bytes.{Store, store, blockCount, storeAll}
 use Rattle.blocks.specs.Name.{noName}
 use Rattle.blocks.specs.Descriptor.{physical, noDescriptor, revisionOf, tailAt, descriptorBlock, renamedOf, linkedOf, reopening}
 use Rattle.blocks.specs.declared.descriptor.Descriptor.{Descriptor}
-use Rattle.chains.specs.Chain.{chain, chainSound, chainPlace, named, activeOf}
+use Rattle.chains.specs.Chain.{activeOf}
 use Rattle.entries.specs.Entry.{need, writing, foundBlock, locate}
 use Rattle.entries.specs.declared.find.Found.{Found}
-use Rattle.entries.specs.declared.find.Found.the-variants.{Misplaced, Entry}
 use Rattle.entries.specs.declared.find.Located.{Located}
 use Rattle.calls.specs.declared.answer.Answer.{Answer}
 use Rattle.calls.specs.declared.answer.Aim.{Aim}
@@ -21,7 +19,8 @@ use Rattle.calls.specs.declared.answer.Site.{Site}
 use Rattle.calls.specs.declared.answer.Target.{Target}
 use Rattle.calls.specs.declared.answer.Visited.{Visited}
 use Rattle.calls.specs.Call.{Outcome, Given, NoneGiven, NameGiven, answer, accepted}
-use Rattle.calls.specs.Parts.{mostSnapshots, descriptorsOf, snapshotsOf, withName, targetOf, foundThrough, isMisplaced, holderOf, blockFound}
+use Rattle.calls.specs.Ladder.{firstRow, aimRows, siteRows}
+use Rattle.calls.specs.Parts.{descriptorsOf, snapshotsOf, withName, targetOf, foundThrough, isMisplaced, holderOf, blockFound}
 
 -- a snapshot of the active descriptor d: the copy at beta, tables first and rising, then the old descriptor under the visit's name, linked to the copy
 unfoldable pub snapping : List ℕ → Descriptor → List ℕ → List Store
@@ -91,18 +90,19 @@ asVisited o = record { answer = o .answer; name = givenBytes (o .given) }
 unfoldable pub visited : List Descriptor → Located → Visited
 visited ds at = pick (isMisplaced (at .found)) (record { answer = answer 10 (holderOf (at .found)); name = noName }) (record { answer = accepted; name = givenBytes (givenAt ds at) })
 
--- where a write goes: barred by the chain, by its number or by an entry that is not in place; or to the entry that was found, through the active descriptor
-abbrev pub barredBy : Answer → Aim
-barredBy a = record { answer = a; alpha = physical 0; table = physical 0; entry = physical 0; taken = 0 }
+-- where a write goes that is refused before its room is asked for: nowhere
+abbrev pub noAim : Answer → Aim
+noAim a = record { answer = a; alpha = physical 0; table = physical 0; entry = physical 0; taken = 0 }
 
-unfoldable pub aimAt : Descriptor → Found → Aim
-aimAt d (Misplaced h) = barredBy (answer 10 (h .0))
-aimAt d (Entry m p) = record { answer = accepted; alpha = d .alpha; table = m; entry = p; taken = need (d .alpha .0) (Entry m p) }
-
+-- where a write of logical block l goes, by its rows up to that of the entry: through the active descriptor to the entry that was found
 unfoldable pub aimOf : List ℕ → ℕ → Aim
 aimOf c l =
     let d = activeOf (descriptorsOf c) in
-    pick (not (chainSound (chain c))) (barredBy (answer 6 (chainPlace (chain c)))) (pick (leb (d .volume) l) (barredBy (answer 8 0)) (aimAt d (foundThrough c d l)))
+    let found = foundThrough c d l in
+    let a = firstRow (aimRows c l) in
+    pick (eqb (a .number) 0)
+    (record { answer = a; alpha = d .alpha; table = physical (holderOf found); entry = physical (foundBlock found); taken = need (d .alpha .0) found })
+    (noAim a)
 
 -- what a write does once its entry was found: the refusal for want of room, or its stores
 pub record Written : Type 0 where
@@ -115,12 +115,12 @@ written c d found l block =
     (record { answer = answer 11 0; card = c })
     (record { answer = accepted; card = storeAll c (writing c d found l block) })
 
--- where a snapshot is taken: barred by the chain, by its name or by the number of snapshots; or at the active descriptor
+-- where a snapshot is taken that is refused before its room is asked for: nowhere
 abbrev pub noSite : Answer → Site
 noSite a = record { answer = a; alpha = physical 0 }
 
+-- where a snapshot of the name is taken, by its rows up to that of the number of snapshots: at the active descriptor
 unfoldable pub siteOf : List ℕ → List ℕ → Site
 siteOf c name =
-    let ds = descriptorsOf c in
-    pick (not (chainSound (chain c))) (noSite (answer 6 (chainPlace (chain c))))
-    (pick (named ds name) (noSite (answer 12 0)) (pick (leb mostSnapshots (length (snapshotsOf ds))) (noSite (answer 13 0)) (record { answer = accepted; alpha = activeOf ds .alpha })))
+    let a = firstRow (siteRows c name) in
+    pick (eqb (a .number) 0) (record { answer = a; alpha = activeOf (descriptorsOf c) .alpha }) (noSite a)

@@ -1,6 +1,6 @@
 -- Where each refusal is made: for each call the rows of 01's table that it meets, from top to bottom; the first that holds is given.
 use mathlib.Core.Bool.{Bool, not, _&&_, _||_}
-use mathlib.Core.List.{List, [], _∷_}
+use mathlib.Core.List.{List, [], _∷_, _++_}
 use Prim.Native.Nat.{ℕ, _+_}
 use lib.ListN.{length}
 use lib.Dec.{eqb, ltb, leb}
@@ -92,27 +92,34 @@ unfoldable pub visitRows : List ℕ → Target → List ℕ → ℕ → List Row
 unfolding entryRows
 visitRows c target name l = targetRow target name ∷ entryRows c target name l
 
+-- the rows of a write between those of its arguments and that for want of room: they say where it goes
+abbrev pub aimRows : List ℕ → ℕ → List Row
+aimRows c l =
+    let found = foundThrough c (activeOf (descriptorsOf c)) l in
+    chainRow c
+    ∷ volumeRow c l
+    ∷ row (isMisplaced found) 10 (holderOf found)
+    ∷ []
+
 unfoldable pub writeRows : List ℕ → ℕ → List ℕ → List Row
 writeRows c l block =
     let d = activeOf (descriptorsOf c) in
-    let found = foundThrough c d l in
     blockRow block
-    ∷ chainRow c
-    ∷ volumeRow c l
-    ∷ row (isMisplaced found) 10 (holderOf found)
-    ∷ row (ltb (blockCount c) (d .beta .0 + need (d .alpha .0) found)) 11 0
+    ∷ (aimRows c l ++ (row (ltb (blockCount c) (d .beta .0 + need (d .alpha .0) (foundThrough c d l))) 11 0 ∷ []))
+
+-- those of a snap: they say where it is taken
+abbrev pub siteRows : List ℕ → List ℕ → List Row
+siteRows c name =
+    let ds = descriptorsOf c in
+    chainRow c
+    ∷ row (named ds name) 12 0
+    ∷ row (leb mostSnapshots (length (snapshotsOf ds))) 13 0
     ∷ []
 
 unfoldable pub snapRows : List ℕ → List ℕ → List Row
 snapRows c name =
-    let ds = descriptorsOf c in
-    let d = activeOf ds in
-    nameRow name
-    ∷ chainRow c
-    ∷ row (named ds name) 12 0
-    ∷ row (leb mostSnapshots (length (snapshotsOf ds))) 13 0
-    ∷ row (ltb (blockCount c) (d .beta .0 + costOf d)) 11 0
-    ∷ []
+    let d = activeOf (descriptorsOf c) in
+    nameRow name ∷ (siteRows c name ++ (row (ltb (blockCount c) (d .beta .0 + costOf d)) 11 0 ∷ []))
 
 unfoldable pub revertRows : List ℕ → List ℕ → List Row
 revertRows c name = nameRow name ∷ chainRow c ∷ row (not (named (snapshotsOf (descriptorsOf c)) name)) 7 0 ∷ []

@@ -94,8 +94,8 @@ pub struct Visited {
     pub name: [u8; NAME_SIZE],
 }
 
-// Where a write goes: number and place of the refusal that bars it before its room is asked for, or the block of the active descriptor, the table block and the
-// entry that were found, and the blocks that it takes.
+// Where a write goes: its answer up to the test for room, the block of the active descriptor, the table block and the block that the entry names, each 0 for nil,
+// and the blocks that it takes. With a refusal all but the answer are 0.
 pub struct Aim {
     pub answer: Answer,
     pub alpha: Physical,
@@ -104,7 +104,7 @@ pub struct Aim {
     pub taken: u32,
 }
 
-// Where a snapshot is taken: number and place of the refusal that bars it before its room is asked for, or the block of the active descriptor.
+// Where a snapshot is taken: its answer up to the test for room, and the block of the active descriptor, 0 with a refusal.
 pub struct Site {
     pub answer: Answer,
     pub alpha: Physical,

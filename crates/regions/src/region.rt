@@ -18,7 +18,7 @@ pub fn open_region(card: &mut [u8], d: Descriptor, cost: u32)
     let alpha = d.alpha;
     let beta = d.beta;
     let opened = d.reopened();
-    // The descriptor alone: with two calls of the pass the compiler keeps it a function of its own, and puts this one where it is called.
+    // A descriptor alone. The pass is called in two places, so the compiler keeps it a function of its own, and puts `open_region` where that is called.
     if cost == 1 {
         copy::store_descriptor_upto(card, alpha, beta, opened, BLOCK_SIZE);
         return;

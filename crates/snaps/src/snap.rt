@@ -38,8 +38,8 @@ fn take_snapshot(card: &mut [u8], d: Descriptor, cost: u32, name: [u8; NAME_SIZE
     descriptor::put_descriptor(card, alpha, closed);
 }
 
-// A snapshot that is barred.
-fn barred(a: Answer) -> Site
+// A snapshot that is refused is taken nowhere: its answer, and zero.
+fn no_site(a: Answer) -> Site
     ensures { λ r. ⌜ r ≡ noSite a ⌝ }
 {
     Site {
@@ -54,10 +54,10 @@ fn site_through(card: &[u8], starts: &[u32], count: usize, name: [u8; NAME_SIZE]
     ensures { λ r. ⌜ r ≡ siteOf (now (card .entry)) name ⌝ }
 {
     if index::is_named(card, starts, count, name) {
-        return barred(answer::NAME_IN_USE);
+        return no_site(answer::NAME_IN_USE);
     }
     if MOST_SNAPSHOTS < count {
-        return barred(answer::TOO_MANY_SNAPSHOTS);
+        return no_site(answer::TOO_MANY_SNAPSHOTS);
     }
     let alpha = starts[count - 1];
     Site {
@@ -75,7 +75,7 @@ fn site_long(card: &[u8], name: [u8; NAME_SIZE]) -> Site
     let found = chain::walk_chain(card, &mut starts);
     if !found.sound {
         let place = found.place.0;
-        return barred(Answer { number: 6, place });
+        return no_site(Answer { number: 6, place });
     }
     let count = found.count;
     site_through(card, &starts[..count + 1], count, name)
@@ -93,7 +93,7 @@ fn site(card: &[u8], name: [u8; NAME_SIZE]) -> Site
     let found = chain::walk_chain(card, &mut starts);
     if !found.sound {
         let place = found.place.0;
-        return barred(Answer { number: 6, place });
+        return no_site(Answer { number: 6, place });
     }
     let count = found.count;
     site_through(card, &starts[..count + 1], count, name)

@@ -21,7 +21,7 @@ ghost use Rattle.entries.specs.Entry.{need};
 ghost use Rattle.entries.specs.Through.{WriteReady};
 ghost use Rattle.calls.specs.Call.{Write, Block};
 ghost use Rattle.calls.specs.Parts.{areaBad, SoundCard};
-ghost use Rattle.calls.specs.Effect.{barredBy, aimOf, written};
+ghost use Rattle.calls.specs.Effect.{noAim, aimOf, written};
 ghost use Rattle.calls.specs.Step.{step, done};
 
 // Writes the block through the entry `p` of table block `m`, if there is room for the blocks that it takes.
@@ -45,9 +45,9 @@ fn write_found(
     answer::ACCEPTED
 }
 
-// A write that is barred.
-fn barred(a: Answer) -> Aim
-    ensures { λ r. ⌜ r ≡ barredBy a ⌝ }
+// A write that is refused goes nowhere: its answer, and zeros.
+fn no_aim(a: Answer) -> Aim
+    ensures { λ r. ⌜ r ≡ noAim a ⌝ }
 {
     Aim {
         answer: a,
@@ -67,14 +67,14 @@ fn aim_through(card: &[u8], starts: &[u32], count: usize, l: Logical) -> Aim
     let start = starts[last];
     let d = descriptor::read_descriptor(card, Physical(start));
     if d.volume <= l.0 {
-        return barred(answer::PAST_THE_VOLUME);
+        return no_aim(answer::PAST_THE_VOLUME);
     }
     let alpha = d.alpha;
     let at = find::locate(&*card, &*starts, count, d, l);
     let found = at.found;
     let taken = need::need(last, alpha, found, at.owner);
     match found {
-        Found::Misplaced(h) => barred(Answer {
+        Found::Misplaced(h) => no_aim(Answer {
             number: 10,
             place: h.0,
         }),
@@ -97,7 +97,7 @@ fn aim_long(card: &[u8], l: Logical) -> Aim
     let found = chain::walk_chain(card, &mut starts);
     if !found.sound {
         let place = found.place.0;
-        return barred(Answer { number: 6, place });
+        return no_aim(Answer { number: 6, place });
     }
     let count = found.count;
     aim_through(card, &starts[..count + 1], count, l)
@@ -115,7 +115,7 @@ fn aim(card: &[u8], l: Logical) -> Aim
     let found = chain::walk_chain(card, &mut starts);
     if !found.sound {
         let place = found.place.0;
-        return barred(Answer { number: 6, place });
+        return no_aim(Answer { number: 6, place });
     }
     let count = found.count;
     aim_through(card, &starts[..count + 1], count, l)

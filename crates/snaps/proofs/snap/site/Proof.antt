@@ -22,11 +22,11 @@ slice-aggregate-walk-chain c = search needs
 walk-chain-requires : tie.Need-walk-chain-requires
 walk-chain-requires c κs = enough-few _ (replicate 9 0) _ (c .before .before .is-short .ensures) (c .before .if1 .left) refl
 
-barred-requires : tie.Need-barred-requires
-barred-requires c κs = search needs
+no-site-requires : tie.Need-no-site-requires
+no-site-requires c κs = search needs
 
 returns-2 : tie.Need-returns-2
-returns-2 c = c .barred .ensures ∙ site-6 _ _ _ (c .before .before .before .before .walk-chain .ensures .0) (c .before .if2 .taken)
+returns-2 c = c .no-site .ensures ∙ site-6 _ _ _ (c .before .before .before .before .walk-chain .ensures .0) (c .before .if2 .taken)
 
 add-starts : tie.Need-add-starts
 add-starts c = search needs
@@ -52,7 +52,7 @@ site-spec =
     returns
     slice-aggregate-walk-chain
     walk-chain-requires
-    barred-requires
+    no-site-requires
     returns-2
     add-starts
     array-share-prefix-starts

@@ -13,11 +13,11 @@ slice-aggregate-walk-chain c = search needs
 walk-chain-requires : tie.Need-walk-chain-requires
 walk-chain-requires c κs = enough-all _ (replicate 257 0) refl
 
-barred-requires : tie.Need-barred-requires
-barred-requires c κs = search needs
+no-site-requires : tie.Need-no-site-requires
+no-site-requires c κs = search needs
 
 returns : tie.Need-returns
-returns c = c .barred .ensures ∙ site-6 _ _ _ (c .before .before .before .before .walk-chain .ensures .0) (c .before .if1 .taken)
+returns c = c .no-site .ensures ∙ site-6 _ _ _ (c .before .before .before .before .walk-chain .ensures .0) (c .before .if1 .taken)
 
 add-starts : tie.Need-add-starts
 add-starts c = search needs
@@ -40,7 +40,7 @@ site-long-spec =
     (tie.spec
     slice-aggregate-walk-chain
     walk-chain-requires
-    barred-requires
+    no-site-requires
     returns
     add-starts
     array-share-prefix-starts

@@ -10,17 +10,17 @@ use Rattle.snaps.proofs.snap.site_through.Tie as tie
 is-named-requires : tie.Need-is-named-requires
 is-named-requires c κs = let r = card-ready _ _ _ (c .before .before .pre) in (r .1, r .2)
 
-barred-requires : tie.Need-barred-requires
-barred-requires c κs = search needs
+no-site-requires : tie.Need-no-site-requires
+no-site-requires c κs = search needs
 
 returns : tie.Need-returns
-returns c = c .barred .ensures ∙ site-12 _ _ _ _ (c .before .before .before .before .before .pre) _ (c .before .before .is-named .ensures) (c .before .if1 .taken)
+returns c = c .no-site .ensures ∙ site-12 _ _ _ _ (c .before .before .before .before .before .pre) _ (c .before .before .is-named .ensures) (c .before .if1 .taken)
 
-barred-requires-2 : tie.Need-barred-requires-2
-barred-requires-2 c κs = search needs
+no-site-requires-2 : tie.Need-no-site-requires-2
+no-site-requires-2 c κs = search needs
 
 returns-2 : tie.Need-returns-2
-returns-2 c = c .barred2 .ensures ∙ site-13 _ _ _ _ (c .before .before .before .before .before .before .pre) _ (c .before .before .before .is-named .ensures) (c .before .before .if1 .left) (c .before .if2 .taken)
+returns-2 c = c .no-site2 .ensures ∙ site-13 _ _ _ _ (c .before .before .before .before .before .before .pre) _ (c .before .before .before .is-named .ensures) (c .before .before .if1 .left) (c .before .if2 .taken)
 
 sub-alpha : tie.Need-sub-alpha
 sub-alpha c = omega (arith, card-ready _ _ _ (c .before .before .before .before .before .pre) .0)
@@ -39,9 +39,9 @@ site-through-spec =
     tie.close
     (tie.spec
     is-named-requires
-    barred-requires
+    no-site-requires
     returns
-    barred-requires-2
+    no-site-requires-2
     returns-2
     sub-alpha
     mul-alpha

@@ -6,7 +6,7 @@ use Rattle.calls.specs.Ladder.{snapRows}
 use Rattle.calls.specs.Meaning.{lentOf, answerOf, rowsOf}
 use Rattle.calls.proofs.StepLaws.{step-barred, step-refused}
 use Rattle.calls.proofs.RowLaws.{admitted-card, named-4}
-use Rattle.calls.proofs.SiteLaws.{site-barred, site-inside, site-11, site-ready, site-done}
+use Rattle.calls.proofs.SiteLaws.{site-refused, site-inside, site-11, site-ready, site-done}
 use Rattle.snaps.proofs.snap.snap.Statement.{statement}
 use Rattle.snaps.proofs.snap.snap.Tie as tie
 
@@ -39,7 +39,7 @@ same-length-3 c = search needs
 returns-3 : tie.Need-returns-3
 returns-3 c =
     let s = c .before .before .before in
-    site-barred _ _ (admitted-card _ _ (s .before .before .before .before .before .before .admit .ensures) (s .before .before .before .before .if1 .left)) (sym (s .before .before .before .is-name .ensures) ∙ not-false _ (s .before .before .if2 .left)) _ (s .site .ensures) (c .if3 .taken)
+    site-refused _ _ (admitted-card _ _ (s .before .before .before .before .before .before .admit .ensures) (s .before .before .before .before .if1 .left)) (sym (s .before .before .before .is-name .ensures) ∙ not-false _ (s .before .before .if2 .left)) _ (s .site .ensures) (c .if3 .taken)
 
 read-descriptor-requires : tie.Need-read-descriptor-requires
 read-descriptor-requires c κs =

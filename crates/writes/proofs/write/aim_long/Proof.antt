@@ -14,11 +14,11 @@ slice-aggregate-walk-chain c = search needs
 walk-chain-requires : tie.Need-walk-chain-requires
 walk-chain-requires c κs = enough-all _ (replicate 257 0) refl
 
-barred-requires : tie.Need-barred-requires
-barred-requires c κs = search needs
+no-aim-requires : tie.Need-no-aim-requires
+no-aim-requires c κs = search needs
 
 returns : tie.Need-returns
-returns c = c .barred .ensures ∙ aim-6 _ _ _ (c .before .before .before .before .walk-chain .ensures .0) (c .before .if1 .taken)
+returns c = c .no-aim .ensures ∙ aim-6 _ _ _ (c .before .before .before .before .walk-chain .ensures .0) (c .before .if1 .taken)
 
 add-starts : tie.Need-add-starts
 add-starts c = omega (arith, c .before .before .before .walk-chain .ensures .1 .1 .1)
@@ -41,7 +41,7 @@ aim-long-spec =
     (tie.spec
     slice-aggregate-walk-chain
     walk-chain-requires
-    barred-requires
+    no-aim-requires
     returns
     add-starts
     array-share-prefix-starts

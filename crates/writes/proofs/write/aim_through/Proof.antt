@@ -42,14 +42,14 @@ shared-slice-read-start c = let s = c .before .before .before in omega (arith, s
 read-descriptor-requires : tie.Need-read-descriptor-requires
 read-descriptor-requires c κs = let s = c .before .before .before in card-inside _ _ (sym (s .pre .regions)) (s .pre .area) refl _ (omega (arith, some s))
 
-barred-requires : tie.Need-barred-requires
-barred-requires c κs = search needs
+no-aim-requires : tie.Need-no-aim-requires
+no-aim-requires c κs = search needs
 
 returns : tie.Need-returns
 returns c =
     let t = c .before .before .before .before in
     let s = t .before .before .before .before in
-    c .barred .ensures ∙ aim-8 _ _ _ _ (s .pre) _ (active-is s _ (t .read-descriptor .ensures)) (c .before .if1 .taken)
+    c .no-aim .ensures ∙ aim-8 _ _ _ _ (s .pre) _ (active-is s _ (t .read-descriptor .ensures)) (c .before .if1 .taken)
 
 locate-requires : tie.Need-locate-requires
 locate-requires c κs =
@@ -62,8 +62,8 @@ need-requires c κs = search needs
 enum-known-found : tie.Need-enum-known-found
 enum-known-found c = search needs
 
-barred-requires-2 : tie.Need-barred-requires-2
-barred-requires-2 c κs = search needs
+no-aim-requires-2 : tie.Need-no-aim-requires-2
+no-aim-requires-2 c κs = search needs
 
 enum-known-found-2 : tie.Need-enum-known-found-2
 enum-known-found-2 c = search needs
@@ -73,7 +73,7 @@ returns-2 c =
     let l = c .before .before .before .before .before in
     let t = l .before .before .before .before .before in
     let s = t .before .before .before .before in
-    c .barred2 .ensures ∙ aim-10 _ _ _ _ (s .pre) _ (active-is s _ (t .read-descriptor .ensures)) (l .before .before .if1 .left) _ (located-found _ _ _ _ _ (l .locate .ensures)) (c .before .before .found .given .0 .0) cc
+    c .no-aim2 .ensures ∙ aim-10 _ _ _ _ (s .pre) _ (active-is s _ (t .read-descriptor .ensures)) (l .before .before .if1 .left) _ (located-found _ _ _ _ _ (l .locate .ensures)) (c .before .before .found .given .0 .0) cc
 
 returns-3 : tie.Need-returns-3
 returns-3 c =
@@ -97,12 +97,12 @@ aim-through-spec =
     mul-start
     shared-slice-read-start
     read-descriptor-requires
-    barred-requires
+    no-aim-requires
     returns
     locate-requires
     need-requires
     enum-known-found
-    barred-requires-2
+    no-aim-requires-2
     enum-known-found-2
     returns-2
     returns-3)

@@ -5,7 +5,7 @@ use Rattle.calls.specs.Meaning.{lentOf}
 use Rattle.calls.proofs.StepLaws.{step-barred, step-refused}
 use Rattle.calls.proofs.RowLaws.{admitted-card}
 use Rattle.calls.proofs.WriteLaws.{write-9}
-use Rattle.calls.proofs.AimLaws.{aim-barred, aim-inside, aim-ready, aim-done}
+use Rattle.calls.proofs.AimLaws.{aim-refused, aim-inside, aim-ready, aim-done}
 use Rattle.writes.proofs.write.write.Statement.{statement}
 use Rattle.writes.proofs.write.write.Tie as tie
 
@@ -35,7 +35,7 @@ same-length-3 c = search needs
 returns-3 : tie.Need-returns-3
 returns-3 c =
     let s = c .before .before .before in
-    aim-barred _ _ _ (admitted-card _ _ (s .before .before .before .before .before .admit .ensures) (s .before .before .before .if1 .left)) (s .before .before .if2 .left) _ (s .aim .ensures) (c .if3 .taken)
+    aim-refused _ _ _ (admitted-card _ _ (s .before .before .before .before .before .admit .ensures) (s .before .before .before .if1 .left)) (s .before .before .if2 .left) _ (s .aim .ensures) (c .if3 .taken)
 
 read-descriptor-requires : tie.Need-read-descriptor-requires
 read-descriptor-requires c κs =
