@@ -6,7 +6,7 @@ use Prim.Native.Nat.{ℕ, _+_, _*_, _≤_, _<_}
 use native.Mathlib.Omega.{arith}
 use lib.ListN.{length, drop}
 use lib.Dec.{eqb, ltb, leb}
-use borrow.Author.Tests.{eqb-true, eqb-false, leb-false, eq-eqb, ne-eqb, not-false}
+use borrow.Author.Tests.{leb-false, eq-eqb, ne-eqb, not-false}
 use Rattle.blocks.specs.Pick.{pick}
 use Rattle.blocks.specs.Bytes.{blockCount, storeAll}
 use Rattle.blocks.specs.Descriptor.{physical, descriptorAt}
@@ -29,7 +29,7 @@ use Rattle.calls.specs.Meaning.{rowsOf, answerOf, lentOf, filledOf, stor
 use Rattle.calls.specs.Step.{Done, step, done}
 use Rattle.calls.proofs.CardLaws.{card-sound, chain-is}
 use Rattle.calls.proofs.ActiveLaws.{active-here, active-inside, active-through}
-use Rattle.calls.proofs.RowLaws.{numbered, fresh, none, first-append, row-given, row-passed, last-passed, chain-given, chain-passed, volume-given, volume-passed, card-admitted, block-passed}
+use Rattle.calls.proofs.RowLaws.{numbered, fresh, none, first-append, row-given, last-passed, chain-given, chain-passed, volume-given, volume-passed, card-admitted, block-passed}
 use Rattle.calls.proofs.StepLaws.{step-refused, step-accepted}
 
 -- an entry that is in place is one

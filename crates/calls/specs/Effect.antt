@@ -90,11 +90,11 @@ asVisited o = record { answer = o .answer; name = givenBytes (o .given) }
 unfoldable pub visited : List Descriptor → Located → Visited
 visited ds at = pick (isMisplaced (at .found)) (record { answer = answer 10 (holderOf (at .found)); name = noName }) (record { answer = accepted; name = givenBytes (givenAt ds at) })
 
--- where a write goes that is refused before its room is asked for: nowhere
+-- where a write goes that one of its aimRows refuses: nowhere
 abbrev pub noAim : Answer → Aim
 noAim a = record { answer = a; alpha = physical 0; table = physical 0; entry = physical 0; taken = 0 }
 
--- where a write of logical block l goes, by its rows up to that of the entry: through the active descriptor to the entry that was found
+-- where a write of logical block l goes, by its rows from that of the chain up to that of the entry: through the active descriptor to the entry that was found
 unfoldable pub aimOf : List ℕ → ℕ → Aim
 aimOf c l =
     let d = activeOf (descriptorsOf c) in
@@ -115,11 +115,11 @@ written c d found l block =
     (record { answer = answer 11 0; card = c })
     (record { answer = accepted; card = storeAll c (writing c d found l block) })
 
--- where a snapshot is taken that is refused before its room is asked for: nowhere
+-- where a snapshot is taken that one of its siteRows refuses: nowhere
 abbrev pub noSite : Answer → Site
 noSite a = record { answer = a; alpha = physical 0 }
 
--- where a snapshot of the name is taken, by its rows up to that of the number of snapshots: at the active descriptor
+-- where a snapshot of the name is taken, by its rows from that of the chain up to that of the number of snapshots: at the active descriptor
 unfoldable pub siteOf : List ℕ → List ℕ → Site
 siteOf c name =
     let a = firstRow (siteRows c name) in

@@ -52,7 +52,7 @@ unfoldable pub targetIndex : List Descriptor → Target → List ℕ → ℕ
 targetIndex snapshots Active name = length snapshots
 targetIndex snapshots Snapshot name = pick (eqb (indexOf snapshots name) (length snapshots)) (length snapshots + 1) (indexOf snapshots name)
 
--- whether an entry followed is not in place, and the block that holds it
+-- whether an entry followed is not in place, and the block that holds it; of an entry in place its table block, 0 where there is none
 unfoldable pub isMisplaced : Found → Bool
 isMisplaced (Misplaced h) = true
 isMisplaced (Entry m p) = false

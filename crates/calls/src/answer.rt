@@ -94,8 +94,8 @@ pub struct Visited {
     pub name: [u8; NAME_SIZE],
 }
 
-// Where a write goes: its answer up to the test for room, the block of the active descriptor, the table block and the block that the entry names, each 0 for nil,
-// and the blocks that it takes. With a refusal all but the answer are 0.
+// Where a write goes: its answer by the tests from that of the chain up to that of the entry, the block of the active descriptor, the table block and the block
+// that the entry names, each of these two 0 for nil, and the blocks that it takes. With a refusal all but the answer are 0.
 pub struct Aim {
     pub answer: Answer,
     pub alpha: Physical,
@@ -104,7 +104,8 @@ pub struct Aim {
     pub taken: u32,
 }
 
-// Where a snapshot is taken: its answer up to the test for room, and the block of the active descriptor, 0 with a refusal.
+// Where a snapshot is taken: its answer by the tests from that of the chain up to that of the number of snapshots, and the block of the active descriptor, 0 with
+// a refusal.
 pub struct Site {
     pub answer: Answer,
     pub alpha: Physical,

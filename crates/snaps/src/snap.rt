@@ -38,7 +38,7 @@ fn take_snapshot(card: &mut [u8], d: Descriptor, cost: u32, name: [u8; NAME_SIZE
     descriptor::put_descriptor(card, alpha, closed);
 }
 
-// A snapshot that is refused is taken nowhere: its answer, and zero.
+// A snapshot that is refused by chain, name or number of snapshots is taken nowhere: its answer, and zero.
 fn no_site(a: Answer) -> Site
     ensures { λ r. ⌜ r ≡ noSite a ⌝ }
 {

@@ -45,7 +45,7 @@ fn write_found(
     answer::ACCEPTED
 }
 
-// A write that is refused goes nowhere: its answer, and zeros.
+// A write that is refused on the way to its entry goes nowhere: its answer, and zeros.
 fn no_aim(a: Answer) -> Aim
     ensures { λ r. ⌜ r ≡ noAim a ⌝ }
 {
