@@ -1,7 +1,8 @@
-// The eight calls in plain Rust, without proofs and written for speed: what the benchmark compares the library with.
+// The ten calls in plain Rust, without proofs and written for speed: what the benchmark compares the library with.
 use crate::declared::RECORD_SIZE;
 use crate::numbers::*;
 use std::mem::MaybeUninit;
+use std::ops::Range;
 
 type Entry = [u8; NUMBER];
 
@@ -275,30 +276,82 @@ impl Chain {
         self.region(p) + self.cost <= p
     }
 
+    // The table block of a group, 0 where it is nil.
+    #[inline(always)]
+    fn table_at(&self, blocks: &[Block], alpha: u32, group: u32) -> u32 {
+        match self.layout {
+            1 => alpha + 1 + group,
+            _ => u32::from_le_bytes(phi(&blocks[alpha as usize])[group as usize]),
+        }
+    }
+
+    // The same, where it is in place.
+    #[inline(always)]
+    fn find_table(
+        &self,
+        blocks: &[Block],
+        alpha: u32,
+        beta: u32,
+        group: u32,
+    ) -> Result<u32, Refusal> {
+        let m = self.table_at(blocks, alpha, group);
+        match self.layout == 1 || self.in_place(beta, m) {
+            true => Ok(m),
+            false => refuse_at(10, alpha),
+        }
+    }
+
     // The table block and the entry of logical block l, each 0 where it is nil.
     fn find(&self, blocks: &[Block], alpha: u32, beta: u32, l: u32) -> Result<(u32, u32), Refusal> {
         if l >= self.volume {
             return refuse(8);
         }
-        let m = if self.layout == 1 {
-            alpha + 1 + l / TABLE_ENTRIES
-        } else {
-            let entries = phi(&blocks[alpha as usize]);
-            let m = u32::from_le_bytes(entries[(l / TABLE_ENTRIES) as usize]);
-            if !self.in_place(beta, m) {
-                return refuse_at(10, alpha);
-            }
-            if m == 0 {
-                return Ok((0, 0));
-            }
-            m
-        };
+        let m = self.find_table(blocks, alpha, beta, l / TABLE_ENTRIES)?;
+        if m == 0 {
+            return Ok((0, 0));
+        }
         let entries = table(&blocks[m as usize]);
         let p = u32::from_le_bytes(entries[(l % TABLE_ENTRIES) as usize]);
         if !self.in_place(beta, p) {
             return refuse_at(10, m);
         }
         Ok((m, p))
+    }
+}
+
+// The logical blocks that a span touches.
+struct Span {
+    blocks: Range<u32>,
+    // the byte of the first of them that the span starts with
+    from: usize,
+}
+
+impl Span {
+    // The span of so many bytes from the offset on, where it ends within the volume.
+    fn new(chain: &Chain, offset: u64, length: usize) -> Result<Span, Refusal> {
+        let size = BLOCK as u64;
+        let end = match offset.checked_add(length as u64) {
+            Some(end) if end <= size * u64::from(chain.volume) => end,
+            _ => return refuse(16),
+        };
+        Ok(Span {
+            blocks: match length {
+                0 => 0..0,
+                _ => (offset / size) as u32..end.div_ceil(size) as u32,
+            },
+            from: (offset % size) as usize,
+        })
+    }
+
+    // Each group that it touches, rising, with the entries of the group's table that it goes by.
+    fn groups(&self) -> impl Iterator<Item = (u32, Range<usize>)> {
+        let Range { start, end } = self.blocks;
+        let groups = start / TABLE_ENTRIES..end.div_ceil(TABLE_ENTRIES);
+        groups.map(move |group| {
+            let first = TABLE_ENTRIES * group;
+            let part = start.max(first) - first..end.min(first + TABLE_ENTRIES) - first;
+            (group, part.start as usize..part.end as usize)
+        })
     }
 }
 
@@ -343,6 +396,44 @@ pub fn read(card: &[u8], snapshot: Option<&[u8]>, l: u32, out: &mut [u8]) -> Ans
     match chain.find(blocks, alpha, beta, l)? {
         (_, 0) => out.fill(0),
         (_, p) => *out = blocks[p as usize],
+    }
+    Ok(())
+}
+
+// All entries are found before the first byte is filled.
+#[inline(never)]
+pub fn read_span(card: &[u8], snapshot: Option<&[u8]>, offset: u64, out: &mut [u8]) -> Answer {
+    let blocks = check_area(card)?;
+    let name = snapshot.map(check_name).transpose()?;
+    let mut chain = Chain::new();
+    chain.walk(blocks, name)?;
+    let (alpha, beta) = chain.target(blocks, name)?;
+    let span = Span::new(&chain, offset, out.len())?;
+    for (group, part) in span.groups() {
+        let m = chain.find_table(blocks, alpha, beta, group)?;
+        if m != 0 {
+            let entries = &table(&blocks[m as usize])[part];
+            let is_placed = |e: &Entry| chain.in_place(beta, u32::from_le_bytes(*e));
+            if !entries.iter().all(is_placed) {
+                return refuse_at(10, m);
+            }
+        }
+    }
+    let (mut from, mut rest) = (span.from, out);
+    for (group, part) in span.groups() {
+        let m = chain.table_at(blocks, alpha, group);
+        for j in part {
+            let (piece, later) = rest.split_at_mut(rest.len().min(BLOCK - from));
+            let p = match m {
+                0 => 0,
+                _ => get(&blocks[m as usize], NUMBER * j),
+            };
+            match p {
+                0 => piece.fill(0),
+                _ => piece.copy_from_slice(&blocks[p as usize][from..from + piece.len()]),
+            }
+            (from, rest) = (0, later);
+        }
     }
     Ok(())
 }
@@ -396,6 +487,69 @@ pub fn write(card: &mut [u8], l: u32, bytes: &[u8]) -> Answer {
     }
     put(&mut blocks[m], NUMBER * (l % TABLE_ENTRIES) as usize, data);
     put(&mut blocks[alpha as usize], BETA, end);
+    Ok(())
+}
+
+// On a card that passes the check every entry is in place, and no block is named twice.
+#[inline(never)]
+pub fn write_span(card: &mut [u8], offset: u64, bytes: &[u8]) -> Answer {
+    let blocks = check_area_mut(card)?;
+    let mut chain = Chain::new();
+    chain.walk(blocks, None)?;
+    let span = Span::new(&chain, offset, bytes.len())?;
+    chain.check(blocks)?;
+    let (alpha, beta) = (chain.alpha, chain.beta as usize);
+    // whether a new block takes the place of this one
+    let is_new = |p: u32| p == 0 || p < alpha;
+    let mut need = 0;
+    for (group, part) in span.groups() {
+        let m = chain.table_at(blocks, alpha, group);
+        if is_new(m) {
+            need += 1 + part.len();
+        } else {
+            let entries = &table(&blocks[m as usize])[part];
+            let new = entries.iter().filter(|e| is_new(u32::from_le_bytes(**e)));
+            need += new.count();
+        }
+    }
+    if beta + need > blocks.len() {
+        return refuse(11);
+    }
+    let mut end = beta;
+    // this block, or the new one, with the same bytes unless all of them are stored next
+    let mut own = |blocks: &mut [Block], old: u32, is_whole: bool| {
+        if !is_new(old) {
+            return old as usize;
+        }
+        let p = end;
+        end += 1;
+        match old as usize {
+            _ if is_whole => {}
+            0 => blocks[p].fill(0),
+            old => blocks.copy_within(old..old + 1, p),
+        }
+        p
+    };
+    let (mut from, mut rest) = (span.from, bytes);
+    for (group, part) in span.groups() {
+        let old = chain.table_at(blocks, alpha, group);
+        let m = own(blocks, old, false);
+        if m != old as usize {
+            let at = PHI + NUMBER * group as usize;
+            put(&mut blocks[alpha as usize], at, m as u32);
+        }
+        for j in part {
+            let (piece, later) = rest.split_at(rest.len().min(BLOCK - from));
+            let old = get(&blocks[m], NUMBER * j);
+            let p = own(blocks, old, piece.len() == BLOCK);
+            if p != old as usize {
+                put(&mut blocks[m], NUMBER * j, p as u32);
+            }
+            blocks[p][from..from + piece.len()].copy_from_slice(piece);
+            (from, rest) = (0, later);
+        }
+    }
+    put(&mut blocks[alpha as usize], BETA, end as u32);
     Ok(())
 }
 
@@ -523,6 +677,7 @@ impl Marks<'_> {
     }
 }
 
+#[inline(always)]
 fn check_one(blocks: &[Block], chain: &Chain, marks: &mut Marks, alpha: u32) -> Answer {
     let b = &blocks[alpha as usize];
     let beta = get(b, BETA);
@@ -561,23 +716,31 @@ fn check_one(blocks: &[Block], chain: &Chain, marks: &mut Marks, alpha: u32) -> 
     }
 }
 
+impl Chain {
+    // The check of the entries.
+    #[inline(always)]
+    fn check(&self, blocks: &[Block]) -> Answer {
+        let mut room = [const { MaybeUninit::uninit() }; MOST_BLOCKS - 1];
+        let room = &mut room[..blocks.len() - 1];
+        room.fill(MaybeUninit::new(0));
+        let mut marks = Marks {
+            // SAFETY: this part has just been set.
+            marks: unsafe { room.assume_init_mut() },
+            turn: 0,
+        };
+        marks.open(self);
+        for &p in self.starts.all() {
+            marks.next_turn(self);
+            check_one(blocks, self, &mut marks, p)?;
+        }
+        Ok(())
+    }
+}
+
 #[inline(never)]
 pub fn check(card: &[u8]) -> Answer {
     let blocks = check_area(card)?;
     let mut chain = Chain::new();
     chain.walk(blocks, None)?;
-    let mut room = [const { MaybeUninit::uninit() }; MOST_BLOCKS - 1];
-    let room = &mut room[..blocks.len() - 1];
-    room.fill(MaybeUninit::new(0));
-    let mut marks = Marks {
-        // SAFETY: this part has just been set.
-        marks: unsafe { room.assume_init_mut() },
-        turn: 0,
-    };
-    marks.open(&chain);
-    for &p in chain.starts.all() {
-        marks.next_turn(&chain);
-        check_one(blocks, &chain, &mut marks, p)?;
-    }
-    Ok(())
+    chain.check(blocks)
 }

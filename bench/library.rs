@@ -1,4 +1,4 @@
-// The eight calls of the static library, with the signatures of the baseline.
+// The ten calls of the static library, with the signatures of the baseline.
 use crate::baseline::{Answer, Refusal};
 use crate::declared::*;
 use crate::numbers::Name;
@@ -37,6 +37,24 @@ pub fn read(card: &[u8], snapshot: Option<&[u8]>, l: u32, out: &mut [u8]) -> Ans
     })
 }
 
+pub fn read_span(card: &[u8], snapshot: Option<&[u8]>, offset: u64, out: &mut [u8]) -> Answer {
+    let name = snapshot.unwrap_or(&[]);
+    let is_snapshot = snapshot.is_some() as u32;
+    answer(|place| unsafe {
+        mantreuy_read_span(
+            card.as_ptr(),
+            card.len(),
+            is_snapshot,
+            name.as_ptr(),
+            name.len(),
+            offset,
+            out.as_mut_ptr(),
+            out.len(),
+            place,
+        )
+    })
+}
+
 pub fn visit(card: &[u8], snapshot: Option<&[u8]>, l: u32, visit: &mut Name) -> Answer {
     let name = snapshot.unwrap_or(&[]);
     let is_snapshot = snapshot.is_some() as u32;
@@ -57,6 +75,13 @@ pub fn visit(card: &[u8], snapshot: Option<&[u8]>, l: u32, visit: &mut Name) -> 
 pub fn write(card: &mut [u8], l: u32, bytes: &[u8]) -> Answer {
     let (to, n) = (card.as_mut_ptr(), card.len());
     answer(|place| unsafe { mantreuy_write(to, n, l, bytes.as_ptr(), bytes.len(), place) })
+}
+
+pub fn write_span(card: &mut [u8], offset: u64, bytes: &[u8]) -> Answer {
+    let (to, n) = (card.as_mut_ptr(), card.len());
+    answer(|place| unsafe {
+        mantreuy_write_span(to, n, offset, bytes.as_ptr(), bytes.len(), place)
+    })
 }
 
 pub fn snap(card: &mut [u8], name: &[u8]) -> Answer {

@@ -1,4 +1,4 @@
-// Times the calls of the library beside the same calls in plain Rust.
+// Times the calls of the library beside the same calls in plain Rust, and its span calls beside its whole-block calls.
 //   bench [MILLISECONDS]   verify, then all rows as a Markdown table, about so long for each
 //   bench verify CARDS     the two sides compared on so many random cards
 //   bench blocks           blocks stored and taken by each call, as a Markdown table
@@ -26,7 +26,15 @@ use std::hint::black_box;
 use std::path::{Path, PathBuf};
 use std::time::{Duration, Instant};
 
-const SIDES: [Side; 2] = [Side::Library, Side::Baseline];
+const SIDES: [Side; 3] = [Side::Library, Side::Baseline, Side::Whole];
+
+// The sides that make the call.
+fn sides(call: &Call) -> &'static [Side] {
+    match call.is_span() {
+        true => &SIDES,
+        false => &SIDES[..2],
+    }
+}
 
 fn main() {
     let command = args().nth(1).unwrap_or_else(|| "200".to_string());
@@ -67,21 +75,22 @@ fn changed(before: &[u8], after: &[u8]) -> Vec<usize> {
 }
 
 impl Bench {
-    // The card as it is, and the changes that the call makes, which both sides must agree on.
-    fn new(card: &[u8], call: &Call) -> Bench {
+    // The card as it is, and the changes that the call makes, which all sides must agree on.
+    fn new(card: &[u8], call: &Call, lent: Lent) -> Bench {
         let mut bench = Bench {
             card: card.to_vec(),
             undo: Vec::new(),
-            lent: Lent::new(),
+            lent: lent.clone(),
         };
-        let mut other = card.to_vec();
-        let mut lent = Lent::new();
         let x = make(Side::Library, call, &mut bench.card, &mut bench.lent);
-        let y = make(Side::Baseline, call, &mut other, &mut lent);
-        assert!(
-            x == Ok(()) && y == x && other == bench.card && lent == bench.lent,
-            "{call:?}: {x:?} {y:?}"
-        );
+        for &side in sides(call) {
+            let (mut other, mut lent) = (card.to_vec(), lent.clone());
+            let y = make(side, call, &mut other, &mut lent);
+            assert!(
+                x == Ok(()) && y == x && other == bench.card && lent == bench.lent,
+                "{call:?}: {x:?} {side:?} {y:?}"
+            );
+        }
         bench.undo = changed(card, &bench.card)
             .iter()
             .map(|&p| (BLOCK * p, card[BLOCK * p..][..BLOCK].to_vec()))
@@ -198,14 +207,18 @@ fn compare(cards: u64) {
 // The table of times.
 fn times(budget: Duration) {
     compare(CARDS);
-    println!("| Call | Layout | L | Snapshots | N | Library | Baseline | Ratio | 10th to 90th percentile | Copy |");
-    println!("|---|---|---|---|---|---|---|---|---|---|");
+    println!(
+        "| Call | Layout | L | Snapshots | N | Library | Baseline | Ratio | 10th to 90th percentile | Copy \
+         | Whole blocks |"
+    );
+    println!("|---|---|---|---|---|---|---|---|---|---|---|");
     let overhead = clock();
     each_row(row::prepare, |row, card| {
         let call = row.call();
-        let mut bench = Bench::new(card, &call);
+        let sides = sides(&call);
+        let mut bench = Bench::new(card, &call, row.lent());
         let mut once = Duration::ZERO;
-        for side in SIDES {
+        for &side in sides {
             once += bench.time(side, &call, 1, true);
         }
         let once = once.as_nanos().max(1) as u64;
@@ -215,9 +228,9 @@ fn times(budget: Duration) {
         let undo = !row.repeats();
         let pairs =
             (budget.as_nanos() as u64 / (once * u64::from(batch))).clamp(21, 20_001) as usize;
-        let mut taken = [Vec::new(), Vec::new()];
+        let mut taken = SIDES.map(|_| Vec::new());
         for _ in 0..pairs {
-            for (i, side) in SIDES.into_iter().enumerate() {
+            for (i, &side) in sides.iter().enumerate() {
                 let time = bench.time(side, &call, batch, undo).as_nanos() as f64;
                 let rest = match undo {
                     true => bench.undo_time(batch).as_nanos() as f64,
@@ -227,12 +240,18 @@ fn times(budget: Duration) {
             }
         }
         let ratios = sorted(taken[0].iter().zip(&taken[1]).map(|(a, b)| a / b).collect());
-        let [a, b] = taken.map(|values| quantile(&sorted(values), 0.5));
+        let median = |values| quantile(&sorted(values), 0.5);
+        let [a, b, whole] = taken;
+        let (a, b) = (median(a), median(b));
+        let whole = match whole.is_empty() {
+            true => String::new(),
+            false => show(median(whole)),
+        };
         let floor = row.moved().map_or(String::new(), |bytes| {
             show(copy_time(&mut bench.card, bytes))
         });
         println!(
-            "| {} | {} | {} | {} | {:.2} | {:.2} to {:.2} | {} |",
+            "| {} | {} | {} | {} | {:.2} | {:.2} to {:.2} | {} | {} |",
             row.cells(),
             card.len() / BLOCK,
             show(a),
@@ -240,7 +259,8 @@ fn times(budget: Duration) {
             a / b,
             quantile(&ratios, 0.1),
             quantile(&ratios, 0.9),
-            floor
+            floor,
+            whole
         );
     });
 }
@@ -283,7 +303,7 @@ fn blocks() {
             beta(&mut before)
         };
         let mut after = before.clone();
-        let mut lent = Lent::new();
+        let mut lent = row.lent();
         lent.bytes.fill(0x33);
         make(Side::Library, &row.call(), &mut after, &mut lent).expect("an accepted call");
         println!(
@@ -309,7 +329,7 @@ fn end() {
     black_box(());
 }
 
-// Each row once on each side, after the two calls that do nothing.
+// Each row once on each side, after the calls that do nothing.
 fn once(folder: &Path) {
     for side in SIDES {
         make(side, &Call::Nothing, &mut [], &mut Lent::new()).expect("nothing");
@@ -319,7 +339,7 @@ fn once(folder: &Path) {
     each_row(load, |row, card| {
         for side in SIDES {
             let mut own = card.to_vec();
-            make(side, &row.call(), &mut own, &mut Lent::new()).expect("an accepted call");
+            make(side, &row.call(), &mut own, &mut row.lent()).expect("an accepted call");
             end();
         }
     });

@@ -1,6 +1,6 @@
 // The rows of the benchmark: a call on a prepared card.
 use crate::baseline;
-use crate::call::{name, Call};
+use crate::call::{name, Call, Lent};
 use crate::numbers::*;
 
 #[derive(Clone, Copy, PartialEq, Eq, Debug)]
@@ -13,10 +13,54 @@ pub enum Kind {
     Overwrite,
     WriteOne,
     WriteTwo,
+    SpanActive(Span),
+    SpanMiddle(Span),
+    SpanWrite(Span),
     Snap,
     Revert,
     List,
     Check,
+}
+
+// Which bytes of the volume a span has.
+#[derive(Clone, Copy, PartialEq, Eq, Debug)]
+pub enum Span {
+    // a record of 700 bytes in two blocks, 412 and 288
+    Two,
+    // one in three blocks, 12, 512 and 176
+    Three,
+    // 128 whole blocks
+    Long,
+}
+
+const RECORD: usize = 700;
+const LONG: u32 = 128;
+
+impl Span {
+    // The block in the middle of the volume is its first, or in the middle of the long one.
+    fn offset(self, volume: u32) -> u64 {
+        let (block, byte) = match self {
+            Span::Two => (volume / 2, 100),
+            Span::Three => (volume / 2, 500),
+            Span::Long => (volume / 2 - LONG / 2, 0),
+        };
+        BLOCK as u64 * u64::from(block) + byte
+    }
+
+    fn length(self) -> usize {
+        match self {
+            Span::Two | Span::Three => RECORD,
+            Span::Long => BLOCK * LONG as usize,
+        }
+    }
+
+    fn title(self) -> &'static str {
+        match self {
+            Span::Two => "700 bytes in 2 blocks",
+            Span::Three => "700 bytes in 3 blocks",
+            Span::Long => "64 KiB",
+        }
+    }
 }
 
 // How the card of a row was made.
@@ -35,6 +79,8 @@ pub enum Content {
     Usual,
     // the same without the writes in the last region
     Bare,
+    // as usual, with as many free blocks as the longest span can take
+    Roomy,
     // as many blocks as may be, all of the volume written, and the free blocks shared out among the regions
     Fullest,
 }
@@ -45,7 +91,7 @@ pub struct Row {
     pub setting: Setting,
 }
 
-const KINDS: [Kind; 12] = [
+const KINDS: [Kind; 19] = [
     Kind::Ream,
     Kind::ReadActive,
     Kind::ReadMiddle,
@@ -54,6 +100,13 @@ const KINDS: [Kind; 12] = [
     Kind::Overwrite,
     Kind::WriteOne,
     Kind::WriteTwo,
+    Kind::SpanActive(Span::Two),
+    Kind::SpanActive(Span::Three),
+    Kind::SpanActive(Span::Long),
+    Kind::SpanMiddle(Span::Two),
+    Kind::SpanWrite(Span::Two),
+    Kind::SpanWrite(Span::Three),
+    Kind::SpanWrite(Span::Long),
     Kind::Snap,
     Kind::Revert,
     Kind::List,
@@ -66,7 +119,7 @@ pub fn rows() -> Vec<Row> {
     for layout in [1, 2] {
         for volume in [TABLE_ENTRIES, MOST_VOLUME] {
             for snapshots in [0, 1, 16, MOST_SNAPSHOTS - 1, MOST_SNAPSHOTS] {
-                for content in [Content::Usual, Content::Bare] {
+                for content in [Content::Usual, Content::Bare, Content::Roomy] {
                     let setting = |revision| Setting {
                         layout,
                         volume,
@@ -104,7 +157,7 @@ pub fn rows() -> Vec<Row> {
 }
 
 // One snapshot less than the most is for the snap that takes the last one; a format does not look at the card; revision
-// 1 is for the revert, which alone goes by it.
+// 1 is for the revert, which alone goes by it; spans are on cards with no snapshot, with one and with the most.
 fn is_row(row: &Row) -> bool {
     let s = row.setting;
     let fits = match row.kind {
@@ -112,10 +165,19 @@ fn is_row(row: &Row) -> bool {
         Kind::ReadMiddle | Kind::VisitMiddle | Kind::Revert => s.snapshots > 0,
         Kind::WriteTwo => s.layout == 2,
         Kind::Snap => s.snapshots != MOST_SNAPSHOTS,
+        Kind::SpanActive(_) | Kind::SpanWrite(_) => {
+            matches!(s.snapshots, 0 | 1 | MOST_SNAPSHOTS)
+        }
+        Kind::SpanMiddle(_) => matches!(s.snapshots, 1 | MOST_SNAPSHOTS),
         _ => true,
     };
+    let content = match row.kind {
+        Kind::WriteTwo => Content::Bare,
+        Kind::SpanWrite(_) => Content::Roomy,
+        _ => Content::Usual,
+    };
     fits && (s.revision == 0 || row.kind == Kind::Revert)
-        && (s.content == Content::Bare) == (row.kind == Kind::WriteTwo)
+        && s.content == content
         && (row.kind == Kind::Snap || s.snapshots != MOST_SNAPSHOTS - 1)
 }
 
@@ -156,12 +218,38 @@ impl Row {
                 block: if s.snapshots == 0 { last } else { 1 },
             },
             Kind::WriteTwo => Call::Write { block: 1 },
+            Kind::SpanActive(span) => Call::ReadSpan {
+                snapshot: None,
+                offset: span.offset(s.volume),
+            },
+            Kind::SpanMiddle(span) => Call::ReadSpan {
+                snapshot: Some(middle),
+                offset: span.offset(s.volume),
+            },
+            Kind::SpanWrite(span) => Call::WriteSpan {
+                offset: span.offset(s.volume),
+            },
             Kind::Snap => Call::Snap {
                 name: name("visit-next"),
             },
             Kind::Revert => Call::Revert { name: middle },
             Kind::List => Call::List,
             Kind::Check => Call::Check,
+        }
+    }
+
+    // What is lent to the call besides the card.
+    pub fn lent(&self) -> Lent {
+        match self.span() {
+            Some(span) => Lent::of(span.length()),
+            None => Lent::new(),
+        }
+    }
+
+    fn span(&self) -> Option<Span> {
+        match self.kind {
+            Kind::SpanActive(span) | Kind::SpanMiddle(span) | Kind::SpanWrite(span) => Some(span),
+            _ => None,
         }
     }
 
@@ -175,6 +263,9 @@ impl Row {
             Kind::Overwrite => "write, overwriting",
             Kind::WriteOne => "write, 1 new block",
             Kind::WriteTwo => "write, 2 new blocks",
+            Kind::SpanActive(_) => "span read, active",
+            Kind::SpanMiddle(_) => "span read, middle snapshot",
+            Kind::SpanWrite(_) => "span write",
             Kind::Snap => "snap",
             Kind::Revert if self.setting.revision == 1 => "revert, revision 1",
             Kind::Revert => "revert",
@@ -182,7 +273,10 @@ impl Row {
             Kind::Check if self.setting.content == Content::Fullest => "check, fullest card",
             Kind::Check => "check",
         };
-        text.to_string()
+        match self.span() {
+            Some(span) => format!("{text}, {}", span.title()),
+            None => text.to_string(),
+        }
     }
 
     // The cells of a table that name the row.
@@ -201,16 +295,16 @@ impl Row {
     pub fn repeats(&self) -> bool {
         !matches!(
             self.kind,
-            Kind::WriteOne | Kind::WriteTwo | Kind::Snap | Kind::Revert
+            Kind::WriteOne | Kind::WriteTwo | Kind::SpanWrite(_) | Kind::Snap | Kind::Revert
         )
     }
 
-    // The bytes of whole blocks that a read or a write moves at least.
+    // The bytes that a read or a write moves at least: of whole blocks, or of its span.
     pub fn moved(&self) -> Option<usize> {
         match self.kind {
             Kind::ReadActive | Kind::ReadMiddle | Kind::Overwrite | Kind::WriteOne => Some(BLOCK),
             Kind::WriteTwo => Some(2 * BLOCK),
-            _ => None,
+            _ => self.span().map(Span::length),
         }
     }
 }
@@ -272,14 +366,19 @@ pub fn prepare(s: &Setting) -> Vec<u8> {
                 });
                 assert!(block.is_some());
             }
-        } else if s.content == Content::Usual || k + 1 < s.snapshots {
+        } else if s.content != Content::Bare || k + 1 < s.snapshots {
             for block in [0, l / 4, l / 2, 3 * (l / 4)] {
                 assert!(baseline::write(&mut card, block, &bytes).is_ok());
             }
         }
     }
     if !full {
-        let end = beta(&card) + c.max(2);
+        let free = match s.content {
+            // each block of data, and the tables of two groups
+            Content::Roomy => LONG as usize + 2,
+            _ => c.max(2),
+        };
+        let end = beta(&card) + free;
         card.truncate(BLOCK * end);
         card.shrink_to_fit();
     }

@@ -8,15 +8,22 @@
 
 enum { STACK = 1 << 20, BLOCKS = 4096 };
 
+/* Spans: a record of 700 bytes, in three blocks; a long one, in two groups. Both start in block 5. */
+enum { RECORD = 700, LONG = 65536, START = MANTREUY_BLOCK_SIZE * 5 + 500 };
+enum { END = MANTREUY_BLOCK_SIZE * MANTREUY_MOST_VOLUME };
+
 static uint8_t *stack;
 static uint8_t *card;
 static uint8_t block[MANTREUY_BLOCK_SIZE];
+static uint8_t span[LONG];
 static uint8_t records[MANTREUY_MOST_RECORDS * MANTREUY_RECORD_SIZE];
 static uint8_t visit[MANTREUY_NAME_SIZE];
 static uint32_t place;
 static uint32_t number;
 static uint8_t *top;
 static int which;
+/* the length of the card up to its free blocks */
+static size_t full;
 static const uint8_t fs[MANTREUY_NAME_SIZE] = "fs";
 static const uint8_t mon[MANTREUY_NAME_SIZE] = "mon";
 static const uint8_t tue[MANTREUY_NAME_SIZE] = "tue";
@@ -54,6 +61,18 @@ static __attribute__((noinline)) void make(void)
 	case 24: number = mantreuy_visit(card, n, 0, fs, sizeof fs, 5, visit, &place); break;
 	case 25: number = mantreuy_visit(card, n, 1, mon, sizeof mon, 5, visit, &place); break;
 	case 26: number = mantreuy_visit(card, n, 1, mon, sizeof mon, 5, visit, &place); break;
+	case 27: number = mantreuy_read_span(card, n, 0, fs, sizeof fs, START, span, RECORD, &place); break;
+	case 28: number = mantreuy_read_span(card, n, 0, fs, sizeof fs, START, span, LONG, &place); break;
+	case 29: number = mantreuy_read_span(card, n, 1, mon, sizeof mon, START, span, LONG, &place); break;
+	case 30: number = mantreuy_read_span(card, n, 1, mon, sizeof mon, START, span, RECORD, &place); break;
+	case 31: number = mantreuy_read_span(card, n, 0, fs, sizeof fs, END, span, 1, &place); break;
+	case 32: number = mantreuy_write_span(card, n, START, span, 12, &place); break;
+	case 33: number = mantreuy_write_span(card, n, START, span, RECORD, &place); break;
+	case 34: number = mantreuy_write_span(card, n, START, span, LONG, &place); break;
+	case 35: number = mantreuy_write_span(card, MANTREUY_BLOCK_SIZE * 2048, START, span, LONG, &place); break;
+	case 36: number = mantreuy_write_span(card, n, START, span, RECORD, &place); break;
+	case 37: number = mantreuy_write_span(card, full, START, span, LONG, &place); break;
+	case 38: number = mantreuy_write_span(card, n, END, span, 1, &place); break;
 	default: break;
 	}
 }
@@ -64,7 +83,7 @@ static void *work(void *unused)
 	return unused;
 }
 
-/* Each call, and the number that it must answer. Calls 13, 20 and 26 find a bad entry, call 22 a card of revision 1. */
+/* Each call, and the number that it must answer. Calls 13, 20, 26, 30 and 36 find a bad entry, 22 a card of revision 1. */
 static const struct {
 	const char *title;
 	uint32_t number;
@@ -76,6 +95,11 @@ static const struct {
 	{"check, refused with 1", 1}, {"check, refused with 6", 6}, {"check, refused with 10", 10},
 	{"check, 2,048 blocks", 0}, {"revert, revision 1", 0}, {"ream, refused with 17", 17},
 	{"visit, active", 0}, {"visit, snapshot", 0}, {"visit, refused with 10", 10},
+	{"span read, active", 0}, {"span read, active, 64 KiB", 0}, {"span read, snapshot, 64 KiB", 0},
+	{"span read, refused with 10", 10}, {"span read, refused with 16", 16},
+	{"span write, overwriting", 0}, {"span write, new blocks", 0}, {"span write, new blocks, 64 KiB", 0},
+	{"span write, 2,048 blocks, 64 KiB", 0}, {"span write, refused with 10", 10}, {"span write, refused with 11", 11},
+	{"span write, refused with 16", 16},
 };
 
 static void prepare(uint32_t layout, uint32_t revision)
@@ -86,8 +110,11 @@ static void prepare(uint32_t layout, uint32_t revision)
 	n |= mantreuy_write(card, length, 5, block, sizeof block, &place);
 	n |= mantreuy_snap(card, length, mon, sizeof mon, &place);
 	n |= mantreuy_write(card, length, 5, block, sizeof block, &place);
+	n |= mantreuy_list(card, length, records, sizeof records, &place);
 	if (n != 0)
 		abort();
+	/* beta of the second record, below 256 here */
+	full = MANTREUY_BLOCK_SIZE * (size_t)records[MANTREUY_RECORD_SIZE + 20];
 }
 
 int main(void)
@@ -107,7 +134,7 @@ int main(void)
 				continue;
 			prepare(layout, which == 22 ? MANTREUY_REVISION_1 : MANTREUY_REVISION_0);
 			/* the snapshot's first entry that is set: in its first table block, or in Phi */
-			if (which == 13 || which == 20 || which == 26)
+			if (which == 13 || which == 20 || which == 26 || which == 30 || which == 36)
 				memset(card + (layout == 1 ? MANTREUY_BLOCK_SIZE + 4 * 5 : 64), 0xff, 4);
 			memset(stack, 0xa5, STACK);
 			pthread_attr_init(&attributes);

@@ -31,12 +31,14 @@ struct Pair {
 }
 
 // What came of the calls: how often each answer was given, by its number; how many reverts were accepted, by layout and
-// revision; how many visits were, by layout and by which region was named, if any.
+// revision; how many visits were, by layout and by which region was named, if any; how often each answer was given to a
+// span.
 #[derive(Default)]
 struct Given {
     answers: BTreeMap<u32, u64>,
     reverts: BTreeMap<(u32, u32), u64>,
     visits: BTreeMap<(u32, Option<Region>), u64>,
+    spans: BTreeMap<(Span, u32), u64>,
 }
 
 // A region as it stands to the active one.
@@ -46,8 +48,21 @@ enum Region {
     Older,
 }
 
+// What a span is for.
+#[derive(Clone, Copy, PartialEq, Eq, PartialOrd, Ord, Debug)]
+enum Span {
+    Read,
+    Write,
+}
+
 // The numbers that these calls can give.
-const NUMBERS: [u32; 16] = [0, 1, 2, 3, 4, 5, 6, 7, 8, 9, 10, 11, 12, 13, 14, 17];
+const NUMBERS: [u32; 17] = [0, 1, 2, 3, 4, 5, 6, 7, 8, 9, 10, 11, 12, 13, 14, 16, 17];
+
+// Those that a span can give.
+const SPANS: [(Span, &[u32]); 2] = [
+    (Span::Read, &[0, 1, 4, 6, 7, 10, 16]),
+    (Span::Write, &[0, 1, 6, 10, 11, 16]),
+];
 
 impl Pair {
     fn new(area: Vec<u8>, given: Given) -> Pair {
@@ -59,6 +74,7 @@ impl Pair {
     }
 
     fn make(&mut self, call: &Call, lent: &Lent) -> bool {
+        let before = call.is_span().then(|| self.a.clone());
         let (mut la, mut lb) = (lent.clone(), lent.clone());
         let x = make(Side::Library, call, &mut self.a, &mut la);
         let y = make(Side::Baseline, call, &mut self.b, &mut lb);
@@ -80,6 +96,21 @@ impl Pair {
             };
             let kind = (get(&self.a, 0, LAYOUT), region);
             *self.given.visits.entry(kind).or_default() += 1;
+        }
+        if let Some(mut card) = before {
+            let span = match call {
+                Call::WriteSpan { .. } => Span::Write,
+                _ => Span::Read,
+            };
+            *self.given.spans.entry((span, number)).or_default() += 1;
+            // accepted, it is its whole-block calls one after the other; refused, it is done in no part
+            let mut lent = lent.clone();
+            if number == 0 {
+                let whole = make(Side::Whole, call, &mut card, &mut lent);
+                assert_eq!(whole, Ok(()), "whole-block calls of {call:?}");
+            }
+            assert!(card == self.a, "cards differ by whole blocks: {call:?}");
+            assert!(lent == la, "lent bytes differ by whole blocks: {call:?}");
         }
         number == 0
     }
@@ -104,7 +135,36 @@ fn some_revision(r: &mut Random) -> u32 {
     }
 }
 
-fn some_call(r: &mut Random, volume: u32, names: usize) -> Call {
+// A span at or near the block, across the end of its group, at the volume's end or past it; and what is lent to it.
+fn some_span(r: &mut Random, volume: u32, block: u32) -> (u64, Lent) {
+    let length = match r.below(16) {
+        0 => 0,
+        1 => 1 + r.below(3),
+        2..=3 => BLOCK * (1 + r.below(3)) - r.below(2),
+        4..=6 => 700,
+        7 => r.below(70_000),
+        _ => r.below(3000),
+    };
+    let size = BLOCK as u64;
+    let end = size * u64::from(volume);
+    let at = size * u64::from(block);
+    let group = size * u64::from(TABLE_ENTRIES);
+    let offset = match r.below(24) {
+        0 => end.saturating_sub(length as u64),
+        1 => (end + 1).saturating_sub(length as u64),
+        2 => u64::MAX - r.below(1000) as u64,
+        3 => at + (1 << 32) * (1 + r.below(3) as u64),
+        4..=6 => at - at % group + group - 1 - r.below(1 + length.min(group as usize - 1)) as u64,
+        7..=10 => at,
+        11..=13 => at.saturating_sub(r.below(2 * BLOCK) as u64),
+        _ => at + r.below(BLOCK) as u64,
+    };
+    let mut lent = Lent::of(length);
+    lent.bytes.iter_mut().for_each(|b| *b = r.next() as u8);
+    (offset, lent)
+}
+
+fn some_call(r: &mut Random, volume: u32, names: usize) -> (Call, Lent) {
     let block = match r.below(12) {
         0 => volume + r.below(3) as u32,
         1 => r.next() as u32,
@@ -112,7 +172,22 @@ fn some_call(r: &mut Random, volume: u32, names: usize) -> Call {
         3 => r.below(4) as u32,
         _ => r.below(volume as usize) as u32,
     };
-    match r.below(24) {
+    if r.one_in(4) {
+        let (offset, lent) = some_span(r, volume, block);
+        let call = match r.below(4) {
+            0..=1 => Call::WriteSpan { offset },
+            2 => Call::ReadSpan {
+                snapshot: None,
+                offset,
+            },
+            _ => Call::ReadSpan {
+                snapshot: Some(some_name(r, names)),
+                offset,
+            },
+        };
+        return (call, lent);
+    }
+    let call = match r.below(24) {
         0..=6 => Call::Write { block },
         7..=8 => Call::Read {
             snapshot: None,
@@ -138,7 +213,8 @@ fn some_call(r: &mut Random, volume: u32, names: usize) -> Call {
             snapshot: Some(some_name(r, names)),
             block,
         },
-    }
+    };
+    (call, some_lent(r))
 }
 
 fn some_lent(r: &mut Random) -> Lent {
@@ -361,15 +437,15 @@ pub fn verify(cards: u64) -> u64 {
         if is_long {
             long_chain(&mut r, &mut pair, blocks, volume);
         }
-        for _ in 0..60 {
-            let call = some_call(&mut r, volume, names);
-            let lent = some_lent(&mut r);
+        for _ in 0..80 {
+            let (call, lent) = some_call(&mut r, volume, names);
             pair.make(&call, &lent);
             if (i % 2 == 0 || is_long)
                 && r.one_in(3)
                 && make(Side::Library, &Call::Check, &mut pair.a, &mut lent.clone()).is_ok()
             {
                 let whole = pair.a.clone();
+                let lent = some_lent(&mut r);
                 let block = damage(&mut r, &mut pair.a);
                 pair.b.copy_from_slice(&pair.a);
                 pair.make(&Call::Check, &lent);
@@ -378,11 +454,15 @@ pub fn verify(cards: u64) -> u64 {
                 for snapshot in [None].into_iter().chain(snapshots) {
                     pair.make(&Call::Read { snapshot, block }, &lent);
                     pair.make(&Call::Visit { snapshot, block }, &lent);
+                    let (offset, lent) = some_span(&mut r, volume, block);
+                    pair.make(&Call::ReadSpan { snapshot, offset }, &lent);
                 }
+                let (offset, bytes) = some_span(&mut r, volume, block);
+                pair.make(&Call::WriteSpan { offset }, &bytes);
                 pair.make(&Call::Write { block }, &lent);
                 let name = name(&format!("v{}", r.below(4)));
                 pair.make(&Call::Revert { name }, &lent);
-                let call = some_call(&mut r, volume, names);
+                let (call, lent) = some_call(&mut r, volume, names);
                 pair.make(&call, &lent);
                 pair.make(&Call::Check, &lent);
                 pair.a.copy_from_slice(&whole);
@@ -395,6 +475,7 @@ pub fn verify(cards: u64) -> u64 {
         answers,
         reverts,
         visits,
+        spans,
     } = given;
     assert!(
         answers.keys().eq(&NUMBERS),
@@ -411,6 +492,13 @@ pub fn verify(cards: u64) -> u64 {
     assert!(
         visits.keys().copied().eq(kinds),
         "a kind of visit was never made: {visits:?}"
+    );
+    let kinds = SPANS
+        .iter()
+        .flat_map(|&(span, numbers)| numbers.iter().map(move |&number| (span, number)));
+    assert!(
+        spans.keys().copied().eq(kinds),
+        "a span was never given an answer, or a strange one was: {spans:?}"
     );
     answers.values().sum()
 }

@@ -18,12 +18,17 @@ unsafe extern "C" {
     pub fn mantreuy_read(card: *const u8, card_length: usize, snapshot: u32,
                          name: *const u8, name_length: usize, block: u32,
                          out: *mut u8, out_length: usize, place: *mut u32) -> u32;
+    pub fn mantreuy_read_span(card: *const u8, card_length: usize, snapshot: u32,
+                              name: *const u8, name_length: usize, offset: u64,
+                              out: *mut u8, out_length: usize, place: *mut u32) -> u32;
     // `visit` is sixteen bytes
     pub fn mantreuy_visit(card: *const u8, card_length: usize, snapshot: u32,
                           name: *const u8, name_length: usize, block: u32,
                           visit: *mut u8, place: *mut u32) -> u32;
     pub fn mantreuy_write(card: *mut u8, card_length: usize, block: u32,
                           bytes: *const u8, bytes_length: usize, place: *mut u32) -> u32;
+    pub fn mantreuy_write_span(card: *mut u8, card_length: usize, offset: u64,
+                               bytes: *const u8, bytes_length: usize, place: *mut u32) -> u32;
     pub fn mantreuy_snap(card: *mut u8, card_length: usize,
                          name: *const u8, name_length: usize, place: *mut u32) -> u32;
     pub fn mantreuy_revert(card: *mut u8, card_length: usize,

@@ -1,10 +1,10 @@
 //! A snapshot store on a card in memory.
 //!
 //! A card is an area of N blocks of 512 bytes, N from 2 to 65,536. It holds one active volume of L logical blocks,
-//! L from 1 to 14,336, and at most 255 snapshots of it. [`Card`] has the eight calls: [`Card::ream`] formats the card,
-//! [`Card::read`] and [`Card::write`] move one block, [`Card::visit`] gives the visit that a block dates from,
-//! [`Card::snap`] freezes the active volume under a name, [`Card::revert`] goes back to a snapshot, [`Card::list`] lists
-//! them, and [`Card::check`] checks the card.
+//! L from 1 to 14,336, and at most 255 snapshots of it. [`Card`] has the ten calls: [`Card::ream`] formats the card,
+//! [`Card::read`] and [`Card::write`] move one block, [`Card::read_at`] and [`Card::write_at`] move any bytes of the
+//! volume, [`Card::visit`] gives the visit that a block dates from, [`Card::snap`] freezes the active volume under a
+//! name, [`Card::revert`] goes back to a snapshot, [`Card::list`] lists them, and [`Card::check`] checks the card.
 //!
 //! This is a safe interface to `libmantreuy.a`, whose functions are proved to do what their contracts say. The boundary
 //! itself is not proved: the declarations and the `unsafe` calls here are trusted. The library allocates nothing, keeps
@@ -16,8 +16,8 @@
 //! that apply the first is given, in this order: [`Kind::BadArea`]; but for `ream`, [`Kind::UnsoundChain`]; then those
 //! that stand under "Errors" of the call, as they stand there.
 //!
-//! A check uses at most 72 KB of stack, any other call at most 5 KB, and a caller that is not optimised its own frames
-//! besides. Only [`Card::list`] allocates, for its records.
+//! [`Card::check`] and [`Card::write_at`] use at most @@72 KB of stack, any other call at most @@5 KB, and a caller that
+//! is not optimised its own frames besides. Only [`Card::list`] allocates, for its records.
 //!
 //! ```
 //! use mantreuy::{Card, Kind, Name, Target, BLOCK_SIZE, REVISION_0};
@@ -87,7 +87,8 @@ pub enum Kind {
     BadBlock = 8,
     /// The block lent is not 512 bytes. Blocks are arrays here, so no call gives this.
     BadLength = 9,
-    /// An entry is not in place or against a rule of the check; the place is the block that holds it.
+    /// An entry is not in place or, in [`Card::check`] and [`Card::write_at`], against a rule of the check; the place is
+    /// the block that holds it.
     BadEntry = 10,
     /// The card has not as many free blocks as the call needs.
     NoRoom = 11,
@@ -97,12 +98,14 @@ pub enum Kind {
     TooMany = 13,
     /// The list is shorter than the chain. [`Card::list`] lends one that is long enough, so no call gives this.
     ShortList = 14,
+    /// Offset plus length is past the volume's end, 512 times L.
+    PastEnd = 16,
     /// The revision is not 0 or 1.
     BadRevision = 17,
 }
 
 // Each kind with its text.
-const KINDS: [(Kind, &str); 15] = [
+const KINDS: [(Kind, &str); 16] = [
     (Kind::BadArea, "not 2 to 65,536 blocks of 512 bytes"),
     (Kind::BadLayout, "the layout is not 1 or 2"),
     (Kind::BadVolume, "the volume is not 1 to 14,336 blocks"),
@@ -117,6 +120,7 @@ const KINDS: [(Kind, &str); 15] = [
     (Kind::NameInUse, "the name is in use"),
     (Kind::TooMany, "there are 255 snapshots already"),
     (Kind::ShortList, "the list is shorter than the chain"),
+    (Kind::PastEnd, "past the volume's end"),
     (Kind::BadRevision, "the revision is not 0 or 1"),
 ];
 
@@ -326,6 +330,36 @@ impl<A: AsRef<[u8]>> Card<A> {
         })
     }
 
+    /// Reads the bytes of the target from byte `offset` on into `out`, as many as it is long, whatever blocks they are
+    /// in. Byte i of logical block l is byte 512 times l plus i of the target. What the target has no content for reads
+    /// as zeros. [`Card::write_at`] has an example.
+    ///
+    /// The chain is walked once, however many bytes are read, and no check is made. With an empty `out` the tests are
+    /// the same, but no entry is followed.
+    ///
+    /// # Errors
+    ///
+    /// [`Kind::NoSnapshot`], [`Kind::PastEnd`], [`Kind::BadEntry`] for the first block, rising, whose entry is not in
+    /// place.
+    pub fn read_at(&self, target: Target, offset: u64, out: &mut [u8]) -> Answer {
+        let card = self.as_bytes();
+        let (snapshot, name) = target.lent();
+        // SAFETY: three slices that do not overlap, and the place.
+        answer(|place| unsafe {
+            mantreuy_read_span(
+                card.as_ptr(),
+                card.len(),
+                snapshot,
+                name.as_ptr(),
+                NAME_SIZE,
+                offset,
+                out.as_mut_ptr(),
+                out.len(),
+                place,
+            )
+        })
+    }
+
     /// The visit that logical block `block` of the target dates from: the name of the snapshot, or of the active volume,
     /// whose region contains the block that a read gives. None where the target has no content for it.
     ///
@@ -449,6 +483,53 @@ impl<A: AsRef<[u8]> + AsMut<[u8]>> Card<A> {
         let (card, n) = self.lent();
         // SAFETY: two slices that do not overlap, and the place.
         answer(|place| unsafe { mantreuy_write(card, n, block, bytes.as_ptr(), BLOCK_SIZE, place) })
+    }
+
+    /// Writes `bytes` to the active volume from byte `offset` on, whatever blocks they are in: all of them, or none
+    /// where it is refused. The other bytes of these blocks keep their value, or are zero where a block had no content.
+    /// No snapshot changes. The card is then that which a [`Card::write`] of each of these blocks leaves, one after the
+    /// other, rising.
+    ///
+    /// Before its first store it makes the whole check of [`Card::check`], also where `bytes` is empty. That visits
+    /// every entry of every descriptor, so its time grows with L and with the number of snapshots. [`Card::write`] makes
+    /// none: where the check takes too long, as it may on the old board of a home machine, a caller can read, change and
+    /// write whole blocks, of which the first ones may then be accepted and a later one refused.
+    ///
+    /// ```
+    /// # use mantreuy::{Card, Kind, Name, Target, BLOCK_SIZE, REVISION_0};
+    /// # let (fs, mon) = (Name::new("fs")?, Name::new("mon")?);
+    /// # let mut card = Card::new(vec![0; 16 * BLOCK_SIZE]);
+    /// // records of 700 bytes; the third is in three blocks
+    /// card.ream(2, 8, REVISION_0, fs)?;
+    /// for (k, fill) in [1, 2, 3, 4].into_iter().enumerate() {
+    ///     card.write_at(700 * k as u64, &[fill; 700])?;
+    /// }
+    /// card.snap(mon)?;
+    /// card.write_at(700 * 2, &[9; 700])?;
+    ///
+    /// let mut record = [0; 700];
+    /// card.read_at(Target::Active, 700 * 2, &mut record)?;
+    /// assert_eq!(record, [9; 700]);
+    /// card.read_at(Target::Active, 700 * 3, &mut record)?;
+    /// assert_eq!(record, [4; 700]);
+    /// card.read_at(Target::Snapshot(mon), 700 * 2, &mut record)?;
+    /// assert_eq!(record, [3; 700]);
+    ///
+    /// // eight blocks have 4,096 bytes, which is five records and a part of one
+    /// let refusal = card.write_at(700 * 5, &[6; 700]).unwrap_err();
+    /// assert_eq!(refusal.kind, Kind::PastEnd);
+    /// # Ok::<(), mantreuy::Refusal>(())
+    /// ```
+    ///
+    /// # Errors
+    ///
+    /// [`Kind::PastEnd`], [`Kind::BadEntry`] for the first fault of the check, [`Kind::NoRoom`].
+    pub fn write_at(&mut self, offset: u64, bytes: &[u8]) -> Answer {
+        let (card, n) = self.lent();
+        // SAFETY: two slices that do not overlap, and the place.
+        answer(|place| unsafe {
+            mantreuy_write_span(card, n, offset, bytes.as_ptr(), bytes.len(), place)
+        })
     }
 
     /// Freezes the active volume as a snapshot under the name. The active volume keeps its own name and its content.

@@ -35,6 +35,15 @@ pub enum Call {
         target: Target,
         logical: Logical,
     },
+    ReadSpan {
+        target: Target,
+        offset: u64,
+        lent: Vec<u8>,
+    },
+    WriteSpan {
+        offset: u64,
+        lent: Vec<u8>,
+    },
 }
 
 /// The kinds of calls; as a number, the row of a table.
@@ -48,11 +57,22 @@ pub enum Kind {
     List,
     Check,
     Visit,
+    ReadSpan,
+    WriteSpan,
 }
 
 /// The titles of the rows.
-pub const KINDS: [&str; 8] = [
-    "ream", "read", "write", "snap", "revert", "list", "check", "visit",
+pub const KINDS: [&str; 10] = [
+    "ream",
+    "read",
+    "write",
+    "snap",
+    "revert",
+    "list",
+    "check",
+    "visit",
+    "read span",
+    "write span",
 ];
 
 impl Call {
@@ -66,13 +86,18 @@ impl Call {
             Call::List { .. } => Kind::List,
             Call::Check => Kind::Check,
             Call::Visit { .. } => Kind::Visit,
+            Call::ReadSpan { .. } => Kind::ReadSpan,
+            Call::WriteSpan { .. } => Kind::WriteSpan,
         }
     }
 
-    /// The lent block and the lent list, empty where none is lent.
+    /// The lent block, or the lent bytes of a span, and the lent list, empty where none is lent.
     pub fn lent(&self) -> (Vec<u8>, Vec<Record>) {
         match self {
-            Call::Read { lent, .. } | Call::Write { lent, .. } => (lent.clone(), Vec::new()),
+            Call::Read { lent, .. }
+            | Call::Write { lent, .. }
+            | Call::ReadSpan { lent, .. }
+            | Call::WriteSpan { lent, .. } => (lent.clone(), Vec::new()),
             Call::List { lent } => (Vec::new(), lent.clone()),
             _ => (Vec::new(), Vec::new()),
         }
@@ -82,7 +107,7 @@ impl Call {
 #[derive(Clone, PartialEq, Eq, Debug)]
 pub struct Said {
     pub answer: Answer,
-    /// The lent block at exit, empty where none was lent.
+    /// The lent block, or the lent bytes of a span, at exit, empty where none was lent.
     pub block: Vec<u8>,
     /// The lent list at exit, empty where none was lent.
     pub records: Vec<Record>,
@@ -146,6 +171,25 @@ pub fn carry_out(card: &mut [u8], call: &Call) -> Said {
             let (answer, name) = store::visit(card, target, *logical);
             Said {
                 visit: name.unwrap_or_default(),
+                ..plain(answer)
+            }
+        }
+        Call::ReadSpan {
+            target,
+            offset,
+            lent,
+        } => {
+            let mut block = lent.clone();
+            let answer = store::read_span(card, target, *offset, &mut block);
+            Said {
+                block,
+                ..plain(answer)
+            }
+        }
+        Call::WriteSpan { offset, lent } => {
+            let answer = store::write_span(card, *offset, lent);
+            Said {
+                block: lent.clone(),
                 ..plain(answer)
             }
         }

@@ -1,5 +1,6 @@
 //! Cases worked out by hand from the papers: calls in order on a card, and what each of them
-//! gives. No store has a part in what is said here. Those of document 02's revisions stand here.
+//! gives. No store has a part in what is said here. Those of document 02's revisions stand here,
+//! those of visits and of spans in files of their own.
 
 use crate::call::{Call, Said};
 use crate::store::{shown, Answer, Logical, Name, Record, Target, NOTHING};
@@ -15,7 +16,8 @@ pub struct Case {
 pub struct Step {
     pub call: Call,
     answer: Answer,
-    /// The lent block and the lent list at exit, empty where none is lent.
+    /// The lent block, or the lent bytes of a span, and the lent list at exit, empty where none is
+    /// lent.
     block: Vec<u8>,
     records: Vec<Record>,
     /// The name that a visit gives; zeros for none, and for every other call.
@@ -29,7 +31,7 @@ pub struct Step {
 }
 
 const SIZE: usize = 512;
-/// What a lent block holds before a read.
+/// What lent memory holds before a read.
 const BEFORE: u8 = 5;
 /// How many records are lent to a list.
 const LENT: usize = 258;
@@ -89,6 +91,26 @@ pub fn read(from: &str, logical: u64, byte: u8) -> Step {
     }
 }
 
+/// A span read of a visit, or of the active store by `*`, that gives these bytes.
+pub fn read_span(from: &str, offset: u64, bytes: Vec<u8>) -> Step {
+    let call = Call::ReadSpan {
+        target: target(from),
+        offset,
+        lent: vec![BEFORE; bytes.len()],
+    };
+    Step {
+        block: bytes,
+        ..accepted(call)
+    }
+}
+
+pub fn write_span(offset: u64, bytes: Vec<u8>) -> Step {
+    accepted(Call::WriteSpan {
+        offset,
+        lent: bytes,
+    })
+}
+
 /// A visit of a snapshot, or of the active store by `*`, that gives the name, or none by an empty
 /// text.
 pub fn visit(of: &str, logical: u64, name: &str) -> Step {
@@ -137,9 +159,7 @@ impl Step {
     /// The call is refused.
     pub fn refused_at(mut self, number: u64, place: u64) -> Step {
         self.answer = Answer { number, place };
-        if let Call::Read { lent, .. } = &self.call {
-            self.block = lent.clone();
-        }
+        self.block = self.call.lent().0;
         self.visit = Name::default();
         self
     }
@@ -151,13 +171,13 @@ impl Step {
     }
 
     /// The block holds these bytes afterwards.
-    fn stores(mut self, block: usize, bytes: Vec<u8>) -> Step {
+    pub fn stores(mut self, block: usize, bytes: Vec<u8>) -> Step {
         self.stored.push((block, bytes));
         self
     }
 
     /// So many blocks stay as they were.
-    fn keeps(mut self, blocks: usize) -> Step {
+    pub fn keeps(mut self, blocks: usize) -> Step {
         self.kept = blocks;
         self
     }
@@ -176,7 +196,7 @@ impl Step {
             return Err(format!("{:?} and not {:?}", said.answer, self.answer));
         }
         if said.block != self.block {
-            return Err("the lent block is another".to_string());
+            return Err("the lent bytes are others".to_string());
         }
         if said.records != self.records {
             let records = said.records.iter().zip(&self.records);
@@ -205,7 +225,7 @@ impl Step {
 }
 
 /// A descriptor block: layout, L, alpha, beta and next; name; revision; the first of Phi.
-fn descriptor(numbers: [u32; 5], name: &str, revision: u8, phi: &[u32]) -> Vec<u8> {
+pub fn descriptor(numbers: [u32; 5], name: &str, revision: u8, phi: &[u32]) -> Vec<u8> {
     let mut block = b"snap".to_vec();
     for number in numbers {
         block.extend_from_slice(&number.to_le_bytes());

@@ -1,7 +1,11 @@
-//! Counts of answers, by the row of a table and by the answer's number; of accepted reverts; and
-//! of accepted visits.
+//! Counts of answers, by the row of a table and by the answer's number; of accepted reverts, of
+//! accepted visits and of accepted spans.
 
-use crate::store::Name;
+use crate::blockwise::Need;
+use crate::call::Call;
+use crate::extent::touched;
+use crate::numbers::TABLE_ENTRIES;
+use crate::store::{Name, Target};
 use std::collections::BTreeMap;
 
 /// From how many random lists on all that can arise must have arisen.
@@ -29,7 +33,7 @@ impl Counts {
 
     /// Prints the columns of these numbers, a row for each title that is not empty.
     pub fn print(&self, head: &str, titles: &[&str], numbers: &[u64]) {
-        print!("{head:7}");
+        print!("{head:10}");
         for number in numbers {
             print!(" {number:>7}");
         }
@@ -38,7 +42,7 @@ impl Counts {
             if title.is_empty() {
                 continue;
             }
-            print!("{title:7}");
+            print!("{title:10}");
             for number in numbers {
                 print!(" {:>7}", self.of(row, *number));
             }
@@ -180,6 +184,102 @@ impl Visits {
     pub fn missing(&self) -> Vec<String> {
         let none = self.counts().filter(|(_, count)| *count == 0);
         none.map(|(words, _)| format!("a visit, {words}")).collect()
+    }
+}
+
+/// Accepted spans by what they touch: reads of the active volume, reads of snapshots, writes. And
+/// span writes by what they need.
+#[derive(Default)]
+pub struct Spans {
+    touching: [[u64; 5]; 3],
+    needing: [u64; 3],
+}
+
+impl Spans {
+    /// Counts an accepted call, if it is one of a span.
+    pub fn add(&mut self, call: &Call) {
+        let (row, offset, length) = match call {
+            Call::ReadSpan {
+                target: Target::Active,
+                offset,
+                lent,
+            } => (0, *offset, lent.len()),
+            Call::ReadSpan { offset, lent, .. } => (1, *offset, lent.len()),
+            Call::WriteSpan { offset, lent } => (2, *offset, lent.len()),
+            _ => return,
+        };
+        let blocks = touched(offset, length);
+        let counts = &mut self.touching[row];
+        counts[blocks.clone().count().min(3)] += 1;
+        if blocks.start / TABLE_ENTRIES < blocks.last().unwrap_or(0) / TABLE_ENTRIES {
+            counts[4] += 1;
+        }
+    }
+
+    /// Counts the need of a span write that touches some block.
+    pub fn add_need(&mut self, call: &Call, need: &Need) {
+        match call {
+            Call::WriteSpan { lent, .. } if !lent.is_empty() => {}
+            _ => return,
+        }
+        let kind = match need.need {
+            0 => 0,
+            some if some == need.free => 1,
+            some if some == need.free + 1 => 2,
+            _ => return,
+        };
+        self.needing[kind] += 1;
+    }
+
+    /// Each count, in words.
+    fn counts(&self) -> Vec<(String, u64)> {
+        let calls = [
+            "a span read of the active volume",
+            "a span read of a snapshot",
+            "a span write",
+        ];
+        let touching = [
+            "no block",
+            "one block",
+            "two blocks",
+            "three blocks or more",
+            "two groups or more",
+        ];
+        let needing = [
+            "no block",
+            "as many blocks as are free",
+            "one block more than are free",
+        ];
+        let mut counts = Vec::new();
+        for (call, row) in calls.into_iter().zip(self.touching) {
+            for (words, count) in touching.into_iter().zip(row) {
+                counts.push((format!("{call} that touches {words}"), count));
+            }
+        }
+        for (words, count) in needing.into_iter().zip(self.needing) {
+            counts.push((format!("a span write that needs {words}"), count));
+        }
+        counts
+    }
+
+    /// Prints the counts; nothing where there was no span.
+    pub fn print(&self) {
+        let each = self.touching.iter().map(|row| row[..4].iter().sum::<u64>());
+        let sum: u64 = each.sum();
+        if sum == 0 {
+            return;
+        }
+        println!("{sum} accepted spans");
+        for (words, count) in self.counts() {
+            println!("{words}: {count}");
+        }
+    }
+
+    /// The counts that are 0. Each can be above it.
+    pub fn missing(&self) -> Vec<String> {
+        let mut counts = self.counts();
+        counts.retain(|(_, count)| *count == 0);
+        counts.into_iter().map(|(words, _)| words).collect()
     }
 }
 

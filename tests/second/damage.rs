@@ -175,6 +175,14 @@ fn every_call(count: &mut Count) {
             ("revert", store::revert(&mut card, b"mon")),
             ("revert, no visit", store::revert(&mut card, b"tue")),
             ("visit", store::visit(&card, &mon, far).0),
+            (
+                "span read",
+                store::read_span(&card, &mon, u64::MAX, &mut [0; 2]),
+            ),
+            (
+                "span write",
+                store::write_span(&mut card, u64::MAX, &[0; 2]),
+            ),
         ];
         for (name, said) in calls {
             let name = format!("{name} where {other} follows {revision}");

@@ -1,35 +1,59 @@
 //! Random damage to cards in use: no call may come to grief, a refused call leaves card and
 //! lent memory, and an accepted one leaves a sound chain. A visit answers as a read does, and its
-//! name is reckoned from the listing. Damage to bytes 40 to 63 of a descriptor alone is met by 6
-//! with its place.
+//! name is reckoned from the listing. A span is held against calls of whole blocks. Damage to bytes
+//! 40 to 63 of a descriptor alone is met by 6 with its place.
 
-use crate::call::{carry_out, Call};
-use crate::counts::Counts;
+use crate::blockwise;
+use crate::call::{carry_out, Call, KINDS};
+use crate::counts::{all_met, Counts, Spans, ENOUGH};
+use crate::extent;
 use crate::numbers::*;
 use crate::reserved;
 use crate::rng::Rng;
 use crate::store::{self, number_at, Answer, Logical, Name, Target, NOTHING};
+use crate::values::same;
 use crate::Count;
+
+/// For each kind of call the numbers that can arise. There is no ream here, a lent block has 512
+/// bytes, and the cards have too few blocks for 255 snapshots.
+const CAN_ARISE: [&[u64]; KINDS.len()] = [
+    &[],
+    &[0, 1, 4, 6, 7, 8, 10],
+    &[0, 1, 6, 8, 10, 11],
+    &[0, 1, 4, 6, 11, 12],
+    &[0, 1, 4, 6, 7],
+    &[0, 1, 6, 14],
+    &[0, 1, 6, 10],
+    &[0, 1, 4, 6, 7, 8, 10],
+    &[0, 1, 4, 6, 7, 10, 16],
+    &[0, 1, 6, 10, 11, 16],
+];
 
 /// Runs the cards of `count` seeds and prints how often each number arose.
 pub fn run(seed: u64, count: u64) -> Count {
     let mut sum = Count::default();
-    let mut answers = Counts::default();
+    let (mut answers, mut spans) = (Counts::default(), Spans::default());
     for k in 0..count {
         let this = seed.wrapping_add(k);
-        sum.case(&format!("seed {this}"), one(this, &mut answers));
+        let result = one(this, &mut answers, &mut spans);
+        sum.case(&format!("seed {this}"), result);
     }
-    for number in ANSWERS {
-        println!("answer {number}: {}", answers.of(0, number));
-    }
+    answers.print("call", &KINDS, &ANSWERS);
+    let missing = answers.missing(&KINDS, &CAN_ARISE);
+    let met = all_met("answers", &missing, count, ENOUGH);
+    sum.case("answers of each kind", met);
+    let strange = answers.strange(&CAN_ARISE).count();
+    same(&mut sum, "answers that cannot arise", strange, 0);
+    spans.print();
+    let met = all_met("spans", &spans.missing(), count, ENOUGH);
+    sum.case("spans of each kind", met);
     sum
 }
 
 /// A card in use, of either revision.
-fn card_in_use(rng: &mut Rng) -> Vec<u8> {
+fn card_in_use(rng: &mut Rng, volume: u64) -> Vec<u8> {
     let layout = rng.between(1, 2);
     let blocks = rng.between(4, 60);
-    let volume = rng.between(1, 300);
     let mut card = vec![0; blocks as usize * BLOCK];
     store::ream(&mut card, layout, volume, rng.below(2), b"fs");
     for k in 0..rng.below(blocks) {
@@ -60,6 +84,8 @@ fn reserved_bytes(rng: &mut Rng, good: &[u8]) -> Result<(), String> {
         met.push(store::snap(&mut card, b"new"));
         met.push(store::revert(&mut card, b"v0"));
         met.push(store::visit(&card, &Target::Active, first).0);
+        met.push(store::read_span(&card, &Target::Active, 0, &mut lent));
+        met.push(store::write_span(&mut card, u64::MAX, &lent));
     }
     if let Some(answer) = met.into_iter().find(|answer| *answer != expected) {
         return Err(format!("{answer:?} and not {expected:?}"));
@@ -70,13 +96,16 @@ fn reserved_bytes(rng: &mut Rng, good: &[u8]) -> Result<(), String> {
     }
 }
 
-/// The card with some of its numbers or bytes changed.
-fn damaged_card(rng: &mut Rng, mut card: Vec<u8>) -> Vec<u8> {
+/// The card with some of its numbers or bytes changed, and which numbers of their blocks these are.
+fn damaged_card(rng: &mut Rng, mut card: Vec<u8>) -> (Vec<u8>, Vec<u64>) {
     let blocks = (card.len() / BLOCK) as u64;
+    let mut changed = Vec::new();
     for _ in 0..rng.between(1, 4) {
         let block = rng.below(blocks) as usize;
         let numbers = *rng.pick(&[6, 20, TABLE_ENTRIES]);
-        let at = block * BLOCK + NUMBER * rng.below(numbers) as usize;
+        let number = rng.below(numbers);
+        changed.push(number);
+        let at = block * BLOCK + entry_byte(number);
         let value = match rng.below(6) {
             0 => rng.bits() as u32,
             1 => *rng.pick(&[0, 1, blocks as u32, u32::MAX]),
@@ -88,14 +117,21 @@ fn damaged_card(rng: &mut Rng, mut card: Vec<u8>) -> Vec<u8> {
         let length = rng.below(card.len() as u64) as usize;
         card.truncate(length);
     }
-    card
+    (card, changed)
 }
 
-fn random_call(rng: &mut Rng) -> Call {
-    let name = format!("v{}", rng.below(9)).into_bytes();
-    let logical = Logical(rng.below(310));
+/// A random call; it often uses a logical block whose entry was changed, if that stood in a table.
+fn random_call(rng: &mut Rng, volume: u64, changed: &[u64]) -> Call {
+    let name = match rng.below(40) {
+        0 => rng.pick(&[&b""[..], b"V1", b"v1 "]).to_vec(),
+        _ => format!("v{}", rng.below(9)).into_bytes(),
+    };
+    let logical = match rng.below(2) {
+        0 => Logical(*rng.pick(changed) + TABLE_ENTRIES * rng.below(3)),
+        _ => Logical(rng.below(310)),
+    };
     let content = vec![rng.below(4) as u8; BLOCK];
-    match rng.below(10) {
+    match rng.below(14) {
         0 => Call::Read {
             target: Target::Active,
             logical,
@@ -120,11 +156,34 @@ fn random_call(rng: &mut Rng) -> Call {
             target: Target::Active,
             logical,
         },
-        _ => Call::Visit {
+        9 => Call::Visit {
             target: Target::Snapshot(name),
             logical,
         },
+        10 | 11 => {
+            let (offset, lent) = random_span(rng, volume, logical);
+            let target = match rng.once_in(2) {
+                true => Target::Active,
+                false => Target::Snapshot(name),
+            };
+            Call::ReadSpan {
+                target,
+                offset,
+                lent,
+            }
+        }
+        _ => {
+            let (offset, lent) = random_span(rng, volume, logical);
+            Call::WriteSpan { offset, lent }
+        }
     }
+}
+
+/// The offset of a span near the logical block, and the lent memory.
+fn random_span(rng: &mut Rng, volume: u64, logical: Logical) -> (u64, Vec<u8>) {
+    let free = rng.below(12);
+    let (offset, length) = extent::random(rng, volume, logical.0 % volume, free);
+    (offset, (0..length).map(|k| (k / 3) as u8).collect())
 }
 
 /// The region of the block that a read of the target gives, by the listing and the entries: the
@@ -183,16 +242,17 @@ fn beside_read(
 }
 
 /// Runs some calls on one damaged card.
-fn one(seed: u64, answers: &mut Counts) -> Result<(), String> {
+fn one(seed: u64, answers: &mut Counts, spans: &mut Spans) -> Result<(), String> {
     let mut rng = Rng::new(seed);
-    let good = card_in_use(&mut rng);
+    let volume = rng.between(1, 300);
+    let good = card_in_use(&mut rng, volume);
     reserved_bytes(&mut rng, &good)?;
-    let mut card = damaged_card(&mut rng, good);
+    let (mut card, changed) = damaged_card(&mut rng, good);
     for _ in 0..20 {
         let before = card.clone();
-        let call = random_call(&mut rng);
+        let call = random_call(&mut rng, volume, &changed);
         let said = carry_out(&mut card, &call);
-        answers.add(0, said.answer.number, 1);
+        answers.add(call.kind() as usize, said.answer.number, 1);
         let (block, records) = call.lent();
         let refused = said.answer != store::ACCEPTED;
         if refused && (card != before || said.block != block || said.records != records) {
@@ -200,6 +260,13 @@ fn one(seed: u64, answers: &mut Counts) -> Result<(), String> {
         }
         if let Call::Visit { target, logical } = &call {
             beside_read(&card, target, *logical, (said.answer, said.visit))?;
+        }
+        let need = blockwise::hold(&mut carry_out, &call, &said, before, &card)?;
+        if let Some(need) = need {
+            spans.add_need(&call, &need);
+        }
+        if !refused {
+            spans.add(&call);
         }
         let chain = store::list(&card, &mut [NOTHING; MOST_DESCRIPTORS]).0;
         if !refused && chain != store::ACCEPTED {

@@ -1,6 +1,8 @@
 //! Drives the library through its C boundary beside the own store and compares, after each
-//! call, the answer, the whole card and all lent memory; and the names of visits with the origins.
+//! call, the answer, the whole card and all lent memory; the names of visits with the origins; and
+//! spans with the library's own calls of whole blocks.
 
+mod blockwise;
 #[path = "drive/boundary.rs"]
 mod boundary;
 mod call;
@@ -12,6 +14,7 @@ mod counts;
 mod damaged;
 #[path = "../../rust/declared.rs"]
 mod declared;
+mod extent;
 #[path = "drive/lent.rs"]
 mod lent;
 #[path = "drive/lists.rs"]
@@ -26,6 +29,7 @@ mod reserved;
 mod rng;
 #[path = "drive/rollback.rs"]
 mod rollback;
+mod spans;
 mod store;
 #[path = "drive/table.rs"]
 mod table;
@@ -54,7 +58,7 @@ struct Command {
     list: List,
     expected: table::Expected,
     enough: u64,
-    /// Whether it counts accepted reverts, and accepted visits.
+    /// Whether it counts accepted reverts, and accepted visits and spans.
     reverts: bool,
     visits: bool,
 }
@@ -99,6 +103,7 @@ fn run(command: &Command, seed: u64, count: u64) -> ExitCode {
     }
     if command.visits {
         missing.extend(table.visits.missing());
+        missing.extend(table.spans.missing());
     }
     case(
         all_met("answers", &missing, count, command.enough),

@@ -118,6 +118,19 @@ fn by_hand() -> Vec<(String, Vec<u8>, String)> {
         ("shorter-op", b"op=lis\n"),
         ("unknown-op", b"op=clone name=mon\n"),
         ("no-line-for-visits", b"op=visit from=* block=1\n"),
+        (
+            "no-line-for-span-reads",
+            b"op=read from=* offset=1 length=1\n",
+        ),
+        (
+            "no-line-for-span-writes",
+            b"op=write offset=1 length=1 fill=1\n",
+        ),
+        ("no-length-of-a-read", b"op=read from=* block=1 length=1\n"),
+        (
+            "no-length-of-a-write",
+            b"op=write block=1 length=1 fill=1\n",
+        ),
         ("extra-pair-on-list", b"op=list name=mon\n"),
         ("extra-pair-on-snap", b"op=snap name=mon name=mon\n"),
         ("missing-name", b"op=snap\n"),

@@ -4,8 +4,10 @@
 use crate::call::Call;
 use crate::numbers::{BLOCK, MOST_SNAPSHOTS, NAME_SIZE};
 use crate::store::{Logical, Target};
+use std::ops::Range;
 
-pub type Volume = Vec<[u8; BLOCK]>;
+/// One run of L times 512 bytes.
+pub type Volume = Vec<u8>;
 
 pub struct Ledger {
     frozen: Vec<(Vec<u8>, Volume)>,
@@ -21,8 +23,8 @@ pub enum Word {
     Refused(u64),
     /// Accepted.
     Done,
-    /// An accepted read and what it gives.
-    Block([u8; BLOCK]),
+    /// An accepted read, of a block or of a span, and what it gives.
+    Bytes(Vec<u8>),
     /// A format that the ledger does not follow.
     Unknown,
 }
@@ -32,10 +34,18 @@ fn is_name(text: &[u8]) -> bool {
     (1..=NAME_SIZE).contains(&text.len()) && text.iter().all(|byte| alphabet.contains(byte))
 }
 
+/// Whether the target is the active volume, or is given by a name.
+fn target_is_named(target: &Target) -> bool {
+    match target {
+        Target::Active => true,
+        Target::Snapshot(name) => is_name(name),
+    }
+}
+
 impl Ledger {
     /// A new active volume of so many blocks of zeros.
     pub fn new(name: &[u8], blocks: u64, revision: u64) -> Ledger {
-        let active = vec![[0; BLOCK]; blocks as usize];
+        let active = vec![0; blocks as usize * BLOCK];
         Ledger {
             frozen: Vec::new(),
             name: name.to_vec(),
@@ -65,39 +75,49 @@ impl Ledger {
                 logical,
                 lent,
             } => {
-                if let Target::Snapshot(name) = target {
-                    if !is_name(name) {
-                        return Word::Refused(4);
-                    }
+                if !target_is_named(target) {
+                    return Word::Refused(4);
                 }
                 if lent.len() != BLOCK {
                     return Word::Refused(9);
                 }
-                let volume = match target {
-                    Target::Active => &self.active,
-                    Target::Snapshot(name) => match self.position(name) {
-                        Some(k) => &self.frozen[k].1,
-                        None => return Word::Refused(7),
-                    },
+                let Some(volume) = self.volume(target) else {
+                    return Word::Refused(7);
                 };
-                match volume.get(logical.0 as usize) {
-                    Some(block) => Word::Block(*block),
+                match self.block(*logical) {
+                    Some(part) => Word::Bytes(volume[part].to_vec()),
                     None => Word::Refused(8),
+                }
+            }
+            Call::ReadSpan {
+                target,
+                offset,
+                lent,
+            } => {
+                if !target_is_named(target) {
+                    return Word::Refused(4);
+                }
+                let Some(volume) = self.volume(target) else {
+                    return Word::Refused(7);
+                };
+                match self.part(*offset, lent.len()) {
+                    Some(part) => Word::Bytes(volume[part].to_vec()),
+                    None => Word::Refused(16),
                 }
             }
             Call::Write { logical, lent } => {
                 if lent.len() != BLOCK {
                     return Word::Refused(9);
                 }
-                if logical.0 >= self.active.len() as u64 {
+                let Some(part) = self.block(*logical) else {
                     return Word::Refused(8);
-                }
-                if !room {
-                    return Word::Refused(11);
-                }
-                self.active[logical.0 as usize].copy_from_slice(lent);
-                Word::Done
+                };
+                self.patch(part, lent, room)
             }
+            Call::WriteSpan { offset, lent } => match self.part(*offset, lent.len()) {
+                Some(part) => self.patch(part, lent, room),
+                None => Word::Refused(16),
+            },
             Call::Snap { name } => {
                 if !is_name(name) {
                     return Word::Refused(4);
@@ -144,14 +164,42 @@ impl Ledger {
 
     /// The refusal of a visit. What it names is for the origins.
     fn refusal(&self, target: &Target, logical: Logical) -> Option<u64> {
-        if let Target::Snapshot(name) = target {
-            if !is_name(name) {
-                return Some(4);
-            }
-            if self.position(name).is_none() {
-                return Some(7);
-            }
+        if !target_is_named(target) {
+            return Some(4);
         }
-        (logical.0 >= self.active.len() as u64).then_some(8)
+        if self.volume(target).is_none() {
+            return Some(7);
+        }
+        self.block(logical).is_none().then_some(8)
+    }
+
+    /// The volume of a target.
+    fn volume(&self, target: &Target) -> Option<&Volume> {
+        match target {
+            Target::Active => Some(&self.active),
+            Target::Snapshot(name) => self.position(name).map(|k| &self.frozen[k].1),
+        }
+    }
+
+    /// So many bytes of a run from the offset on, where it has them all.
+    fn part(&self, offset: u64, length: usize) -> Option<Range<usize>> {
+        let start = usize::try_from(offset).ok()?;
+        let end = start.checked_add(length)?;
+        (end <= self.active.len()).then_some(start..end)
+    }
+
+    /// A block's part of a run.
+    fn block(&self, logical: Logical) -> Option<Range<usize>> {
+        let offset = logical.0.checked_mul(BLOCK as u64)?;
+        self.part(offset, BLOCK)
+    }
+
+    /// Puts bytes in a part of the active run, if there is room.
+    fn patch(&mut self, part: Range<usize>, bytes: &[u8], room: bool) -> Word {
+        if !room {
+            return Word::Refused(11);
+        }
+        self.active[part].copy_from_slice(bytes);
+        Word::Done
     }
 }

@@ -1,12 +1,14 @@
 //! The second program: an own store, ledger and sheet reader, written from documents 01 and 02
 //! alone, and the comparisons that it is made for.
 
+mod blockwise;
 mod call;
 mod cases;
 mod counts;
 mod damage;
 mod damaged;
 mod edges;
+mod extent;
 mod ledger;
 mod make;
 mod numbers;
@@ -18,6 +20,7 @@ mod rollback;
 mod room;
 mod sheet;
 mod sheets;
+mod spans;
 mod store;
 mod tally;
 mod values;

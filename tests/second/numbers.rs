@@ -42,4 +42,4 @@ pub const fn entry_byte(j: u64) -> usize {
 }
 
 /// The numbers of the answers to calls.
-pub const ANSWERS: [u64; 16] = [0, 1, 2, 3, 4, 5, 6, 7, 8, 9, 10, 11, 12, 13, 14, 17];
+pub const ANSWERS: [u64; 17] = [0, 1, 2, 3, 4, 5, 6, 7, 8, 9, 10, 11, 12, 13, 14, 16, 17];

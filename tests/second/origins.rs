@@ -3,6 +3,7 @@
 //! either: a region is its place among the regions, and its name is the one that it has now.
 
 use crate::call::Call;
+use crate::extent::touched;
 use crate::rng::Rng;
 use crate::store::{padded, Logical, Name, Target};
 
@@ -43,13 +44,22 @@ impl Origins {
             Call::Write { logical, .. } => {
                 self.active[logical.0 as usize] = Some(self.frozen.len() as u8);
             }
+            Call::WriteSpan { offset, lent } => {
+                for logical in touched(*offset, lent.len()) {
+                    self.active[logical as usize] = Some(self.frozen.len() as u8);
+                }
+            }
             Call::Snap { name } => self.frozen.push((name.clone(), self.active.clone())),
             Call::Revert { name } => {
                 let position = self.position(name).ok_or("no such origins")?;
                 self.active = self.frozen[position].1.clone();
                 self.frozen.truncate(position + usize::from(self.stays));
             }
-            Call::Read { .. } | Call::List { .. } | Call::Check | Call::Visit { .. } => {}
+            Call::Read { .. }
+            | Call::ReadSpan { .. }
+            | Call::List { .. }
+            | Call::Check
+            | Call::Visit { .. } => {}
         }
         Ok(())
     }

@@ -1,21 +1,40 @@
-//! Rollback and the forgotten calls, on the own store: for each accepted revert of a random
-//! list of calls the shorter list is run from the same start, and the two runs are compared
-//! right after it and after each later call. Beside the run stand the ledger, the origins and the
-//! count of blocks, so that agreement of two runs alone is not enough. Cards are of both
-//! revisions, and some lists start from a card in use.
+//! Rollback and the forgotten calls, on the own store: for each accepted revert of a random list of
+//! calls the shorter list is run from the same start, and the two runs are compared right after it
+//! and after each later call. Beside the run stand the ledger, the origins and the count of blocks,
+//! so that agreement of two runs alone is not enough, and each span is held against calls of whole
+//! blocks. Cards are of both revisions, and some lists start from a card in use.
 
+use crate::blockwise;
 use crate::call::{carry_out, Call, Said, KINDS};
-use crate::counts::{all_met, Counts, Dated, Reverts, Visits, ENOUGH};
+use crate::counts::{all_met, Counts, Dated, Reverts, Spans, Visits, ENOUGH};
+use crate::extent::{self, touched};
 use crate::ledger::{Ledger, Word};
 use crate::numbers::*;
 use crate::origins::{Origins, AFTER_REVERT, AT_END};
 use crate::rng::Rng;
 use crate::room::Room;
 use crate::store::{self, Logical, Name, Record, Target, NOTHING};
+use crate::values::same;
 use crate::Count;
+use std::ops::Range;
 
 /// The weight of snaps in a list that is to meet 13.
 const MANY_SNAPS: u64 = 4_000;
+
+/// For each kind of call the numbers that can arise: the card is always the whole one and passes
+/// check, and every ream of a list is refused.
+const CAN_ARISE: [&[u64]; KINDS.len()] = [
+    &[2, 3, 4, 5, 17],
+    &[0, 4, 7, 8, 9],
+    &[0, 8, 9, 11],
+    &[0, 4, 11, 12, 13],
+    &[0, 4, 7],
+    &[0, 14],
+    &[0],
+    &[0, 4, 7, 8],
+    &[0, 4, 7, 16],
+    &[0, 11, 16],
+];
 
 /// What the lists held, by kind of call and number.
 #[derive(Default)]
@@ -26,6 +45,7 @@ struct Summary {
     visits: Visits,
     /// How many names of visits were held against the origins.
     names: u64,
+    spans: Spans,
 }
 
 /// Runs the lists of `count` seeds.
@@ -44,6 +64,14 @@ pub fn run(seed: u64, count: u64) -> Count {
     println!("{} names compared with the origins", summary.names);
     let met = all_met("visits", &summary.visits.missing(), count, ENOUGH);
     sum.case("visits of each kind", met);
+    summary.spans.print();
+    let met = all_met("spans", &summary.spans.missing(), count, ENOUGH);
+    sum.case("spans of each kind", met);
+    let missing = summary.answers.missing(&KINDS, &CAN_ARISE);
+    let met = all_met("answers", &missing, count, ENOUGH);
+    sum.case("answers of each kind", met);
+    let strange = summary.answers.strange(&CAN_ARISE).count();
+    same(&mut sum, "answers that cannot arise", strange, 0);
     sum
 }
 
@@ -195,12 +223,20 @@ impl Run {
             .add(call.kind() as usize, said.answer.number, 1);
         let accepted = said.answer == store::ACCEPTED;
         self.beside_ledger(call, &said, summary)?;
-        let changes = matches!(
-            call,
-            Call::Write { .. } | Call::Snap { .. } | Call::Revert { .. }
-        );
+        let changes = match call {
+            Call::Write { .. } | Call::Snap { .. } | Call::Revert { .. } => true,
+            Call::WriteSpan { lent, .. } => !lent.is_empty(),
+            _ => false,
+        };
         if !(accepted && changes) && self.card != before {
             return Err("the card has changed".to_string());
+        }
+        let need = blockwise::hold(&mut carry_out, call, &said, before, &self.card)?;
+        if let Some(need) = need {
+            summary.spans.add_need(call, &need);
+        }
+        if accepted {
+            summary.spans.add(call);
         }
         for (which, card) in self.shorter.iter_mut().enumerate() {
             let other = carry_out(card, call);
@@ -300,20 +336,20 @@ impl Run {
         said: &Said,
         summary: &mut Summary,
     ) -> Result<(), String> {
+        let blocks = self.written(call);
         let room = match call {
-            Call::Write { logical, .. } => self.room.has_for_write(logical.0),
             Call::Snap { .. } => self.room.has_for_snap(),
-            _ => true,
+            _ => self.room.has_for_writes(blocks.clone()),
         };
         let position = match call {
             Call::Revert { name } => self.ledger.position(name),
             _ => None,
         };
         let word = self.ledger.step(call, room);
-        let (number, block) = match word {
+        let (number, bytes) = match word {
             Word::Refused(number) => (number, None),
             Word::Done => (0, None),
-            Word::Block(block) => (0, Some(block)),
+            Word::Bytes(bytes) => (0, Some(bytes)),
             Word::Unknown => (refused_ream(call), None),
         };
         if said.answer.number != number || said.answer.place != 0 {
@@ -321,17 +357,14 @@ impl Run {
         }
         let mut records = Vec::new();
         let mut visit = Name::default();
+        if said.block != bytes.unwrap_or(call.lent().0) {
+            return Err("the lent bytes are not the ledger's".to_string());
+        }
         match call {
-            Call::Read { lent, .. } => {
-                let expected = block.map_or(lent.clone(), |block| block.to_vec());
-                if said.block != expected {
-                    return Err("the block is not the ledger's".to_string());
-                }
-            }
-            Call::Write { logical, .. } => {
+            Call::Write { .. } | Call::WriteSpan { .. } => {
                 self.full = number == 11;
                 if number == 0 {
-                    self.room.take_write(logical.0);
+                    self.room.take_writes(blocks);
                 }
             }
             Call::Snap { .. } => {
@@ -379,6 +412,20 @@ impl Run {
         }
     }
 
+    /// The blocks that a call writes; none where they are not blocks of the volume.
+    fn written(&self, call: &Call) -> Range<u64> {
+        let end = self.volume * BLOCK as u64;
+        match call {
+            Call::Write { logical, .. } if logical.0 < self.volume => logical.0..logical.0 + 1,
+            Call::WriteSpan { offset, lent }
+                if *offset <= end && lent.len() as u64 <= end - *offset =>
+            {
+                touched(*offset, lent.len())
+            }
+            _ => 0..0,
+        }
+    }
+
     /// The records by the ledger's names and the count of blocks.
     fn expected_records(&self) -> Vec<Record> {
         let marks = self.room.marks();
@@ -408,17 +455,34 @@ impl Run {
         }
         let snap = self.snap_weight;
         match self.rng.below(1_000 + snap) {
-            0..=449 => Call::Write {
-                logical: self.logical(),
-                lent: self.content(),
-            },
-            450..=609 => {
+            0..=359 => {
                 let length = self.block_length();
-                let lent = (0..length).map(|k| (k * 7) as u8).collect();
+                Call::Write {
+                    logical: self.logical(),
+                    lent: self.content(length),
+                }
+            }
+            360..=449 => {
+                let (offset, length) = self.extent();
+                Call::WriteSpan {
+                    offset,
+                    lent: self.content(length),
+                }
+            }
+            450..=539 => {
+                let length = self.block_length();
                 Call::Read {
                     target: self.target(),
                     logical: self.logical(),
-                    lent,
+                    lent: unread(length),
+                }
+            }
+            540..=609 => {
+                let (offset, length) = self.extent();
+                Call::ReadSpan {
+                    target: self.target(),
+                    offset,
+                    lent: unread(length),
                 }
             }
             610..=729 => Call::Visit {
@@ -461,6 +525,12 @@ impl Run {
         })
     }
 
+    /// The offset and the length of a span.
+    fn extent(&mut self) -> (u64, usize) {
+        let used = *self.rng.pick(&self.hot);
+        extent::random(&mut self.rng, self.volume, used, self.room.free())
+    }
+
     fn block_length(&mut self) -> usize {
         match self.rng.below(40) {
             0 => *self.rng.pick(&[0, 1, 100, 511, 513, 1_024]),
@@ -469,8 +539,7 @@ impl Run {
     }
 
     /// What is written: also bytes that would do harm if they were taken for entries.
-    fn content(&mut self) -> Vec<u8> {
-        let length = self.block_length();
+    fn content(&mut self, length: usize) -> Vec<u8> {
         match self.rng.below(5) {
             0 => vec![self.rng.below(256) as u8; length],
             1 => vec![0; length],
@@ -594,6 +663,11 @@ impl Run {
     }
 }
 
+/// What lent memory holds before a read.
+fn unread(length: usize) -> Vec<u8> {
+    (0..length).map(|k| (k * 7) as u8).collect()
+}
+
 /// A card as an accepted ream leaves it, whatever the other blocks hold.
 fn started(rng: &mut Rng, layout: u64, volume: u64, revision: u64, blocks: u64) -> Vec<u8> {
     let length = blocks as usize * BLOCK;
@@ -647,14 +721,15 @@ fn same_below_beta(one: &[u8], other: &[u8]) -> Result<(), String> {
         return Err(format!("beta {} and {}", betas.0, betas.1));
     }
     let end = betas.0 as usize * BLOCK;
-    match (0..end).find(|at| one[*at] != other[*at]) {
-        None => Ok(()),
-        Some(at) => Err(format!(
-            "byte {} of block {} differs",
-            at % BLOCK,
-            at / BLOCK
-        )),
+    if one[..end] == other[..end] {
+        return Ok(());
     }
+    let at = (0..end).find(|at| one[*at] != other[*at]).unwrap_or(end);
+    Err(format!(
+        "byte {} of block {} differs",
+        at % BLOCK,
+        at / BLOCK
+    ))
 }
 
 /// A call in a few words.
@@ -669,5 +744,9 @@ fn short(call: &Call) -> String {
         Call::List { .. } => "list".to_string(),
         Call::Check => "check".to_string(),
         Call::Visit { logical, .. } => format!("visit {}", logical.0),
+        Call::ReadSpan { offset, lent, .. } => {
+            format!("read span {offset} length {}", lent.len())
+        }
+        Call::WriteSpan { offset, lent } => format!("write span {offset} length {}", lent.len()),
     }
 }

@@ -3,6 +3,7 @@
 
 use crate::numbers::TABLE_ENTRIES;
 use std::collections::BTreeSet;
+use std::ops::Range;
 
 #[derive(Clone)]
 struct Region {
@@ -12,6 +13,18 @@ struct Region {
     logicals: BTreeSet<u64>,
     /// Groups of 128 logical blocks that have a table block in this region.
     groups: BTreeSet<u64>,
+}
+
+impl Region {
+    /// Takes the blocks of a write: one for data, and in layout 2 one for a table before it, where
+    /// the region has none yet.
+    fn take(&mut self, logical: u64, layout: u64) {
+        if !self.logicals.insert(logical) {
+            return;
+        }
+        let new_table = self.groups.insert(logical / TABLE_ENTRIES) && layout == 2;
+        self.beta += if new_table { 2 } else { 1 };
+    }
 }
 
 pub struct Room {
@@ -53,32 +66,33 @@ impl Room {
         &self.regions[self.regions.len() - 1]
     }
 
-    /// How many blocks a write takes.
-    fn need(&self, logical: u64) -> u64 {
-        if self.last().logicals.contains(&logical) {
-            0
-        } else if self.layout == 2 && !self.last().groups.contains(&(logical / TABLE_ENTRIES)) {
-            2
-        } else {
-            1
+    /// How many blocks the writes of these logical blocks take, one after the other.
+    fn need(&self, logicals: Range<u64>) -> u64 {
+        let mut region = self.last().clone();
+        for logical in logicals {
+            region.take(logical, self.layout);
         }
+        region.beta - self.last().beta
     }
 
-    pub fn has_for_write(&self, logical: u64) -> bool {
-        self.last().beta + self.need(logical) <= self.blocks
+    pub fn has_for_writes(&self, logicals: Range<u64>) -> bool {
+        self.last().beta + self.need(logicals) <= self.blocks
+    }
+
+    /// How many blocks are free.
+    pub fn free(&self) -> u64 {
+        self.blocks - self.last().beta
     }
 
     pub fn has_for_snap(&self) -> bool {
         self.last().beta + self.cost <= self.blocks
     }
 
-    pub fn take_write(&mut self, logical: u64) {
-        let need = self.need(logical);
+    pub fn take_writes(&mut self, logicals: Range<u64>) {
         let last = self.regions.len() - 1;
-        let region = &mut self.regions[last];
-        region.beta += need;
-        region.logicals.insert(logical);
-        region.groups.insert(logical / TABLE_ENTRIES);
+        for logical in logicals {
+            self.regions[last].take(logical, self.layout);
+        }
     }
 
     pub fn take_snap(&mut self) {

@@ -1,9 +1,11 @@
-//! The card store of document 01, with document 02's revisions and the visit that a block dates
-//! from, on an area of bytes of any length and content.
+//! The card store of document 01, with document 02's revisions, the visit that a block dates from,
+//! and spans, on an area of bytes of any length and content.
 //! Each call is written as its ladder of refusals, top to bottom, and then what it does.
 //! Numbers are u64 and physical unless they are `Logical`.
 
 use crate::numbers::*;
+use std::collections::BTreeSet;
+use std::ops::Range;
 
 /// A logical block number.
 #[derive(Clone, Copy, PartialEq, Eq, Debug)]
@@ -24,7 +26,8 @@ pub const ACCEPTED: Answer = Answer {
     place: 0,
 };
 
-/// What a read or a visit is of. The text of a snapshot's name may be no name.
+/// What a read, of a block or of a span, or a visit is of. The text of a snapshot's name may be no
+/// name.
 #[derive(Clone, PartialEq, Eq, Debug)]
 pub enum Target {
     Active,
@@ -297,6 +300,18 @@ struct Found {
     region: Option<Descriptor>,
 }
 
+impl Found {
+    /// Whether a write goes to the data block itself. Nil is tested first.
+    fn is_overwritten(&self, active: &Descriptor) -> bool {
+        self.data != 0 && self.data >= active.alpha
+    }
+
+    /// Whether a write that takes a data block takes a table block before it.
+    fn wants_table(&self, active: &Descriptor) -> bool {
+        active.layout == 2 && (self.table == 0 || self.table < active.alpha)
+    }
+}
+
 /// The descriptor whose region, from alpha up to beta, contains a block.
 fn region_of(chain: &[Descriptor], block: u64) -> Option<Descriptor> {
     let mut regions = chain.iter();
@@ -345,14 +360,13 @@ fn find(
     })
 }
 
-/// Finds a logical block of a target: the places of a read, top to bottom, without 9 where no
-/// block is lent.
-fn find_of(
+/// Opens a target: the places of a read down to 7, without 9 where no block is lent. Gives the
+/// chain, and the descriptor that the target has in it.
+fn open_target(
     card: &[u8],
     target: &Target,
     block: Option<usize>,
-    logical: Logical,
-) -> Result<Found, Answer> {
+) -> Result<(Vec<Descriptor>, Descriptor), Answer> {
     let name = match target {
         Target::Active => None,
         Target::Snapshot(name) => Some(&name[..]),
@@ -362,7 +376,59 @@ fn find_of(
         None => opened.active(),
         Some(name) => opened.snapshot(name)?,
     };
-    find(card, &opened.chain, &descriptor, logical)
+    Ok((opened.chain, descriptor))
+}
+
+/// Finds a logical block of a target: the places of a read, top to bottom, without 9 where no
+/// block is lent.
+fn find_of(
+    card: &[u8],
+    target: &Target,
+    block: Option<usize>,
+    logical: Logical,
+) -> Result<Found, Answer> {
+    let (chain, descriptor) = open_target(card, target, block)?;
+    find(card, &chain, &descriptor, logical)
+}
+
+/// The content of a found block: zeros where it is nil.
+fn content(card: &[u8], found: &Found) -> Vec<u8> {
+    match found.data {
+        0 => vec![0; BLOCK],
+        data => block_at(card, data).to_vec(),
+    }
+}
+
+/// What a span has of one logical block.
+struct Piece {
+    logical: Logical,
+    /// The bytes of the block.
+    of_block: Range<usize>,
+    /// The bytes of the lent memory.
+    of_lent: Range<usize>,
+}
+
+/// Splits a span at the block boundaries, rising; or the refusal 16. Offset and length are added
+/// without a limit.
+fn split(volume: u64, offset: u64, length: usize) -> Result<Vec<Piece>, Answer> {
+    let end = u128::from(volume) * BLOCK as u128;
+    if u128::from(offset) + length as u128 > end {
+        return Err(refusal(16, 0));
+    }
+    let mut pieces = Vec::new();
+    let mut done = 0;
+    while done < length {
+        let at = offset as usize + done;
+        let first = at % BLOCK;
+        let taken = (BLOCK - first).min(length - done);
+        pieces.push(Piece {
+            logical: Logical((at / BLOCK) as u64),
+            of_block: first..first + taken,
+            of_lent: done..done + taken,
+        });
+        done += taken;
+    }
+    Ok(pieces)
 }
 
 /// The answer of a call that was carried out or refused.
@@ -425,10 +491,27 @@ pub fn read(card: &[u8], target: &Target, logical: Logical, lent: &mut [u8]) -> 
 fn try_read(card: &[u8], target: &Target, logical: Logical, lent: &mut [u8]) -> Result<(), Answer> {
     let found = find_of(card, target, Some(lent.len()), logical)?;
 
-    if found.data == 0 {
-        lent.fill(0);
-    } else {
-        lent.copy_from_slice(block_at(card, found.data));
+    lent.copy_from_slice(&content(card, &found));
+    Ok(())
+}
+
+/// Reads from a byte of the target's volume on into the lent memory, as many bytes as it has.
+pub fn read_span(card: &[u8], target: &Target, offset: u64, lent: &mut [u8]) -> Answer {
+    answered(try_read_span(card, target, offset, lent))
+}
+
+fn try_read_span(card: &[u8], target: &Target, offset: u64, lent: &mut [u8]) -> Result<(), Answer> {
+    let (chain, descriptor) = open_target(card, target, None)?;
+    let pieces = split(descriptor.volume, offset, lent.len())?;
+    // All blocks are found before the first byte is filled.
+    let mut blocks = Vec::new();
+    for piece in &pieces {
+        let found = find(card, &chain, &descriptor, piece.logical)?;
+        blocks.push(content(card, &found));
+    }
+
+    for (piece, block) in pieces.into_iter().zip(blocks) {
+        lent[piece.of_lent].copy_from_slice(&block[piece.of_block]);
     }
     Ok(())
 }
@@ -451,11 +534,11 @@ fn try_write(card: &mut [u8], logical: Logical, lent: &[u8]) -> Result<(), Answe
     let opened = open(card, None, Some(lent.len()))?;
     let active = opened.active();
     let found = find(card, &opened.chain, &active, logical)?;
-    if found.data != 0 && found.data >= active.alpha {
+    if found.is_overwritten(&active) {
         store_block(card, found.data, lent);
         return Ok(());
     }
-    let new_table = active.layout == 2 && (found.table == 0 || found.table < active.alpha);
+    let new_table = found.wants_table(&active);
     let need = if new_table { 2 } else { 1 };
     if active.beta + need > opened.blocks {
         return Err(refusal(11, 0));
@@ -482,6 +565,41 @@ fn try_write(card: &mut [u8], logical: Logical, lent: &[u8]) -> Result<(), Answe
     store_block(card, table, &entries);
     store_block(card, data, lent);
     store_block(card, active.alpha, &opening);
+    Ok(())
+}
+
+/// Writes the lent memory from a byte of the active store's volume on, whole or not at all.
+pub fn write_span(card: &mut [u8], offset: u64, lent: &[u8]) -> Answer {
+    answered(try_write_span(card, offset, lent))
+}
+
+fn try_write_span(card: &mut [u8], offset: u64, lent: &[u8]) -> Result<(), Answer> {
+    let opened = open(card, None, None)?;
+    let active = opened.active();
+    let pieces = split(active.volume, offset, lent.len())?;
+    check_entries(card, &opened)?;
+    let mut need = 0;
+    // Groups for which a block of the span has taken a table: the blocks after it find that table.
+    let mut served = BTreeSet::new();
+    let mut blocks = Vec::new();
+    for piece in &pieces {
+        let found = find(card, &opened.chain, &active, piece.logical)?;
+        if !found.is_overwritten(&active) {
+            let group = piece.logical.0 / TABLE_ENTRIES;
+            let new_table = found.wants_table(&active) && served.insert(group);
+            need += if new_table { 2 } else { 1 };
+        }
+        blocks.push(content(card, &found));
+    }
+    if active.beta + need > opened.blocks {
+        return Err(refusal(11, 0));
+    }
+
+    // None of these is refused: the card passes check and has room for all.
+    for (piece, mut block) in pieces.into_iter().zip(blocks) {
+        block[piece.of_block].copy_from_slice(&lent[piece.of_lent]);
+        try_write(card, piece.logical, &block)?;
+    }
     Ok(())
 }
 
@@ -584,6 +702,11 @@ pub fn check(card: &[u8]) -> Answer {
 
 fn try_check(card: &[u8]) -> Result<(), Answer> {
     let opened = open(card, None, None)?;
+    check_entries(card, &opened)
+}
+
+/// The entries of all descriptors in chain order, or the refusal 10 at the first fault.
+fn check_entries(card: &[u8], opened: &Opened) -> Result<(), Answer> {
     for descriptor in &opened.chain {
         if let Some(place) = first_fault(card, opened.blocks, &opened.chain, descriptor) {
             return Err(refusal(10, place));

@@ -12,8 +12,8 @@ pub const OPS: [&str; 8] = [
 pub const OTHER: usize = 7;
 
 /// For each op the numbers that can arise on a sheet. A card made by accepted calls alone
-/// passes check, so there is no 10; 64 blocks hold no 256 descriptors, so no 13 and no 14; the
-/// desk's revision is 0, so no 17.
+/// passes check, so there is no 10; 64 blocks hold no 256 descriptors, so no 13 and no 14; no line
+/// is of a span, so no 16; the desk's revision is 0, so no 17.
 const CAN_ARISE: [&[u64]; 8] = [
     &[0, 1, 2, 3, 4, 5, ILL_FORMED],
     &[0, 4, 6, 7, 8, ILL_FORMED],

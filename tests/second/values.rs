@@ -1,10 +1,11 @@
 //! Document 01's bench values, the areas that are refused, the order of refusals, document 02's
-//! revisions and the visits that blocks date from, each with the answer that the papers give.
+//! revisions, the visits that blocks date from and spans, each with the answer that the papers
+//! give.
 
 use crate::call::carry_out;
 use crate::numbers::{BETA, BLOCK};
 use crate::store::{self, Answer, Logical, Record, Target, ACCEPTED, NOTHING};
-use crate::{cases, damage, visits, Count};
+use crate::{cases, damage, spans, visits, Count};
 
 /// Counts a case whose two sides must be equal.
 pub fn same<T: PartialEq + std::fmt::Debug>(count: &mut Count, name: &str, got: T, expected: T) {
@@ -215,6 +216,14 @@ fn areas(count: &mut Count) {
         same(count, &name, store::check(&card), one);
         let visit = store::visit(&card, &nowhere, Logical(0));
         same(count, &name, visit, (one, None));
+        let span = store::read_span(&card, &nowhere, u64::MAX, &mut [0; 2]);
+        same(count, &name, span, one);
+        same(
+            count,
+            &name,
+            store::write_span(&mut card, u64::MAX, &[0; 2]),
+            one,
+        );
     }
     let mut card = area(65_536);
     same(
@@ -347,7 +356,8 @@ fn ladders(count: &mut Count) {
 
 /// The cases by hand, on an area of zeros and on one of other bytes.
 fn by_hand(count: &mut Count) {
-    for case in cases::all().into_iter().chain(visits::all()) {
+    let cases = cases::all().into_iter().chain(visits::all());
+    for case in cases.chain(spans::all()) {
         for fill in [0, 0xff] {
             let mut card = vec![fill; case.blocks * BLOCK];
             for (k, step) in case.steps.iter().enumerate() {

@@ -24,7 +24,8 @@ use Rattle.calls.specs.declared.answer.Aim.{Aim}
 use Rattle.calls.specs.Call.{Write, Block, answer, accepted}
 use Rattle.calls.specs.Parts.{areaBad, isMisplaced, holderOf, SoundCard}
 use Rattle.calls.specs.Ladder.{Row, row, firstRow, aimRows, writeRows}
-use Rattle.calls.specs.Effect.{noAim, aimOf, Written, written, writeStores}
+use Rattle.calls.specs.Stores.{writeStores}
+use Rattle.calls.specs.Effect.{noAim, aimOf, Written, written}
 use Rattle.calls.specs.Meaning.{rowsOf, answerOf, lentOf, filledOf, storesOf, givenOf}
 use Rattle.calls.specs.Step.{Done, step, done}
 use Rattle.calls.proofs.CardLaws.{card-sound, chain-is}

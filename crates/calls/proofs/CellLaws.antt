@@ -1,20 +1,22 @@
 -- What a read through a descriptor gives: the block that its entry names, or zeros, where the descriptor keeps the rules; and the same on two cards with the same blocks.
-use mathlib.Core.Path.{_≡_, refl, sym, ap, _∙_}
+use mathlib.Core.Path.{_≡_, refl, sym, ap, _∙_, subst}
 use mathlib.Core.Bool.{Bool, true, false, _||_}
 use mathlib.Core.List.{List}
-use Prim.Native.Nat.{ℕ, _<_}
+use Prim.Native.Nat.{ℕ, _*_, _-_, _≤_, _<_}
 use native.Mathlib.Omega.{arith}
-use lib.ListN.{length, getD}
+use lib.ListN.{length, getD, length-replicate}
 use lib.Dec.{eqb}
 use borrow.Author.Tests.{eqb-false}
 use Rattle.blocks.specs.Pick.{pick}
 use Rattle.blocks.specs.Bytes.{blockAt, zeroBlock}
 use Rattle.blocks.specs.Descriptor.{noDescriptor}
-use Rattle.chains.specs.Chain.{chain}
+use Rattle.blocks.proofs.ByteLaws.{length-blockAt}
+use Rattle.chains.specs.Chain.{chain, activeOf}
 use Rattle.blocks.specs.declared.numbers.Physical.{Physical}
 use Rattle.blocks.specs.declared.descriptor.Descriptor.{Descriptor}
 use Rattle.links.proofs.SoundLaws.{form-layout}
 use Rattle.links.proofs.SharedLaws.{Below}
+use Rattle.links.proofs.LinkedLaws.{active-at}
 use Rattle.entries.specs.Entry.{find}
 use Rattle.entries.specs.Rules.{entryOf, Rules}
 use Rattle.entries.specs.declared.find.Found.{Found}
@@ -25,7 +27,7 @@ use Rattle.entries.proofs.FoundLaws.{rules-find}
 use Rattle.calls.specs.Parts.{descriptorsOf, foundThrough, isMisplaced, blockFound}
 use Rattle.calls.specs.Check.{Passes}
 use Rattle.calls.proofs.CardLaws.{chain-is}
-use Rattle.calls.proofs.ActiveLaws.{region-at}
+use Rattle.calls.proofs.ActiveLaws.{region-at, chain-some}
 
 -- the block that an entry names, zeros where it is nil
 abbrev pub blockNamed : List ℕ → ℕ → List ℕ
@@ -69,6 +71,27 @@ module _ (c : List ℕ) (p : Passes c) (k : ℕ) (h : k < length (descriptorsOf 
 
   pub passing-found : isMisplaced (foundThrough c (getD (descriptorsOf c) k noDescriptor) l) ≡ false
   passing-found = found-rules c (descriptorsOf c) (getD (descriptorsOf c) k noDescriptor) layout-at (p .rules k h) l b
+
+-- through the active descriptor of a card that passes
+pub active-placed : (c : List ℕ) → Passes c → (l : ℕ) → l < activeOf (descriptorsOf c) .volume → isMisplaced (foundThrough c (activeOf (descriptorsOf c)) l) ≡ false
+active-placed c p l h =
+    let ds = descriptorsOf c in
+    let n = chain-some c ds (chain-is (chain c) (p .sound)) in
+    let at = active-at ds n in
+    subst (λ (d : Descriptor). isMisplaced (foundThrough c d l) ≡ false) (sym at) (passing-found c p (length ds - 1) (omega (arith, n)) l (subst (λ (d : Descriptor). l < d .volume) at h))
+
+-- what is read through a descriptor whose region ends on the card is a block
+block-long : (c : List ℕ) (b : ℕ) → 512 * b ≤ length c → (f : Found) → ((m p : Physical) → f ≡ Entry m p → (p .0 ≡ 0 → ⊥) → p .0 < b) → length (blockFound c f) ≡ 512
+unfolding blockFound
+block-long c b h (Misplaced x) inside = length-replicate {A = ℕ} 512 0
+block-long c b h (Entry m p) inside = by (eqb (p .0) 0) refl
+  where
+    by : (z : Bool) → eqb (p .0) 0 ≡ z → length (pick z zeroBlock (blockAt c (p .0))) ≡ 512
+    by true e = length-replicate {A = ℕ} 512 0
+    by false e = length-blockAt c (p .0) (omega (arith, inside m p refl (eqb-false (p .0) 0 e)))
+
+pub found-long : (c : List ℕ) (ds : List Descriptor) (d : Descriptor) → 512 * d .beta .0 ≤ length c → (l : ℕ) → length (blockFound c (find c ds d l)) ≡ 512
+found-long c ds d h l = block-long c (d .beta .0) h (find c ds d l) (λ m p e n. placed-below ds d (p .0) (find-placed c ds d l m p e) n)
 
 -- the block found through a descriptor whose region lies below b is the same on two cards with the same blocks below b
 module _ (s t : List ℕ) (b : ℕ) (below : Below s t b) (d : Descriptor) (region : Region d b) (ds : List Descriptor) where

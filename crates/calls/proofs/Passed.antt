@@ -3,9 +3,9 @@
 use mathlib.Core.Path.{_≡_}
 use mathlib.Core.Bool.{true, false, not, _&&_}
 use mathlib.Core.List.{List}
-use Prim.Native.Nat.{ℕ, _+_, _≤_, _<_}
+use Prim.Native.Nat.{ℕ, _+_, _*_, _≤_, _<_}
 use lib.ListN.{length}
-use borrow.Author.Tests.{eqb-true, ltb-false, leb-false, not-false}
+use borrow.Author.Tests.{eqb-true, ltb-false, leb-false, not-false, eq-eqb, lt-leb, le-ltb}
 use Rattle.blocks.specs.Bytes.{blockSize, blockCount}
 use Rattle.blocks.specs.Name.{isName}
 use Rattle.blocks.specs.Descriptor.{costOf, revisionOk, costIn}
@@ -13,10 +13,11 @@ use Rattle.chains.specs.Chain.{chain, chainSound, named, activeOf}
 use Rattle.entries.specs.Entry.{need}
 use Rattle.calls.specs.declared.answer.Target.{Target}
 use Rattle.calls.specs.declared.answer.Record.{Record}
-use Rattle.calls.specs.Call.{Ream, Read, Write, Snap, Revert, Listing, Check, Visit, accepted}
+use Rattle.calls.specs.Call.{Ream, Read, Write, Snap, Revert, Listing, Check, Visit, SpanRead, SpanWrite, accepted}
 use Rattle.calls.specs.Parts.{areaBad, descriptorsOf, snapshotsOf, mostSnapshots, isSnapshot, targetOf, foundThrough, isMisplaced}
 use Rattle.calls.specs.Check.{checkCard, isFault}
-use Rattle.calls.specs.Ladder.{firstRow, admission, reamRows, readRows, writeRows, snapRows, revertRows, listRows, checkRows, visitRows}
+use Rattle.calls.specs.Spans.{spanVerdict, writeSpanNeed}
+use Rattle.calls.specs.Ladder.{firstRow, admission, reamRows, readRows, writeRows, snapRows, revertRows, listRows, checkRows, visitRows, spanReadRows, spanWriteRows}
 use Rattle.calls.specs.Meaning.{rowsOf, answerOf}
 use Rattle.calls.specs.Step.{isAccepted}
 use Rattle.calls.proofs.RowLaws.{holdsOf, rows-passed}
@@ -74,6 +75,22 @@ pub record CheckPassed (c : List ℕ) : Type 0 where
   pub sound : chainSound (chain c) ≡ true
   pub faultless : isFault (checkCard c) ≡ false
 
+-- a span read: a snapshot that is named is there, the span ends in the volume, and what is followed is in place
+pub record SpanReadPassed (c : List ℕ) (target : Target) (name : List ℕ) (o : ℕ) (bytes : List ℕ) : Type 0 where
+  pub area : areaBad c ≡ false
+  pub sound : chainSound (chain c) ≡ true
+  pub there : (isSnapshot target && not (named (snapshotsOf (descriptorsOf c)) name)) ≡ false
+  pub upto : o + length bytes ≤ blockSize * activeOf (descriptorsOf c) .volume
+  pub in-place : isFault (spanVerdict c (targetOf (descriptorsOf c) target name) o (length bytes)) ≡ false
+
+-- a span write: the span ends in the volume, no entry of the card is at fault, room for what its blocks need
+pub record SpanWritePassed (c : List ℕ) (o : ℕ) (bytes : List ℕ) : Type 0 where
+  pub area : areaBad c ≡ false
+  pub sound : chainSound (chain c) ≡ true
+  pub upto : o + length bytes ≤ blockSize * activeOf (descriptorsOf c) .volume
+  pub faultless : isFault (checkCard c) ≡ false
+  pub room : activeOf (descriptorsOf c) .beta .0 + writeSpanNeed c o bytes ≤ blockCount c
+
 pub ream-passed : (c : List ℕ) (format : Format) → isAccepted (answerOf (Ream format) c) ≡ true → ReamPassed c format
 unfolding rowsOf admission reamRows holdsOf
 ream-passed c format e =
@@ -122,7 +139,24 @@ check-passed c e =
     let row = rows-passed Check c e in
     record { area = row 1; sound = not-false _ (row 6); faultless = row 10 }
 
--- the facts of a revert are all that it asks
+pub span-read-passed : (c : List ℕ) (target : Target) (name : List ℕ) (o : ℕ) (bytes : List ℕ) → isAccepted (answerOf (SpanRead target name o bytes) c) ≡ true → SpanReadPassed c target name o bytes
+unfolding rowsOf admission spanReadRows holdsOf
+span-read-passed c target name o bytes e =
+    let row = rows-passed (SpanRead target name o bytes) c e in
+    record { area = row 1; sound = not-false _ (row 6); there = row 7; upto = ltb-false _ _ (row 16); in-place = row 10 }
+
+pub span-write-passed : (c : List ℕ) (o : ℕ) (bytes : List ℕ) → isAccepted (answerOf (SpanWrite o bytes) c) ≡ true → SpanWritePassed c o bytes
+unfolding rowsOf admission spanWriteRows holdsOf
+span-write-passed c o bytes e =
+    let row = rows-passed (SpanWrite o bytes) c e in
+    record { area = row 1; sound = not-false _ (row 6); upto = ltb-false _ _ (row 16); faultless = row 10; room = ltb-false _ _ (row 11) }
+
+-- the facts of a write, and those of a revert, are all that it asks
+pub write-accepted : (c : List ℕ) (l : ℕ) (block : List ℕ) → WritePassed c l block → answerOf (Write l block) c ≡ accepted
+unfolding answerOf rowsOf admission writeRows firstRow
+write-accepted c l block h =
+    rw (h .area, eq-eqb (length block) 512 (h .whole), h .sound, lt-leb (activeOf (descriptorsOf c) .volume) l (h .below), h .in-place, le-ltb _ _ (h .room))
+
 pub revert-accepted : (c name : List ℕ) → RevertPassed c name → answerOf (Revert name) c ≡ accepted
 unfolding answerOf rowsOf admission revertRows firstRow
 revert-accepted c name h = rw (h .area, h .called, h .sound, h .there)

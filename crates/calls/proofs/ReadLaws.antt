@@ -29,7 +29,7 @@ use Rattle.calls.specs.declared.answer.Target.the-variants.{Active, Snap
 use Rattle.calls.specs.declared.answer.Visited.{Visited}
 use Rattle.calls.specs.Call.{Call, Read, Visit, Block, answer, accepted}
 use Rattle.calls.specs.Parts.{areaBad, snapshotsOf, isSnapshot, targetOf, targetIndex, isMisplaced, holderOf, blockFound, SoundCard}
-use Rattle.calls.specs.Ladder.{admission, firstRow, blockRow, entryRows, readRows, visitRows}
+use Rattle.calls.specs.Ladder.{Row, row, admission, firstRow, blockRow, entryRows, readRows, visitRows}
 use Rattle.calls.specs.Effect.{Delivered, delivered, givenAt, visitGiven, givenBytes, asVisited, visited}
 use Rattle.calls.specs.Meaning.{rowsOf, answerOf, lentOf, filledOf, storesOf, givenOf}
 use Rattle.calls.specs.Step.{Done, step, done}
@@ -157,8 +157,9 @@ unfolding answerOf rowsOf visitRows entryRows
 visit-reached c target name l called count starts s =
     reached (Visit target name l) c _ count starts s (card-admitted c (s .area) _ ∙ row-passed _ _ called)
 
--- the rows that follow that of the chain, of a call that follows an entry through its target
-module _ (call : Call) (c : List ℕ) (target : Target) (name : List ℕ) (l : ℕ) (r : Regions) (h : Reached call c (drop 1 (entryRows c target name l)) r) where
+-- the rows that follow that of the chain, of a call that goes to a target: that of 7, and the rest
+module _ (call : Call) (c : List ℕ) (target : Target) (name : List ℕ) (rest : List Row) (r : Regions)
+    (h : Reached call c (row (isSnapshot target && not (named (snapshotsOf (descriptors (chain c))) name)) 7 0 ∷ rest) r) where
   walked : r ≡ regionsOf (chain c)
   walked = h .walked
 
@@ -181,9 +182,8 @@ module _ (call : Call) (c : List ℕ) (target : Target) (name : List ℕ) (l : �
     missing : (isSnapshot target && not (named (snapshotsOf ds) name)) ≡ eqb k (r .count)
     missing = missing-is (snapshotsOf ds) name target ∙ rw (← index-is, count-is)
 
-    pub entry-7 : k ≡ r .count → answerOf call c ≡ answer 7 0
-    unfolding entryRows
-    entry-7 e = h .rest ∙ row-given _ _ (missing ∙ eq-eqb k (r .count) e)
+    pub target-7 : k ≡ r .count → answerOf call c ≡ answer 7 0
+    target-7 e = h .rest ∙ row-given _ _ (missing ∙ eq-eqb k (r .count) e)
 
     -- which descriptor is read
     place-of : (t : Target) → k ≡ targetIndex (snapshotsOf ds) t name → (k ≡ r .count → ⊥) → (k < r .count) × (targetOf ds t name ≡ descriptorAt c (getD (r .starts) k 0))
@@ -201,32 +201,52 @@ module _ (call : Call) (c : List ℕ) (target : Target) (name : List ℕ) (l : �
     index-inside n = place-of target index-is n .0
 
     module _ (some : k ≡ r .count → ⊥) where
-      to-volume : answerOf call c ≡ firstRow (drop 2 (entryRows c target name l))
-      unfolding entryRows
-      to-volume = h .rest ∙ row-passed _ _ (missing ∙ ne-eqb k (r .count) some)
+      pub target-passed : answerOf call c ≡ firstRow rest
+      target-passed = h .rest ∙ row-passed _ _ (missing ∙ ne-eqb k (r .count) some)
 
       module _ (d : Descriptor) (d-is : d ≡ descriptorAt c (getD (r .starts) k 0)) where
         -- L is the same in all descriptors
-        volume-is : d .volume ≡ r .active .volume
-        volume-is =
+        pub target-volume : d .volume ≡ r .active .volume
+        target-volume =
             let one = through-region c (r .starts) (r .count) d (card-through c r walked good ok k (index-inside some) d d-is) in
             let other = through-region c (r .starts) (r .count) (r .active) (card-active-through c r walked good ok) in
             region-volume (descriptorAt c 0) (blockCount c) _ d (one .region) ∙ sym (region-volume (descriptorAt c 0) (blockCount c) _ (r .active) (other .region))
 
+        pub target-found : targetOf ds target name ≡ d
+        target-found = place-of target index-is some .1 ∙ sym d-is
+
+-- of a call that follows an entry through its target
+module _ (call : Call) (c : List ℕ) (target : Target) (name : List ℕ) (l : ℕ) (r : Regions) (h : Reached call c (drop 1 (entryRows c target name l)) r) where
+  past : Reached call c (row (isSnapshot target && not (named (snapshotsOf (descriptors (chain c))) name)) 7 0 ∷ drop 2 (entryRows c target name l)) r
+  unfolding entryRows
+  past = h
+
+  module _ (k : ℕ) (index : k ≡ targetIndex (descriptorsAt c (take (r .count - 1) (r .starts))) target name) where
+    pub entry-7 : k ≡ r .count → answerOf call c ≡ answer 7 0
+    entry-7 e = target-7 call c target name (drop 2 (entryRows c target name l)) r past k index e
+
+    module _ (some : k ≡ r .count → ⊥) where
+      to-volume : answerOf call c ≡ firstRow (drop 2 (entryRows c target name l))
+      to-volume = target-passed call c target name (drop 2 (entryRows c target name l)) r past k index some
+
+      module _ (d : Descriptor) (d-is : d ≡ descriptorAt c (getD (r .starts) k 0)) where
+        volume-is : d .volume ≡ r .active .volume
+        volume-is = target-volume call c target name (drop 2 (entryRows c target name l)) r past k index some d d-is
+
         pub entry-8 : d .volume ≤ l → answerOf call c ≡ answer 8 0
         unfolding entryRows
-        entry-8 e = to-volume ∙ volume-given _ c r walked good ok l (omega (arith, e, volume-is))
+        entry-8 e = to-volume ∙ volume-given _ c r (h .walked) (h .area) (h .sound) l (omega (arith, e, volume-is))
 
         module _ (below : l < d .volume) where
-          pub target-is : targetOf ds target name ≡ d
-          target-is = place-of target index-is some .1 ∙ sym d-is
+          pub target-is : targetOf (descriptors (chain c)) target name ≡ d
+          target-is = target-found call c target name (drop 2 (entryRows c target name l)) r past k index some d d-is
 
           abbrev found : Found
-          found = find c ds d l
+          found = find c (descriptors (chain c)) d l
 
           to-found : answerOf call c ≡ firstRow (drop 3 (entryRows c target name l))
           unfolding entryRows
-          to-found = to-volume ∙ volume-passed _ c r walked good ok l (omega (arith, below, volume-is))
+          to-found = to-volume ∙ volume-passed _ c r (h .walked) (h .area) (h .sound) l (omega (arith, below, volume-is))
 
           pub entry-rest : answerOf call c ≡ pick (isMisplaced found) (answer 10 (holderOf found)) accepted
           unfolding entryRows firstRow

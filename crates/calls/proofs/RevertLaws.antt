@@ -16,7 +16,7 @@ use Rattle.blocks.specs.declared.descriptor.Descriptor.{Descriptor}
 use Rattle.calls.specs.Call.{Revert, answer, accepted}
 use Rattle.calls.specs.Parts.{areaBad, snapshotsOf, withName, SoundCard}
 use Rattle.calls.specs.Ladder.{revertRows}
-use Rattle.calls.specs.Effect.{activatedOf, reverting, revertStores}
+use Rattle.calls.specs.Stores.{activatedOf, reverting, revertStores}
 use Rattle.calls.specs.Meaning.{rowsOf, answerOf, storesOf}
 use Rattle.blocks.proofs.StoreLists.{stored-one}
 use Rattle.calls.proofs.CardLaws.{chain-is, card-sound, card-most, card-snapshots, card-snapshot-count, card-snapshot, card-alpha, card-at, card-found}

@@ -14,9 +14,9 @@ use Rattle.chains.specs.Chain.{chain, chainSound, Regions, regionsOf, walkOf, d
 use Rattle.chains.specs.declared.chain.Walk.{Walk}
 use Rattle.blocks.proofs.Tests.{and-left, and-right}
 use Rattle.calls.specs.declared.answer.Answer.{Answer}
-use Rattle.calls.specs.Call.{Call, Ream, Read, Write, Snap, Revert, Listing, Check, Visit, answer, accepted}
+use Rattle.calls.specs.Call.{Call, Ream, Read, Write, Snap, Revert, Listing, Check, Visit, SpanRead, SpanWrite, answer, accepted}
 use Rattle.calls.specs.Parts.{areaBad, SoundCard}
-use Rattle.calls.specs.Ladder.{Row, row, firstRow, admission, areaRow, nameRow, blockRow, chainRow, volumeRow, reamRows, readRows, writeRows, snapRows, revertRows, listRows, checkRows, visitRows}
+use Rattle.calls.specs.Ladder.{Row, row, firstRow, admission, areaRow, nameRow, blockRow, chainRow, volumeRow, reamRows, readRows, writeRows, snapRows, revertRows, listRows, checkRows, visitRows, spanReadRows, spanWriteRows}
 use Rattle.calls.specs.Meaning.{rowsOf, answerOf}
 use Rattle.calls.specs.Step.{isAccepted}
 use Rattle.calls.proofs.CardLaws.{card-fault, card-sound, card-found}
@@ -37,7 +37,7 @@ holdsOf n (r ∷ rs) = pick (eqb (r .number) n) (r .holds) (holdsOf n rs)
 
 -- so it is in each call's list
 pub rows-numbered : (k : Call) (c : List ℕ) → numbered (rowsOf k c) ≡ true
-unfolding numbered fresh rowsOf admission reamRows readRows writeRows snapRows revertRows listRows checkRows visitRows
+unfolding numbered fresh rowsOf admission reamRows readRows writeRows snapRows revertRows listRows checkRows visitRows spanReadRows spanWriteRows
 rows-numbered (Ream format) c = refl
 rows-numbered (Read target name l block) c = refl
 rows-numbered (Write l block) c = refl
@@ -46,6 +46,8 @@ rows-numbered (Revert name) c = refl
 rows-numbered (Listing records) c = refl
 rows-numbered Check c = refl
 rows-numbered (Visit target name l) c = refl
+rows-numbered (SpanRead target name o bytes) c = refl
+rows-numbered (SpanWrite o bytes) c = refl
 
 -- a number that no row has is not given
 fresh-by : (r : Row) (rs : List Row) (n : ℕ) (h : Bool) → (r .number ≡ n → ⊥) → (firstRow rs .number ≡ n → ⊥) → pick h (answer (r .number) (r .place)) (firstRow rs) .number ≡ n → ⊥

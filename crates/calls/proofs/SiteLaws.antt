@@ -21,7 +21,8 @@ use Rattle.calls.specs.declared.answer.Site.{Site}
 use Rattle.calls.specs.Call.{Snap, None, answer, accepted}
 use Rattle.calls.specs.Parts.{areaBad, snapshotsOf, SoundCard}
 use Rattle.calls.specs.Ladder.{Row, row, firstRow, siteRows, snapRows}
-use Rattle.calls.specs.Effect.{noSite, siteOf, snapping, snapStores}
+use Rattle.calls.specs.Stores.{snapping, snapStores}
+use Rattle.calls.specs.Effect.{noSite, siteOf}
 use Rattle.calls.specs.Meaning.{rowsOf, answerOf, storesOf, lentOf, filledOf, givenOf}
 use Rattle.calls.specs.Step.{step, done}
 use Rattle.calls.proofs.CardLaws.{card-sound, card-some, card-all, card-at, card-alpha, card-active, card-snapshot-count, card-small, chain-is}

@@ -8,7 +8,7 @@ use Rattle.blocks.specs.Bytes.{Store, store, storeBlock, storeAll}
 use Rattle.blocks.specs.Descriptor.{costOf, tailAt, descriptorBlock, renamedOf, linkedOf, reopenedOf, copying, reopening}
 use Rattle.blocks.specs.declared.descriptor.Descriptor.{Descriptor}
 use Rattle.blocks.proofs.RegionLaws.{reopening-tail}
-use Rattle.calls.specs.Effect.{snapping}
+use Rattle.calls.specs.Stores.{snapping}
 use Rattle.blocks.proofs.StoreLists.{stored-append, stored-one}
 
 -- the region opened, then the old descriptor, whose bytes 40 to 511 are as they were

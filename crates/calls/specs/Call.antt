@@ -6,9 +6,11 @@ use Rattle.calls.specs.declared.answer.Target.{Target}
 use Rattle.calls.specs.declared.answer.Record.{Record}
 use Rattle.blocks.specs.declared.descriptor.Format.{Format}
 
--- Each call stands with its arguments and the content, at its entry, of what is lent besides the card: a read's block, a write's block, a list.
--- A name is any sixteen bytes; a block and a list have any length. The name beside a read of the active store is not looked at, nor is a visit's.
--- Visit is document 02's new call, W2: which visit's region holds what a read of this target gives.
+-- Each call stands with its arguments and the content, at its entry, of what is lent besides the card: a read's block, a write's block, the bytes of a span, a list.
+-- A name is any sixteen bytes; a block, the bytes of a span and a list have any length. The name beside a read of the active store is not looked at, nor is a visit's
+-- or a span read's.
+-- Visit is document 02's new call, W2: which visit's region holds what a read of this target gives. SpanRead and SpanWrite are those of W1: from byte `offset` of the
+-- volume on, as many bytes as are lent.
 pub data Call : Type 0 where
   Ream : (format : Format) → Call
   Read : (target : Target) → (name : List ℕ) → (l : ℕ) → (block : List ℕ) → Call
@@ -18,8 +20,10 @@ pub data Call : Type 0 where
   Listing : (records : List Record) → Call
   Check : Call
   Visit : (target : Target) → (name : List ℕ) → (l : ℕ) → Call
+  SpanRead : (target : Target) → (name : List ℕ) → (offset : ℕ) → (bytes : List ℕ) → Call
+  SpanWrite : (offset : ℕ) → (bytes : List ℕ) → Call
 
--- what is lent to a call besides the card
+-- what is lent to a call besides the card: nothing, bytes, or records
 pub data Lent : Type 0 where
   None : Lent
   Block : List ℕ → Lent

@@ -1,7 +1,7 @@
 -- Where each refusal is made: for each call the rows of 01's table that it meets, from top to bottom; the first that holds is given.
 use mathlib.Core.Bool.{Bool, not, _&&_, _||_}
 use mathlib.Core.List.{List, [], _∷_, _++_}
-use Prim.Native.Nat.{ℕ, _+_}
+use Prim.Native.Nat.{ℕ, _+_, _*_}
 use lib.ListN.{length}
 use lib.Dec.{eqb, ltb, leb}
 use Rattle.blocks.specs.Pick.{pick}
@@ -16,6 +16,7 @@ use Rattle.calls.specs.declared.answer.Record.{Record}
 use Rattle.calls.specs.Call.{answer, accepted}
 use Rattle.calls.specs.Parts.{areaBad, descriptorsOf, snapshotsOf, targetOf, isSnapshot, foundThrough, isMisplaced, holderOf, mostSnapshots}
 use Rattle.calls.specs.Check.{checkCard, isFault, faultHolder}
+use Rattle.calls.specs.Spans.{spanVerdict, writeSpanNeed}
 use Rattle.blocks.specs.declared.descriptor.Format.{Format}
 
 -- a row: its condition, the number that it gives and the place
@@ -127,5 +128,33 @@ revertRows c name = nameRow name ∷ chainRow c ∷ row (not (named (snapshotsOf
 unfoldable pub listRows : List ℕ → List Record → List Row
 listRows c records = chainRow c ∷ row (ltb (length records) (length (descriptorsOf c))) 14 0 ∷ []
 
+abbrev pub faultRow : List ℕ → Row
+faultRow c = row (isFault (checkCard c)) 10 (faultHolder (checkCard c))
+
 unfoldable pub checkRows : List ℕ → List Row
-checkRows c = chainRow c ∷ row (isFault (checkCard c)) 10 (faultHolder (checkCard c)) ∷ []
+checkRows c = chainRow c ∷ faultRow c ∷ []
+
+-- "16, offset plus length past the volume's end, where 8 stands; spans have no 8 or 9" (02, W1)
+abbrev pub spanRow : List ℕ → ℕ → ℕ → Row
+spanRow c o n = row (ltb (blockSize * activeOf (descriptorsOf c) .volume) (o + n)) 16 0
+
+-- a span read: the first of its blocks, rising, whose entry is not in place
+unfoldable pub spanReadRows : List ℕ → Target → List ℕ → ℕ → List ℕ → List Row
+spanReadRows c target name o bytes =
+    let ds = descriptorsOf c in
+    let verdict = spanVerdict c (targetOf ds target name) o (length bytes) in
+    targetRow target name
+    ∷ chainRow c
+    ∷ row (isSnapshot target && not (named (snapshotsOf ds) name)) 7 0
+    ∷ spanRow c o (length bytes)
+    ∷ row (isFault verdict) 10 (faultHolder verdict)
+    ∷ []
+
+-- a span write: "On a card that fails check it gets check's answer, 10 standing where 10 stands"
+unfoldable pub spanWriteRows : List ℕ → ℕ → List ℕ → List Row
+spanWriteRows c o bytes =
+    chainRow c
+    ∷ spanRow c o (length bytes)
+    ∷ faultRow c
+    ∷ row (ltb (blockCount c) (activeOf (descriptorsOf c) .beta .0 + writeSpanNeed c o bytes)) 11 0
+    ∷ []

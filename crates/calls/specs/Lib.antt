@@ -2,6 +2,8 @@
 pub mod Call
 pub mod Parts
 pub mod Check
+pub mod Stores
+pub mod Spans
 pub mod Ladder
 pub mod Effect
 pub mod Meaning

@@ -5,10 +5,12 @@ use lib.ListN.{length, drop}
 use Rattle.blocks.specs.Bytes.{Store}
 use Rattle.blocks.specs.Descriptor.{opening}
 use Rattle.calls.specs.declared.answer.Answer.{Answer}
-use Rattle.calls.specs.Call.{Call, Ream, Read, Write, Snap, Revert, Listing, Check, Visit, Lent, None, Block, Records, Given, NoneGiven}
+use Rattle.calls.specs.Call.{Call, Ream, Read, Write, Snap, Revert, Listing, Check, Visit, SpanRead, SpanWrite, Lent, None, Block, Records, Given, NoneGiven}
 use Rattle.calls.specs.Parts.{descriptorsOf, targetOf, foundThrough, blockFound}
-use Rattle.calls.specs.Ladder.{Row, firstRow, admission, reamRows, readRows, writeRows, snapRows, revertRows, listRows, checkRows, visitRows}
-use Rattle.calls.specs.Effect.{writeStores, snapStores, revertStores, listed, visitGiven}
+use Rattle.calls.specs.Spans.{spanBytes, writeSpanStores}
+use Rattle.calls.specs.Ladder.{Row, firstRow, admission, reamRows, readRows, writeRows, snapRows, revertRows, listRows, checkRows, visitRows, spanReadRows, spanWriteRows}
+use Rattle.calls.specs.Stores.{writeStores, snapStores, revertStores}
+use Rattle.calls.specs.Effect.{listed, visitGiven}
 
 -- what is said of a call. All but `lent` are by the card at entry: the rows of its own, which follow those of admission; and of an accepted call
 -- the stores, what was lent as it leaves it, and what it gives
@@ -38,6 +40,9 @@ meaningOf (Snap name) = changing (λ c. snapRows c name) (λ c. snapStores c nam
 meaningOf (Revert name) = changing (λ c. revertRows c name) (λ c. revertStores c name) None
 meaningOf (Listing records) = looking (λ c. listRows c records) (Records records) (λ c. let ds = descriptorsOf c in Records (listed ds (drop (length ds) records)))
 meaningOf Check = looking (λ c. checkRows c) None (λ c. None)
+meaningOf (SpanRead target name o bytes) =
+    looking (λ c. spanReadRows c target name o bytes) (Block bytes) (λ c. Block (spanBytes c (targetOf (descriptorsOf c) target name) o (length bytes)))
+meaningOf (SpanWrite o bytes) = changing (λ c. spanWriteRows c o bytes) (λ c. writeSpanStores c o bytes) (Block bytes)
 meaningOf (Visit target name l) = giving (λ c. visitRows c target name l) (λ c. visitGiven c target name l)
 
 -- the rows of a call on a card, and number and place of its answer

@@ -69,6 +69,11 @@ pub const TOO_MANY_SNAPSHOTS: Answer = Answer {
     place: 0,
 };
 
+pub const PAST_THE_END: Answer = Answer {
+    number: 16,
+    place: 0,
+};
+
 pub const BAD_REVISION: Answer = Answer {
     number: 17,
     place: 0,

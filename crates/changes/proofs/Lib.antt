@@ -1,4 +1,4 @@
--- What an accepted format, write, snap and revert leave: stores of whole blocks, the chain, the entries; and that a card that passed still passes.
+-- What an accepted format, write, span write, snap and revert leave: stores of whole blocks, the chain, the entries; and that a card that passed still passes.
 pub mod WholeLaws
 pub mod RevertedChain
 pub mod SnappedChain
@@ -11,3 +11,4 @@ pub mod WriteFacts
 pub mod WriteOwn
 pub mod WriteNew
 pub mod WritePasses
+pub mod SpanSteps

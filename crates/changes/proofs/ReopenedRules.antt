@@ -28,7 +28,7 @@ use Rattle.entries.proofs.LocalLaws.{Region}
 use Rattle.entries.proofs.RulesLaws.{shared-rules, shared-entry, rules-renamed, rules-reopened, entry-renamed, reopened-entry}
 use Rattle.calls.specs.Parts.{descriptorsOf, snapshotsOf, withName}
 use Rattle.calls.specs.Check.{Passes}
-use Rattle.calls.specs.Effect.{activatedOf, revertStores}
+use Rattle.calls.specs.Stores.{activatedOf, revertStores}
 use Rattle.calls.proofs.Passed.{RevertPassed}
 use Rattle.calls.proofs.CardLaws.{chain-is, area-kept}
 use Rattle.calls.proofs.ActiveLaws.{chain-starts, region-at, region-below}

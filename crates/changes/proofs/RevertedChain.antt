@@ -21,7 +21,7 @@ use Rattle.blocks.proofs.NameLaws.{name-size}
 use Rattle.blocks.proofs.RegionLaws.{reopening-above, reopening-covers, reopening-kept, reopening-block}
 use Rattle.chains.proofs.NamedLaws.{named-left, index-below}
 use Rattle.calls.specs.Parts.{descriptorsOf, snapshotsOf, withName}
-use Rattle.calls.specs.Effect.{activatedOf, reverting, revertStores, staying}
+use Rattle.calls.specs.Stores.{activatedOf, reverting, revertStores, staying}
 use Rattle.calls.proofs.CardLaws.{card-most, chain-is}
 use Rattle.calls.proofs.Passed.{RevertPassed}
 use Rattle.calls.proofs.VisitLaws.{before, behind, name-split, visit-split, visit-next, visit-room, visit-end}

@@ -21,7 +21,7 @@ use Rattle.entries.specs.Entry.{entryAt, phiAt}
 use Rattle.entries.specs.Rules.{Rules, entryOf}
 use Rattle.calls.specs.Parts.{descriptorsOf, snapshotsOf, withName}
 use Rattle.calls.specs.Check.{Passes}
-use Rattle.calls.specs.Effect.{activatedOf, revertStores}
+use Rattle.calls.specs.Stores.{activatedOf, revertStores}
 use Rattle.blocks.proofs.StoreLists.{stored-other, one-stored}
 use Rattle.entries.proofs.TableLaws.{fewer-placed, placed-apart, own-inside, few-tables, block-entry, phi-stored}
 use Rattle.calls.proofs.Passed.{RevertPassed}

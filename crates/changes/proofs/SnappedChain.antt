@@ -19,7 +19,7 @@ use Rattle.blocks.proofs.DescriptorLaws.{Fits, tail-length, fits-of, cost-least
 use Rattle.chains.proofs.NamedLaws.{named-one, named-append, named-left}
 use Rattle.links.proofs.LinkedLaws.{last, more, chain-linked}
 use Rattle.calls.specs.Parts.{areaBad, descriptorsOf, snapshotsOf}
-use Rattle.calls.specs.Effect.{snapping, snapStores}
+use Rattle.calls.specs.Stores.{snapping, snapStores}
 use Rattle.calls.proofs.Passed.{SnapPassed}
 use Rattle.links.proofs.SharedLaws.{linked-chain}
 use Rattle.links.proofs.RelinkedLaws.{relinked}

@@ -22,7 +22,7 @@ use Rattle.entries.specs.Rules.{Rules, entryOf}
 use Rattle.entries.proofs.EntryLaws.{placed-below}
 use Rattle.calls.specs.Parts.{descriptorsOf, snapshotsOf}
 use Rattle.calls.specs.Check.{Passes}
-use Rattle.calls.specs.Effect.{snapStores}
+use Rattle.calls.specs.Stores.{snapStores}
 use Rattle.blocks.proofs.StoreLists.{Whole, none, also, stored-join, stored-length, stored-other, stored-append, copies-stored, copied-in, pair-stored}
 use Rattle.entries.proofs.TableLaws.{placed-apart, own-inside, few-tables, block-entry, phi-stored, under}
 use Rattle.calls.proofs.Passed.{SnapPassed}

@@ -21,7 +21,7 @@ use Rattle.entries.specs.declared.find.Found.{Found}
 use Rattle.entries.specs.declared.find.Found.the-variants.{Misplaced, Entry}
 use Rattle.entries.proofs.PutLaws.{write-ready, entry-inside}
 use Rattle.calls.specs.Parts.{areaBad, descriptorsOf, snapshotsOf, withName, foundThrough}
-use Rattle.calls.specs.Effect.{activatedOf, snapping, reverting, writeStores, snapStores, revertStores}
+use Rattle.calls.specs.Stores.{activatedOf, snapping, reverting, writeStores, snapStores, revertStores}
 use Rattle.calls.proofs.CardLaws.{chain-is}
 use Rattle.calls.proofs.VisitLaws.{before, behind, visit-split, visit-end}
 use Rattle.calls.proofs.Passed.{ReamPassed, WritePassed, SnapPassed, RevertPassed}

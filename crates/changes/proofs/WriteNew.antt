@@ -29,7 +29,7 @@ use Rattle.entries.proofs.EntryLaws.{placed-below, new-table, placed-not-active
 use Rattle.entries.proofs.SetLaws.{tail-with-length, source-length, with-set, tail-set, with-other, tail-other}
 use Rattle.calls.specs.Parts.{descriptorsOf, snapshotsOf, foundThrough}
 use Rattle.calls.specs.Check.{Passes}
-use Rattle.calls.specs.Effect.{writeStores}
+use Rattle.calls.specs.Stores.{writeStores}
 use Rattle.calls.proofs.CardLaws.{card-most, chain-is, active-split}
 use Rattle.links.proofs.StoredLaws.{stored-bytes, block-tail}
 use Rattle.blocks.proofs.StoreLists.{Whole, isStored, stored-length, stored-other, none-stored, not-stored, stored-among}

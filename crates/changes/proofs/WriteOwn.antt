@@ -29,7 +29,7 @@ use Rattle.entries.specs.declared.find.Found.the-variants.{Entry}
 use Rattle.entries.proofs.EntryLaws.{placed-below, old-table, placed-not-active, need-nothing}
 use Rattle.calls.specs.Parts.{descriptorsOf, snapshotsOf, foundThrough}
 use Rattle.calls.specs.Check.{Passes}
-use Rattle.calls.specs.Effect.{writeStores}
+use Rattle.calls.specs.Stores.{writeStores}
 use Rattle.calls.proofs.CardLaws.{card-most, chain-is, active-split}
 use Rattle.blocks.proofs.StoreLists.{Whole, stored-length, stored-other, none-stored, one-stored, not-stored, stored-among}
 use Rattle.entries.proofs.LocalLaws.{Region, phi-shared}

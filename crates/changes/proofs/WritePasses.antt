@@ -16,7 +16,7 @@ use Rattle.entries.specs.declared.find.Found.{Found}
 use Rattle.entries.specs.declared.find.Found.the-variants.{Misplaced, Entry}
 use Rattle.calls.specs.Parts.{descriptorsOf, snapshotsOf, foundThrough, isMisplaced}
 use Rattle.calls.specs.Check.{Passes}
-use Rattle.calls.specs.Effect.{writeStores}
+use Rattle.calls.specs.Stores.{writeStores}
 use Rattle.calls.proofs.Passed.{WritePassed}
 use Rattle.changes.proofs.WrittenRules.{passes-write-by}
 use Rattle.changes.proofs.WriteFacts.{WriteFacts, WritePlaces}

@@ -24,7 +24,7 @@ use Rattle.entries.specs.declared.find.Found.the-variants.{Misplaced, Entry}
 use Rattle.entries.proofs.EntryLaws.{find-placed, need-more, new-table, old-table, placed-not-active, need-nothing}
 use Rattle.entries.proofs.SetLaws.{tail-with-length, put-reserved}
 use Rattle.calls.specs.Parts.{descriptorsOf, snapshotsOf, foundThrough, isMisplaced}
-use Rattle.calls.specs.Effect.{writeStores}
+use Rattle.calls.specs.Stores.{writeStores}
 use Rattle.calls.proofs.CardLaws.{card-most, chain-is}
 use Rattle.links.proofs.SharedLaws.{linked-chain, shared-descriptor, shared-revision, shared-sound}
 use Rattle.links.proofs.RelinkedLaws.{linked-head, relinked}

@@ -19,7 +19,7 @@ use Rattle.entries.specs.Entry.{need}
 use Rattle.entries.specs.Rules.{Rules}
 use Rattle.calls.specs.Parts.{descriptorsOf, snapshotsOf, foundThrough}
 use Rattle.calls.specs.Check.{Passes}
-use Rattle.calls.specs.Effect.{writeStores}
+use Rattle.calls.specs.Stores.{writeStores}
 use Rattle.calls.proofs.CardLaws.{chain-is, area-kept}
 use Rattle.blocks.proofs.StoreLists.{stored-length, stored-other}
 use Rattle.links.proofs.SharedLaws.{Below}

@@ -84,7 +84,7 @@ fn check_large(card: &[u8], starts: &[u32], count: usize) -> Verdict
 }
 
 // The same, with the smallest of the three numbers of flags that suffices: on a small card to clear more would be most of the work.
-fn check_regions(card: &[u8], starts: &[u32], count: usize) -> Verdict
+pub fn check_regions(card: &[u8], starts: &[u32], count: usize) -> Verdict
     requires { ⌜ SoundCard (now card) count (now starts) ⌝ }
     ensures { λ r. ⌜ r ≡ checkCard (now (card .entry)) ⌝ }
 {

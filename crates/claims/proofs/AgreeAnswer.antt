@@ -1,22 +1,24 @@
 -- Every call has the same outcome on two cards that agree.
 use mathlib.Core.Path.{_≡_, refl, ap, _∙_, subst}
 use mathlib.Core.Bool.{Bool, true, false}
-use mathlib.Core.List.{List, _++_}
+use mathlib.Core.List.{List, _∷_, _++_}
 use Prim.Native.Nat.{ℕ}
 use Rattle.blocks.specs.Pick.{pick}
 use Rattle.blocks.specs.Bytes.{storeAll}
 use Rattle.calls.specs.Call.{Call}
-use Rattle.calls.specs.Ladder.{Row, firstRow, admission}
+use Rattle.calls.specs.Ladder.{Row, row, areaRow, firstRow, admission}
 use Rattle.calls.specs.Meaning.{rowsOf, answerOf, storesOf, filledOf, givenOf, lentOf}
 use Rattle.calls.specs.Step.{step, done, isAccepted}
 use Rattle.claims.specs.History.{Agree}
-use Rattle.claims.proofs.Agreement.{agree-admission}
+use Rattle.calls.specs.Parts.{areaBad}
+use Rattle.calls.proofs.CardLaws.{area-kept}
 use Rattle.claims.proofs.Owed.{owed}
-use Rattle.calls.proofs.RowLaws.{SameRows, prefix-same, first-same}
+use Rattle.calls.proofs.RowLaws.{SameRows, then, first-same}
 
 module _ (s t : List ℕ) (agree : Agree s t) where
-  own-same : {xs ys : List Row} → SameRows xs ys → firstRow (admission s ++ xs) ≡ firstRow (admission t ++ ys)
-  own-same {xs = xs} {ys = ys} h = first-same (subst (λ (zs : List Row). SameRows (admission s ++ xs) (zs ++ ys)) (agree-admission s t agree) (prefix-same (admission s) h))
+  own-same : {xs ys : List Row} → (areaBad s ≡ false → SameRows xs ys) → firstRow (admission s ++ xs) ≡ firstRow (admission t ++ ys)
+  unfolding admission
+  own-same {xs = xs} {ys = ys} h = first-same (subst (λ (b : Bool). SameRows (areaRow s ∷ xs) (row b 1 0 ∷ ys)) (area-kept s t (agree .long)) (then h))
 
   pub agree-answer : (k : Call) → answerOf k s ≡ answerOf k t
   unfolding answerOf rowsOf

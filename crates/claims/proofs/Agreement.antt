@@ -2,11 +2,11 @@
 use mathlib.Core.Path.{_≡_, refl, sym, ap, _∙_, subst}
 use mathlib.Core.Bool.{true, false, not, _&&_}
 use mathlib.Core.List.{List, [], _∷_}
-use Prim.Native.Nat.{ℕ, suc, _+_, _*_, _≤_, _<_}
+use Prim.Native.Nat.{ℕ, zero, suc, _+_, _*_, _≤_, _<_}
 use native.Mathlib.Omega.{arith}
 use lib.ListN.{length, take, getD}
 use lib.Dec.{ltb}
-use borrow.Author.Tests.{leb-false}
+use borrow.Author.Tests.{leb-false, ltb-false}
 use Rattle.blocks.specs.Bytes.{part, blockAt, blockCount}
 use Rattle.blocks.specs.Descriptor.{noDescriptor}
 use Rattle.chains.specs.Chain.{Chain, Sound, chain, chainSound, descriptors, named, activeOf}
@@ -17,15 +17,19 @@ use Rattle.entries.specs.Entry.{find, need, locatedIn, locate}
 use Rattle.entries.specs.declared.find.Found.{Found}
 use Rattle.calls.specs.declared.answer.Target.{Target}
 use Rattle.calls.specs.declared.answer.Target.the-variants.{Active}
-use Rattle.calls.specs.Call.{Read, Listing, Visit, Block}
-use Rattle.calls.specs.Parts.{descriptorsOf, snapshotsOf, isSnapshot, targetOf, isMisplaced, holderOf, blockFound}
-use Rattle.calls.specs.Check.{checkAll, checkCard}
-use Rattle.calls.specs.Ladder.{row, reamRows, entryRows, readRows, visitRows, writeRows, snapRows, revertRows, listRows, checkRows, admission}
+use Rattle.calls.specs.Call.{Read, Listing, Visit, SpanRead, Block}
+use Rattle.calls.specs.Parts.{descriptorsOf, snapshotsOf, isSnapshot, targetOf, foundThrough, isMisplaced, holderOf, blockFound}
+use Rattle.calls.specs.Check.{checkAll, checkCard, isFault, faultHolder}
+use Rattle.calls.specs.Spans.{misplacedFrom, spanVerdict, gathered, spanBytes}
+use Rattle.pieces.specs.Span.{spanBlock, touched}
+use Rattle.pieces.proofs.SpanLaws.{inside}
+use Rattle.entries.specs.declared.check.Verdict.{Verdict}
+use Rattle.calls.specs.Ladder.{row, reamRows, entryRows, readRows, visitRows, writeRows, snapRows, revertRows, listRows, checkRows, spanReadRows}
 use Rattle.calls.specs.Effect.{givenAt, visitGiven}
 use Rattle.calls.specs.Meaning.{filledOf, givenOf}
 use Rattle.claims.specs.History.{betaOf, Agree}
-use Rattle.calls.proofs.CardLaws.{chain-is, area-kept}
-use Rattle.calls.proofs.Passed.{ReadPassed}
+use Rattle.calls.proofs.CardLaws.{chain-is}
+use Rattle.calls.proofs.Passed.{ReadPassed, SpanReadPassed}
 use Rattle.links.proofs.SharedLaws.{Below, below-linked, linked-chain}
 use Rattle.entries.proofs.LocalLaws.{Region, local-find, local-check}
 use Rattle.calls.specs.declared.answer.Record.{Record}
@@ -97,7 +101,7 @@ module _ (s t : List ℕ) (agree : Agree s t) where
   pub agree-chain : chain s ≡ chain t
   agree-chain = chain-same s t (agree .sound) (agree .long) same-below
 
-  agree-count : blockCount s ≡ blockCount t
+  pub agree-count : blockCount s ≡ blockCount t
   agree-count = count-kept s t (agree .long)
 
   agree-region : (k : ℕ) → k < length ds → Region (getD ds k noDescriptor) (betaOf s)
@@ -117,7 +121,7 @@ module _ (s t : List ℕ) (agree : Agree s t) where
     pub found-same : find s ds (targetOf ds target name) l ≡ find t ds (targetOf ds target name) l
     found-same = local-find s t (betaOf s) agree-below (targetOf ds target name) target-region ds l target-volume
 
-    block-same : blockFound s (find s ds (targetOf ds target name) l) ≡ blockFound t (find t ds (targetOf ds target name) l)
+    pub block-same : blockFound s (find s ds (targetOf ds target name) l) ≡ blockFound t (find t ds (targetOf ds target name) l)
     block-same = local-block s t (betaOf s) agree-below (targetOf ds target name) target-region ds l ∙ ap (blockFound t) found-same
 
   -- check
@@ -126,15 +130,11 @@ module _ (s t : List ℕ) (agree : Agree s t) where
   check-rest [] h = refl
   check-rest (d ∷ rest) h = rw (local-check s t (betaOf s) agree-below d (h 0 (omega arith)) ds, check-rest rest (λ k l. h (suc k) (omega arith)))
 
-  check-card : checkCard s ≡ checkCard t
+  pub check-card : checkCard s ≡ checkCard t
   unfolding checkCard
   check-card = rw (← agree-chain) (check-rest ds agree-region)
 
   -- the rows of each call are the same, as far as they decide
-  pub agree-admission : admission s ≡ admission t
-  unfolding admission
-  agree-admission = rw (area-kept s t (agree .long))
-
   pub ream-rows : (format : Format) → SameRows (reamRows s format) (reamRows t format)
   unfolding reamRows
   ream-rows format = let e : reamRows s format ≡ reamRows t format = rw agree-count in same-rows e
@@ -152,6 +152,46 @@ module _ (s t : List ℕ) (agree : Agree s t) where
   pub visit-rows : (target : Target) (name : List ℕ) (l : ℕ) → SameRows (visitRows s target name l) (visitRows t target name l)
   unfolding visitRows
   visit-rows target name l = then (λ b. entry-rows target name l)
+
+  -- what the blocks of a span find and give
+  module _ (target : Target) (name : List ℕ) (standing : (isSnapshot target && not (named (snapshotsOf ds) name)) ≡ false) where
+    abbrev through : Descriptor
+    through = targetOf ds target name
+
+    found-there : (l : ℕ) → l < activeOf ds .volume → foundThrough s through l ≡ foundThrough t through l
+    found-there l h = found-same target name l standing h ∙ ap (λ (x : Chain). find t (descriptors x) through l) agree-chain
+
+    block-there : (l : ℕ) → l < activeOf ds .volume → blockFound s (foundThrough s through l) ≡ blockFound t (foundThrough t through l)
+    block-there l h = block-same target name l standing h ∙ ap (λ (x : Chain). blockFound t (find t (descriptors x) through l)) agree-chain
+
+    verdict-from : (k l : ℕ) → l + k ≤ activeOf ds .volume → misplacedFrom s through l k ≡ misplacedFrom t through l k
+    unfolding misplacedFrom
+    verdict-from zero l h = refl
+    verdict-from (suc k) l h = rw (found-there l (omega arith), verdict-from k (suc l) (omega arith))
+
+    gathered-same : (o n : ℕ) → o + n ≤ 512 * activeOf ds .volume → (i : ℕ) → i ≤ touched o n → gathered s through o n i ≡ gathered t through o n i
+    unfolding gathered
+    gathered-same o n h zero k = refl
+    gathered-same o n h (suc i) k = rw (gathered-same o n h i (omega arith), block-there (spanBlock o i) (inside o n (activeOf ds .volume) i h k))
+
+    nothing : (l : ℕ) → misplacedFrom s through l 0 ≡ misplacedFrom t through l 0
+    unfolding misplacedFrom
+    nothing l = refl
+
+    verdict-same : (o n : ℕ) → o + n ≤ 512 * activeOf ds .volume → spanVerdict s through o n ≡ spanVerdict t through o n
+    unfolding spanVerdict
+    verdict-same o n h = by (touched o n) refl
+      where
+        by : (k : ℕ) → touched o n ≡ k → misplacedFrom s through (spanBlock o 0) (touched o n) ≡ misplacedFrom t through (spanBlock o 0) (touched o n)
+        by zero e = rw e (nothing (spanBlock o 0))
+        by (suc k) e = verdict-from (touched o n) (spanBlock o 0) (omega (arith, e, inside o n (activeOf ds .volume) k h (omega (arith, e))))
+
+  pub span-read-rows : (target : Target) (name : List ℕ) (o : ℕ) (bytes : List ℕ) → SameRows (spanReadRows s target name o bytes) (spanReadRows t target name o bytes)
+  unfolding spanReadRows
+  span-read-rows target name o bytes =
+      rw (← agree-chain)
+      (then (λ b. then (λ d. then (λ e. then (λ f. same-rows (ap (λ (x : Verdict). row (isFault x) 10 (faultHolder x) ∷ [])
+      (verdict-same target name e o (length bytes) (ltb-false (512 * activeOf ds .volume) (o + length bytes) f))))))))
 
   pub write-rows : (l : ℕ) (block : List ℕ) → SameRows (writeRows s l block) (writeRows t l block)
   unfolding writeRows
@@ -182,6 +222,10 @@ module _ (s t : List ℕ) (agree : Agree s t) where
   pub read-filled : (target : Target) (name : List ℕ) (l : ℕ) (block : List ℕ) → ReadPassed s target name l → filledOf (Read target name l block) s ≡ filledOf (Read target name l block) t
   unfolding filledOf
   read-filled target name l block h = rw (← agree-chain) (ap Block (block-same target name l (h .there) (h .below)))
+
+  pub span-filled : (target : Target) (name : List ℕ) (o : ℕ) (bytes : List ℕ) → SpanReadPassed s target name o bytes → filledOf (SpanRead target name o bytes) s ≡ filledOf (SpanRead target name o bytes) t
+  unfolding filledOf spanBytes
+  span-filled target name o bytes h = rw (← agree-chain) (ap Block (gathered-same target name (h .there) o (length bytes) (h .upto) (touched o (length bytes)) (omega arith)))
 
   -- and what a visit gives
   pub visit-given : (target : Target) (name : List ℕ) (l : ℕ) → ReadPassed s target name l → givenOf (Visit target name l) s ≡ givenOf (Visit target name l) t

@@ -33,7 +33,7 @@ use Rattle.entries.proofs.SetLaws.{table-length, tail-with-length}
 use Rattle.calls.specs.declared.answer.Target.{Target}
 use Rattle.calls.specs.Call.{Call, Read, Write, Snap, Block}
 use Rattle.calls.specs.Parts.{areaBad, descriptorsOf, snapshotsOf, withName, targetOf, foundThrough, isMisplaced, blockFound}
-use Rattle.calls.specs.Effect.{snapping, writeStores, snapStores}
+use Rattle.calls.specs.Stores.{snapping, writeStores, snapStores}
 use Rattle.calls.specs.Meaning.{answerOf, storesOf, filledOf}
 use Rattle.claims.specs.Algorithms.{Sigma, put, putNumber, copyRange, closeRegion, openRegion, algorithm1, algorithm2, algorithm3, algorithm4, algorithm5, algorithm6}
 use Rattle.calls.specs.Step.{step, isAccepted}

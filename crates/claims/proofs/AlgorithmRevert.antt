@@ -19,7 +19,7 @@ use Rattle.entries.specs.Through.{Through}
 use Rattle.entries.proofs.EntryLaws.{through-alpha}
 use Rattle.calls.specs.Call.{Revert}
 use Rattle.calls.specs.Parts.{descriptorsOf, snapshotsOf, withName}
-use Rattle.calls.specs.Effect.{activatedOf, revertStores}
+use Rattle.calls.specs.Stores.{activatedOf, revertStores}
 use Rattle.calls.specs.Meaning.{answerOf, storesOf}
 use Rattle.calls.specs.Step.{step, isAccepted}
 use Rattle.calls.proofs.Passed.{RevertPassed, revert-passed}

@@ -19,15 +19,18 @@ use Rattle.entries.specs.Entry.{need, tableIsNew, tableWith, tailWith, setInTab
 use Rattle.entries.specs.declared.find.Found.{Found}
 use Rattle.entries.specs.declared.find.Found.the-variants.{Misplaced, Entry}
 use Rattle.calls.specs.Call.{Call}
-use Rattle.calls.specs.Parts.{areaBad, descriptorsOf, snapshotsOf, withName, foundThrough}
-use Rattle.calls.specs.Effect.{activatedOf, snapping, reverting, writeStores, snapStores, revertStores}
+use Rattle.calls.specs.Parts.{areaBad, descriptorsOf, snapshotsOf, withName, foundThrough, blockFound}
+use Rattle.calls.specs.Stores.{activatedOf, snapping, reverting, writeStores, snapStores, revertStores}
 use Rattle.calls.specs.Step.{step, after}
 use Rattle.claims.specs.History.{formats, isFormat, AreBytes, bytesOf, writtenBy, Standing, none, more, formattable, formatted}
 use Rattle.claims.proofs.Runs.{standing-length, step-length}
 use Rattle.calls.proofs.Passed.{WritePassed, SnapPassed, RevertPassed}
 use Rattle.claims.specs.Kinds.{Kind}
-use Rattle.claims.proofs.Changes.{storesBy, Allowed, to-format, to-leave, to-write, to-snap, to-revert}
+use Rattle.claims.proofs.Changes.{storesBy, Allowed, to-format, to-leave, to-write, to-span, to-snap, to-revert}
 use Rattle.claims.proofs.Steps.{step-cases}
+use Rattle.pieces.specs.Span.{pieceOf, merged}
+use Rattle.calls.specs.Spans.{mergedOn, spanCount, writeSpanStores}
+use Rattle.changes.proofs.SpanSteps.{span-keeps}
 use Rattle.blocks.specs.declared.descriptor.Format.{Format}
 use Rattle.calls.proofs.ActiveLaws.{active-name}
 use Rattle.calls.proofs.CardLaws.{chain-is}
@@ -249,18 +252,34 @@ module _ (c : List ℕ) (card : AreBytes c) where
       let ds = descriptorsOf c in
       stores-reverting (withName (snapshotsOf ds) name) (activeOf ds .name) (active-bytes (e .area) (e .sound))
 
-  stores-change : {x : Kind} → AreBytes (bytesOf x) → formats x ≡ false → Allowed c x → ByteStores (storesBy x c)
-  unfolding bytesOf formats storesBy
-  stores-change w f (to-format h) = no (sym f)
-  stores-change w f to-leave = nothing
-  stores-change w f (to-write {l = l} {block = block} h) = stores-write l block w h
-  stores-change w f (to-snap {name = name} h) = stores-snap name h
-  stores-change w f (to-revert {name = name} h) = stores-revert name h
+-- the bytes of a block that is read, and of one with a span's bytes laid over it
+bytes-found : (c : List ℕ) → AreBytes c → (f : Found) → AreBytes (blockFound c f)
+unfolding blockFound
+bytes-found c h (Misplaced x) = bytes-zeros 512
+bytes-found c h (Entry m p) = bytes-pick (eqb (p .0) 0) zeroBlock (blockAt c (p .0)) (bytes-zeros 512) (bytes-block c (p .0) h)
+
+bytes-merged : (c : List ℕ) → AreBytes c → (o : ℕ) (bytes : List ℕ) → AreBytes bytes → (l : ℕ) → AreBytes (mergedOn c o bytes l)
+unfolding mergedOn merged
+bytes-merged c h o bytes w l =
+    let p = pieceOf o (length bytes) l in
+    let f = foundThrough c (activeOf (descriptorsOf c)) l in
+    bytes-splice (blockFound c f) (p .first) (part bytes (p .stands) (p .count)) (bytes-found c h f) (bytes-part bytes (p .stands) (p .count) w)
+
+module _ (c : List ℕ) (card : AreBytes c) where
+  bytes-change : {x : Kind} → AreBytes (bytesOf x) → formats x ≡ false → Allowed c x → AreBytes (storeAll c (storesBy x c))
+  unfolding bytesOf formats storesBy writeSpanStores
+  bytes-change w f (to-format h) = no (sym f)
+  bytes-change w f to-leave = bytes-stored c card nothing
+  bytes-change w f (to-write {l = l} {block = block} h) = bytes-stored c card (stores-write c card l block w h)
+  bytes-change w f (to-span {o = o} {bytes = bytes} h) =
+      span-keeps c o bytes h AreBytes card (λ s l p e b. bytes-stored s b (stores-write s b l (mergedOn s o bytes l) (bytes-merged s b o bytes w l) e)) (spanCount o bytes) (omega arith)
+  bytes-change w f (to-snap {name = name} h) = bytes-stored c card (stores-snap c card name h)
+  bytes-change w f (to-revert {name = name} h) = bytes-stored c card (stores-revert c card name h)
 
 -- a call that is no accepted format, and a list of them
 pub bytes-step : (k : Call) (c : List ℕ) → AreBytes c → AreBytes (writtenBy k) → isFormat k c ≡ false → AreBytes (step k c .card)
 unfolding writtenBy
-bytes-step k c h w f = step-cases k c AreBytes (λ e. h) (λ e n a. bytes-stored c h (stores-change c h w n a)) f
+bytes-step k c h w f = step-cases k c AreBytes (λ e. h) (λ e n a. bytes-change c h w n a) f
 
 pub bytes-run : (ks : List Call) (c : List ℕ) → AreBytes c → Standing c ks → AreBytes (after ks c)
 unfolding after

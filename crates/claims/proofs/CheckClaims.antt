@@ -25,7 +25,7 @@ use Rattle.entries.specs.declared.check.Verdict.{Verdict}
 use Rattle.entries.specs.declared.check.Verdict.the-variants.{Passed, Fault}
 use Rattle.entries.proofs.CheckLaws.{fault-later, fault-here}
 use Rattle.calls.specs.declared.answer.Answer.{Answer}
-use Rattle.calls.specs.Call.{Check, answer, accepted}
+use Rattle.calls.specs.Call.{Check, SpanWrite, answer, accepted}
 use Rattle.calls.specs.Parts.{areaBad, descriptorsOf}
 use Rattle.calls.specs.Check.{orElse, checkAll, checkCard, isFault, faultHolder, Passes}
 use Rattle.calls.specs.Ladder.{firstRow, checkRows, admission}
@@ -33,7 +33,8 @@ use Rattle.calls.specs.Meaning.{rowsOf, answerOf}
 use Rattle.claims.specs.Claims.{CheckClaim, valuesOf, noNaming, FirstFault, FaultClaim}
 use Rattle.calls.proofs.CardLaws.{chain-is}
 use Rattle.entries.proofs.TableLaws.{few-tables, table-two, layout-two, table-own}
-use Rattle.calls.proofs.Passed.{check-passed}
+use Rattle.calls.proofs.Passed.{check-passed, span-write-passed}
+use Rattle.changes.proofs.SpanSteps.{SpanPassed}
 use Rattle.calls.specs.Step.{isAccepted}
 
 -- the parts of a fault, as tests: p in place, z nil, k counted, a named before, o against the rule on old tables
@@ -671,6 +672,18 @@ unfolding checkCard
 passes-accepted c p =
     rows-accepted c (p .area) (ap not (p .sound))
     (passed-fault (checkCard c) (all-kept c (descriptorsOf c) (descriptorsOf c) (λ k h. rules-check c (p .sound) k h (p .rules k h))))
+
+-- the same by the verdict alone, and what it gives a span write
+pub faultless-passes : (c : List ℕ) → areaBad c ≡ false → chainSound (chain c) ≡ true → isFault (checkCard c) ≡ false → Passes c
+faultless-passes c a s f = accepted-passes c (rows-accepted c a (ap not s) f)
+
+pub passes-faultless : (c : List ℕ) → Passes c → isFault (checkCard c) ≡ false
+passes-faultless c p = accepted-rows c (passes-accepted c p) .2
+
+pub span-allowed : (c : List ℕ) (o : ℕ) (bytes : List ℕ) → isAccepted (answerOf (SpanWrite o bytes) c) ≡ true → SpanPassed c o bytes
+span-allowed c o bytes e =
+    let h = span-write-passed c o bytes e in
+    record { passes = faultless-passes c (h .area) (h .sound) (h .faultless); upto = h .upto; room = h .room }
 
 -- check answers 0 exactly on the cards that pass
 pub check-claim : CheckClaim

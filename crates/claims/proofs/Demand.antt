@@ -15,7 +15,7 @@ use Rattle.claims.specs.Claims.{Matched, LastSnap, Forgets, RevertedAt, 
 use Rattle.claims.proofs.Runs.{standing-take}
 use Rattle.claims.proofs.Latest.{latest-nowhere, latest-at}
 use Rattle.claims.proofs.Format.{formatted-passes, formatted-descriptors, formatted-revision}
-use Rattle.calls.specs.Effect.{staying}
+use Rattle.calls.specs.Stores.{staying}
 use Rattle.claims.proofs.CardBytes.{bytes-run, bytes-format}
 use Rattle.claims.proofs.Rollback.{s-named, s-accepted, forgets-start, earlier, forgets-snap}
 use Rattle.blocks.specs.declared.descriptor.Format.{Format}

@@ -20,20 +20,22 @@ use Rattle.links.proofs.ChainLaws.{active-snoc, descriptors-are}
 use Rattle.entries.specs.Entry.{need}
 use Rattle.calls.specs.Call.{Call}
 use Rattle.calls.specs.Parts.{descriptorsOf, snapshotsOf, withName, foundThrough}
-use Rattle.calls.specs.Effect.{writeStores, snapStores, revertStores, staying}
+use Rattle.calls.specs.Stores.{writeStores, snapStores, revertStores, staying}
 use Rattle.calls.specs.Step.{step}
 use Rattle.claims.specs.History.{isFormat, formats}
 use Rattle.links.proofs.RelinkedLaws.{beta-before}
 use Rattle.blocks.proofs.StoreLists.{isStored, stored-length, stored-other, Whole}
 use Rattle.calls.proofs.Passed.{WritePassed, SnapPassed, RevertPassed}
 use Rattle.claims.specs.Kinds.{Kind}
-use Rattle.claims.proofs.Changes.{storesBy, Allowed, to-format, to-leave, to-write, to-snap, to-revert}
+use Rattle.claims.proofs.Changes.{storesBy, Allowed, to-format, to-leave, to-write, to-span, to-snap, to-revert}
 use Rattle.claims.proofs.Steps.{step-cases}
 use Rattle.calls.proofs.CardLaws.{active-split, snapshots-snoc, snapshots-are, active-is}
 use Rattle.links.proofs.MemberLaws.{member-from, member-fresh}
 use Rattle.changes.proofs.WholeLaws.{write-whole, snap-whole, revert-whole}
 use Rattle.calls.proofs.VisitLaws.{before, behind}
 use Rattle.changes.proofs.RevertedChain.{returnedOf, revert-split, visit-below, reverted-chain, returned, revert-above}
+use Rattle.changes.proofs.SpanSteps.{span-keeps}
+use Rattle.calls.specs.Spans.{mergedOn, spanCount, writeSpanStores}
 use Rattle.changes.proofs.SnappedChain.{snap-above, snapped-chain}
 use Rattle.changes.proofs.WrittenChain.{written-chain, write-above}
 use Rattle.chains.proofs.NamedLaws.{named-left}
@@ -176,17 +178,20 @@ module _ (s : List ℕ) (xs : List Descriptor) (v : Descriptor) (n : List ℕ) (
     revert-by true q = inr (gone (leb-true j (length xs) q))
     revert-by false q = inl (stands-later (leb-false j (length xs) q))
 
-  -- every change that is no format
+-- every change that is no format
+module _ (s : List ℕ) (xs : List Descriptor) (v : Descriptor) (n : List ℕ) (t : List ℕ) (h : Stands s xs v n t) where
   abbrev Either : List ℕ → Type 0
   Either c = Stands s xs v n c ⊎ (named (snapshotsOf (descriptorsOf c)) (v .name) ≡ false)
 
   stands-change : {x : Kind} → formats x ≡ false → Allowed t x → Either (storeAll t (storesBy x t))
-  unfolding formats storesBy storeAll
+  unfolding formats storesBy storeAll writeSpanStores
   stands-change f (to-format e) = no (sym f)
   stands-change f to-leave = inl h
-  stands-change f (to-write {l = l} {block = block} e) = inl (stands-write l block e)
-  stands-change f (to-snap {name = name} e) = inl (stands-snap name e)
-  stands-change f (to-revert {name = name} e) = revert-by name e (leb (staying (revisionOf t) (indexOf (snapshotsOf (descriptorsOf t)) name)) (length xs)) refl
+  stands-change f (to-write {l = l} {block = block} e) = inl (stands-write s xs v n t h l block e)
+  stands-change f (to-span {o = o} {bytes = bytes} e) =
+      inl (span-keeps t o bytes e (Stands s xs v n) h (λ u l p w k. stands-write s xs v n u k l (mergedOn u o bytes l) w) (spanCount o bytes) (omega arith))
+  stands-change f (to-snap {name = name} e) = inl (stands-snap s xs v n t h name e)
+  stands-change f (to-revert {name = name} e) = revert-by s xs v n t h name e (leb (staying (revisionOf t) (indexOf (snapshotsOf (descriptorsOf t)) name)) (length xs)) refl
 
   pub stands-step : (k : Call) → isFormat k t ≡ false → Stands s xs v n (step k t .card) ⊎ (named (snapshotsOf (descriptorsOf (step k t .card))) (v .name) ≡ false)
   stands-step k f = step-cases k t Either (λ e. inl h) (λ e g a. stands-change g a) f

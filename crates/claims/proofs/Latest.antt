@@ -18,7 +18,7 @@ use Rattle.links.proofs.ChainLaws.{descriptors-are}
 use Rattle.calls.specs.Call.{Call}
 use Rattle.calls.specs.Parts.{descriptorsOf, snapshotsOf}
 use Rattle.calls.specs.Meaning.{answerOf}
-use Rattle.calls.specs.Effect.{writeStores, snapStores, revertStores, staying}
+use Rattle.calls.specs.Stores.{writeStores, snapStores, revertStores, staying}
 use Rattle.calls.specs.Step.{step, after, isAccepted}
 use Rattle.claims.specs.History.{isFormat, Standing, more, isSnapOf, Position, Nowhere, At, latestFrom, latestSnap, formats, snapsAs}
 use Rattle.claims.specs.Claims.{Unsnapped, end, then, LastSnap}
@@ -26,10 +26,12 @@ use Rattle.claims.proofs.Kept.{Stands, stands-step}
 use Rattle.claims.proofs.Runs.{standing-length, step-length}
 use Rattle.calls.proofs.Passed.{WritePassed, SnapPassed, RevertPassed}
 use Rattle.claims.specs.Kinds.{Kind, kindOf}
-use Rattle.claims.proofs.Changes.{storesBy, Allowed, to-format, to-leave, to-write, to-snap, to-revert}
+use Rattle.claims.proofs.Changes.{storesBy, Allowed, to-format, to-leave, to-write, to-span, to-snap, to-revert}
 use Rattle.claims.proofs.Steps.{step-cases}
 use Rattle.calls.proofs.CardLaws.{snapshots-snoc}
 use Rattle.changes.proofs.RevertedChain.{reverted-chain}
+use Rattle.changes.proofs.SpanSteps.{passed-at}
+use Rattle.calls.specs.Spans.{spanCount, writeSpanStores}
 use Rattle.changes.proofs.SnappedChain.{snapped-chain}
 use Rattle.changes.proofs.WrittenChain.{written-chain}
 
@@ -57,10 +59,12 @@ module _ (n t : List ℕ) (gone : named (snapshotsOf (descriptorsOf t)) n ≡ fa
       (named-left (take j ss) (drop j ss) n (ap (λ (ds : List Descriptor). named ds n) (take-append-drop j ss) ∙ gone))
 
   gone-change : {x : Kind} → formats x ≡ false → snapsAs n x ≡ false → Allowed t x → named (snapshotsOf (descriptorsOf (storeAll t (storesBy x t)))) n ≡ false
-  unfolding formats snapsAs storesBy storeAll
+  unfolding formats snapsAs storesBy storeAll writeSpanStores
   gone-change f o (to-format e) = no (sym f)
   gone-change f o to-leave = gone
   gone-change f o (to-write {l = l} {block = block} e) = gone-write l block e
+  gone-change f o (to-span {o = offset} {bytes = bytes} e) =
+      gone-by (storeAll t (writeSpanStores t offset bytes)) (snapshotsOf (descriptorsOf t)) _ (passed-at t offset bytes e (spanCount offset bytes) (omega arith) .chained) gone
   gone-change f o (to-snap {name = name} e) = gone-snap name e o
   gone-change f o (to-revert {name = name} e) = gone-revert name e
 

@@ -1,14 +1,15 @@
 -- What a call answers and gives on a card that passes is what the card's ledger says of it.
-use mathlib.Core.Path.{_≡_, refl, sym, ap, _∙_}
+use mathlib.Core.Path.{_≡_, refl, sym, ap, _∙_, subst}
 use mathlib.Core.Bool.{Bool, true, false, not, _&&_, _||_}
 use mathlib.Core.List.{List, [], _∷_, _++_, map}
-use Prim.Native.Nat.{ℕ, suc, _+_, _≤_, _<_}
+use Prim.Native.Nat.{ℕ, zero, suc, _+_, _*_, _≤_, _<_}
 use native.Mathlib.Omega.{arith}
 use lib.ListN.{length, drop, getD, length-append}
 use lib.Dec.{eqb, ltb, leb}
-use borrow.Author.Tests.{leb-false, le-ltb, not-false}
+use borrow.Author.Tests.{leb-false, le-ltb, ltb-false, not-false}
 use Rattle.blocks.specs.Pick.{pick, same}
-use Rattle.blocks.specs.Bytes.{blockCount}
+use Rattle.blocks.specs.Bytes.{blockCount, part}
+use Rattle.blocks.proofs.ByteLaws.{blocks-long}
 use Rattle.blocks.specs.Descriptor.{noDescriptor}
 use Rattle.chains.specs.Chain.{chain, named, activeOf}
 use Rattle.blocks.specs.declared.descriptor.Descriptor.{Descriptor}
@@ -17,23 +18,27 @@ use Rattle.calls.specs.declared.answer.Answer.{Answer}
 use Rattle.calls.specs.declared.answer.Target.{Target}
 use Rattle.calls.specs.declared.answer.Target.the-variants.{Active, Snapshot}
 use Rattle.calls.specs.declared.answer.Record.{Record}
-use Rattle.calls.specs.Call.{Call, Ream, Read, Write, Snap, Revert, Listing, Check, Visit, Block, Records, answer, accepted}
+use Rattle.calls.specs.Call.{Call, Ream, Read, Write, Snap, Revert, Listing, Check, Visit, SpanRead, SpanWrite, Block, Records, answer, accepted}
 use Rattle.calls.specs.Parts.{descriptorsOf, snapshotsOf, isSnapshot, targetOf, foundThrough, isMisplaced, blockFound, areaBad}
-use Rattle.calls.specs.Check.{Passes}
-use Rattle.calls.specs.Ladder.{Row, row, firstRow, reamRows, readRows, visitRows, writeRows, snapRows, revertRows, listRows, admission}
+use Rattle.calls.specs.Check.{Passes, isFault}
+use Rattle.calls.specs.Spans.{misplacedFrom, spanVerdict}
+use Rattle.pieces.specs.Span.{runOf, spanBlock, touched}
+use Rattle.pieces.proofs.SpanLaws.{inside}
+use Rattle.claims.proofs.LedgerSpan.{span-part}
+use Rattle.calls.specs.Ladder.{Row, row, firstRow, reamRows, readRows, visitRows, writeRows, snapRows, revertRows, listRows, spanReadRows, spanWriteRows, admission}
 use Rattle.calls.specs.Effect.{noRecord}
 use Rattle.calls.specs.Meaning.{rowsOf, answerOf, filledOf}
 use Rattle.calls.specs.Step.{step, isAccepted}
 use Rattle.claims.specs.History.{betaOf}
-use Rattle.claims.specs.Ledger.{Volume, ledgerRows, volumeRead, cellRead, namesFrom, ledgerNames, volumeOf, volumesOf, ledgerOf}
+use Rattle.claims.specs.Ledger.{Volume, ledgerRows, volumeRead, cellRead, runRead, namesFrom, ledgerNames, volumeOf, volumesOf, ledgerOf}
 use Rattle.claims.specs.Claims.{blocksNeeded, recordNames, CheckClaim, ListClaim}
 use Rattle.calls.proofs.CardLaws.{chain-is, active-split}
 use Rattle.claims.proofs.Lists.{list-claim}
-use Rattle.claims.proofs.CheckClaims.{check-claim}
-use Rattle.calls.proofs.Passed.{read-passed, list-passed}
+use Rattle.claims.proofs.CheckClaims.{check-claim, passes-faultless}
+use Rattle.calls.proofs.Passed.{read-passed, span-read-passed, list-passed}
 use Rattle.calls.proofs.RowLaws.{admitted, admission-0, placeless-first, placeless}
 use Rattle.blocks.specs.declared.descriptor.Format.{Format}
-use Rattle.calls.proofs.ActiveLaws.{target-member, active-target, chain-some, volume-at, active-last, active-end}
+use Rattle.calls.proofs.ActiveLaws.{target-member, active-target, chain-some, volume-at, active-last, active-end, region-below}
 use Rattle.calls.proofs.CellLaws.{passing-found}
 use Rattle.claims.proofs.LedgerLaws.{cells-length, volume-named, volumes-length, cell-of, has-volume}
 
@@ -67,6 +72,21 @@ unfolding step filledOf
 ledger-reads c p target name l block ok =
     let shown = read-passed c target name l block ok in
     rw ok (ap Block (sym (target-cell c p target name l (shown .there) (shown .below))))
+
+-- an accepted span read gives its part of the ledger's run
+pub ledger-spans : (c : List ℕ) → Passes c → (target : Target) (name : List ℕ) (o : ℕ) (bytes : List ℕ) → isAccepted (answerOf (SpanRead target name o bytes) c) ≡ true
+    → step (SpanRead target name o bytes) c .outcome .lent ≡ Block (part (runRead (ledgerOf c) target name) o (length bytes))
+unfolding step filledOf runRead
+ledger-spans c p target name o bytes ok =
+    let ds = descriptorsOf c in
+    let d = targetOf ds target name in
+    let is = chain-is (chain c) (p .sound) in
+    let shown = span-read-passed c target name o bytes ok in
+    let m = target-member ds (chain-some c ds is) target name (shown .there) in
+    let volume : d .volume ≡ activeOf ds .volume = ap (λ (x : Descriptor). x .volume) (m .2) ∙ volume-at c ds is (m .0) (m .1) in
+    let upto : d .beta .0 ≤ activeOf ds .beta .0 = subst (λ (x : Descriptor). x .beta .0 ≤ activeOf ds .beta .0) (sym (m .2)) (region-below c ds is (m .0) (m .1) .upto) in
+    let end = blocks-long c (d .beta .0) (omega (arith, upto, active-end c ds is)) in
+    rw ok (ap Block (span-part c d end o (length bytes) (omega (arith, shown .upto, volume)) ∙ ap (λ (v : Volume). part (runOf (v .cells)) o (length bytes)) (sym (volume-read c target name (shown .there)))))
 
 -- the ledger's names are the chain's
 abbrev namesOf : List Descriptor → List (List ℕ)
@@ -142,6 +162,20 @@ visit-by pl h true y s v f ey g = refl
 visit-by pl h false y true v f ey g = rw ey
 visit-by pl h false y false true f ey g = rw ey
 visit-by pl h false y false false f ey g = rw (ey, g refl refl)
+
+span-read-by : (pl h : ℕ) (a y s v f : Bool) → y ≡ false → (s ≡ false → v ≡ false → f ≡ false)
+    → firstRow (row a 4 0 ∷ row y 6 pl ∷ row s 7 0 ∷ row v 16 0 ∷ row f 10 h ∷ []) ≡ firstRow (row a 4 0 ∷ row s 7 0 ∷ row v 16 0 ∷ [])
+unfolding firstRow
+span-read-by pl h true y s v f ey g = refl
+span-read-by pl h false y true v f ey g = rw ey
+span-read-by pl h false y false true f ey g = rw ey
+span-read-by pl h false y false false f ey g = rw (ey, g refl refl)
+
+span-write-by : (pl h : ℕ) (y v f n : Bool) → y ≡ false → f ≡ false
+    → firstRow (row y 6 pl ∷ row v 16 0 ∷ row f 10 h ∷ row n 11 0 ∷ []) ≡ pick (eqb (firstRow (row v 16 0 ∷ []) .number) 0 && n) (answer 11 0) (firstRow (row v 16 0 ∷ []))
+unfolding firstRow
+span-write-by pl h y true f n ey ef = rw ey
+span-write-by pl h y false f n ey ef = rw (ey, ef)
 
 write-by : (pl h : ℕ) (b y v f n : Bool) → y ≡ false → (v ≡ false → f ≡ false)
     → firstRow (row b 9 0 ∷ row y 6 pl ∷ row v 8 0 ∷ row f 10 h ∷ row n 11 0 ∷ [])
@@ -221,6 +255,40 @@ module _ (c : List ℕ) (p : Passes c) where
       passing-admitted (writeRows c l block)
       ∙ rw (cells-length c (activeOf (descriptorsOf c)) (activeOf (descriptorsOf c) .volume) 0)
       (write-by _ _ _ _ _ _ _ (ap not (p .sound)) (λ v. active-found l v))
+
+  -- the blocks of a span that ends in the volume
+  placed-from : (target : Target) (name : List ℕ) → (isSnapshot target && not (named (snapshotsOf (descriptorsOf c)) name)) ≡ false → (k l : ℕ) → l + k ≤ activeOf (descriptorsOf c) .volume
+      → isFault (misplacedFrom c (targetOf (descriptorsOf c) target name) l k) ≡ false
+  unfolding misplacedFrom isFault
+  placed-from target name s zero l h = refl
+  placed-from target name s (suc k) l h = rw (target-found c p target name l s (omega arith)) (placed-from target name s k (suc l) (omega arith))
+
+  placed-span : (target : Target) (name : List ℕ) (o n : ℕ) → (isSnapshot target && not (named (snapshotsOf (descriptorsOf c)) name)) ≡ false → o + n ≤ 512 * activeOf (descriptorsOf c) .volume
+      → isFault (spanVerdict c (targetOf (descriptorsOf c) target name) o n) ≡ false
+  unfolding spanVerdict
+  placed-span target name o n s h = placed-by (touched o n) refl
+    where
+      placed-by : (k : ℕ) → touched o n ≡ k → isFault (misplacedFrom c (targetOf (descriptorsOf c) target name) (spanBlock o 0) (touched o n)) ≡ false
+      placed-by zero e = rw e (placed-from target name s 0 (spanBlock o 0) (omega arith))
+      placed-by (suc k) e = placed-from target name s (touched o n) (spanBlock o 0) (omega (arith, e, inside o n (activeOf (descriptorsOf c) .volume) k h (omega (arith, e))))
+
+  span-read-own : (target : Target) (name : List ℕ) (o : ℕ) (bytes : List ℕ) → firstRow (spanReadRows c target name o bytes) ≡ firstRow (ledgerRows (SpanRead target name o bytes) (ledgerOf c))
+  unfolding spanReadRows ledgerRows ledgerOf volumeOf
+  span-read-own target name o bytes =
+      let d = activeOf (descriptorsOf c) in
+      rw (has-volume c (snapshotsOf (descriptorsOf c)) name, cells-length c d (d .volume) 0)
+      (span-read-by _ _ _ _ _ _ _ (ap not (p .sound)) (λ s v. placed-span target name o (length bytes) s (ltb-false (512 * d .volume) (o + length bytes) v)))
+
+  pub span-read-answer : (target : Target) (name : List ℕ) (o : ℕ) (bytes : List ℕ) → answerOf (SpanRead target name o bytes) c ≡ ledgerAnswer (SpanRead target name o bytes) c
+  unfolding answerOf rowsOf blocksNeeded
+  span-read-answer target name o bytes =
+      passing-admitted (spanReadRows c target name o bytes) ∙ span-read-own target name o bytes ∙ no-more (firstRow (ledgerRows (SpanRead target name o bytes) (ledgerOf c)))
+
+  pub span-write-answer : (o : ℕ) (bytes : List ℕ) → answerOf (SpanWrite o bytes) c ≡ ledgerAnswer (SpanWrite o bytes) c
+  unfolding answerOf rowsOf spanWriteRows ledgerRows ledgerOf volumeOf betaOf blocksNeeded
+  span-write-answer o bytes =
+      let d = activeOf (descriptorsOf c) in
+      passing-admitted (spanWriteRows c o bytes) ∙ rw (cells-length c d (d .volume) 0) (span-write-by _ _ _ _ _ _ (ap not (p .sound)) (passes-faultless c p))
 
   snap-named : (name : List ℕ) → named (descriptorsOf c) name ≡ (named (snapshotsOf (descriptorsOf c)) name || same (activeOf (descriptorsOf c) .name) name)
   snap-named name =

@@ -4,7 +4,7 @@ use mathlib.Core.Bool.{Bool, true, false, _||_}
 use mathlib.Core.List.{List, [], _∷_, _++_}
 use Prim.Native.Nat.{ℕ, zero, suc, _+_, _<_, _≤_}
 use native.Mathlib.Omega.{arith}
-use lib.ListN.{length, getD, take}
+use lib.ListN.{length, getD, set, take}
 use lib.Dec.{eqb}
 use Rattle.blocks.specs.Pick.{pick, same}
 use Rattle.blocks.specs.Descriptor.{noDescriptor, revisionOf}
@@ -13,12 +13,25 @@ use Rattle.blocks.specs.declared.descriptor.Descriptor.{Descriptor}
 use Rattle.blocks.proofs.BoolLaws.{no}
 use Rattle.chains.proofs.NamedLaws.{named-none, named-cons}
 use Rattle.calls.specs.Parts.{withName, foundThrough, blockFound, descriptorsOf, snapshotsOf}
-use Rattle.calls.specs.Effect.{staying}
-use Rattle.claims.specs.Ledger.{Volume, hasVolume, volumeNamed, cellsFrom, volumeOf, volumesOf, volumesKept, ledgerOf}
+use Rattle.calls.specs.Stores.{staying}
+use Rattle.claims.specs.Ledger.{Volume, changedAt, hasVolume, volumeNamed, cellsFrom, volumeOf, volumesOf, volumesKept, ledgerOf}
 
 other-then : (a b : Bool) → (a || b) ≡ true → a ≡ false → b ≡ true
 other-then true b h e = no (sym e)
 other-then false b h e = h
+
+-- one cell changed: given what it becomes, and by two changes that are the same there
+pub changed-set : {A : Type 0} (xs : List A) (l : ℕ) (x : A) → changedAt xs l (λ old. x) ≡ set xs l x
+unfolding changedAt
+changed-set [] l x = refl
+changed-set (y ∷ ys) zero x = refl
+changed-set {A = A} (y ∷ ys) (suc l) x = ap (λ (zs : List A). y ∷ zs) (changed-set ys l x)
+
+pub changed-is : {A : Type 0} (xs : List A) (l : ℕ) (f : A → A) (z x : A) → l < length xs → f (getD xs l z) ≡ x → changedAt xs l f ≡ set xs l x
+unfolding changedAt
+changed-is [] l f z x h e = absurd (omega arith)
+changed-is {A = A} (y ∷ ys) zero f z x h e = ap (λ (w : A). w ∷ ys) e
+changed-is {A = A} (y ∷ ys) (suc l) f z x h e = ap (λ (zs : List A). y ∷ zs) (changed-is ys l f z x (omega arith) e)
 
 -- the ledger's volumes
 pub cells-length : (c : List ℕ) (d : Descriptor) (n l : ℕ) → length (cellsFrom c d n l) ≡ n

@@ -17,7 +17,7 @@ use Rattle.entries.specs.Entry.{find}
 use Rattle.calls.specs.Parts.{descriptorsOf, snapshotsOf, withName, foundThrough, blockFound}
 use Rattle.claims.specs.Ledger.{Volume, volumesKept, volumeNamed, cellsFrom, volumeOf, volumesOf, ledgerOf, ledgerChange}
 use Rattle.calls.specs.Check.{Passes}
-use Rattle.calls.specs.Effect.{activatedOf, revertStores, staying}
+use Rattle.calls.specs.Stores.{activatedOf, revertStores, staying}
 use Rattle.links.proofs.ChainLaws.{active-snoc, descriptors-are}
 use Rattle.calls.proofs.Passed.{RevertPassed}
 use Rattle.claims.specs.Kinds.{Reverts}

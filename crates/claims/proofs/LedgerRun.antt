@@ -6,25 +6,28 @@ use Prim.Native.Nat.{ℕ, zero, suc, _<_}
 use native.Mathlib.Omega.{arith}
 use lib.ListN.{length, take, drop, getD}
 use Rattle.blocks.specs.Pick.{pick}
-use Rattle.blocks.specs.Bytes.{storeAll}
+use Rattle.blocks.specs.Bytes.{part, storeAll}
 use Rattle.blocks.proofs.BoolLaws.{no}
 use Rattle.calls.specs.declared.answer.Target.{Target}
 use Rattle.calls.specs.declared.answer.Record.{Record}
-use Rattle.calls.specs.Call.{Call, Read, Listing, Check, Block, Records}
+use Rattle.calls.specs.Spans.{spanCount, writeSpanStores}
+use Rattle.calls.specs.Call.{Call, Read, SpanRead, Listing, Check, Block, Records}
 use Rattle.calls.specs.Check.{Passes}
 use Rattle.calls.specs.Meaning.{answerOf}
 use Rattle.calls.specs.Step.{step, after, isAccepted}
 use Rattle.claims.specs.History.{Standing, more, isFormat, formatted, formats}
-use Rattle.claims.specs.Ledger.{Ledger, ledgerStep, ledgerOf, ledgerNames, cellRead, ledgerChange}
+use Rattle.claims.specs.Ledger.{Ledger, ledgerStep, ledgerOf, ledgerNames, cellRead, runRead, ledgerChange}
 use Rattle.claims.specs.Claims.{ledgerAfter, recordNames, firstLedger, LedgerStep, LedgerClaim, FormatClaim, FormatLedgerClaim}
 use Rattle.claims.proofs.Runs.{standing-length, step-length}
 use Rattle.claims.proofs.Format.{format-claim}
-use Rattle.claims.proofs.LedgerFacts.{ledger-reads, ledger-lists}
+use Rattle.claims.proofs.LedgerFacts.{ledger-reads, ledger-spans, ledger-lists}
 use Rattle.claims.proofs.LedgerAnswers.{ledger-number, ledger-place, ledger-no-room}
 use Rattle.claims.proofs.LedgerSnap.{ledger-snap}
 use Rattle.claims.proofs.LedgerWrite.{ledger-write}
+use Rattle.claims.proofs.LedgerSpan.{ledger-span}
+use Rattle.changes.proofs.SpanSteps.{passed-at}
 use Rattle.claims.specs.Kinds.{Kind}
-use Rattle.claims.proofs.Changes.{storesBy, Allowed, to-format, to-leave, to-write, to-snap, to-revert}
+use Rattle.claims.proofs.Changes.{storesBy, Allowed, to-format, to-leave, to-write, to-span, to-snap, to-revert}
 use Rattle.claims.proofs.Steps.{step-cases}
 use Rattle.claims.proofs.LedgerReopened.{ledger-revert}
 use Rattle.changes.proofs.ReopenedRules.{passes-revert}
@@ -34,10 +37,11 @@ use Rattle.changes.proofs.WritePasses.{passes-write}
 -- one call on a card that passes
 module _ (c : List ℕ) (passing : Passes c) where
   pub passes-change : {x : Kind} → formats x ≡ false → Allowed c x → Passes (storeAll c (storesBy x c))
-  unfolding formats storesBy storeAll
+  unfolding formats storesBy storeAll writeSpanStores
   passes-change f (to-format e) = no (sym f)
   passes-change f to-leave = passing
   passes-change f (to-write {l = l} {block = block} e) = passes-write c l block passing e
+  passes-change f (to-span {o = o} {bytes = bytes} e) = passed-at c o bytes e (spanCount o bytes) (omega arith) .passes
   passes-change f (to-snap {name = name} e) = passes-snap c name passing e
   passes-change f (to-revert {name = name} e) = passes-revert c name passing e
 
@@ -46,6 +50,7 @@ module _ (c : List ℕ) (passing : Passes c) where
   ledger-change f (to-format e) = no (sym f)
   ledger-change f to-leave = refl
   ledger-change f (to-write {l = l} {block = block} e) = ledger-write c l block passing e
+  ledger-change f (to-span {o = o} {bytes = bytes} e) = ledger-span c o bytes e
   ledger-change f (to-snap {name = name} e) = ledger-snap c name passing e
   ledger-change f (to-revert {name = name} e) = ledger-revert c name passing e
 
@@ -62,6 +67,7 @@ module _ (c : List ℕ) (passing : Passes c) where
         place = ledger-place k c passing;
         no-room = λ r. ledger-no-room k c passing r;
         reads = λ target name l block q e. reads-by k target name l block q e;
+        spans = λ target name o bytes q e. spans-by k target name o bytes q e;
         lists = λ records q e. lists-by k records q e;
         passes = step-cases k c Passes (λ e. passing) (λ e n a. passes-change n a) f;
         next = next-by k f;
@@ -69,6 +75,10 @@ module _ (c : List ℕ) (passing : Passes c) where
     where
       reads-by : (k : Call) (target : Target) (name : List ℕ) (l : ℕ) (block : List ℕ) → k ≡ Read target name l block → isAccepted (answerOf k c) ≡ true → step k c .outcome .lent ≡ Block (cellRead (ledgerOf c) target name l)
       reads-by k target name l block q e = rw q (ledger-reads c passing target name l block (rw q at e))
+
+      spans-by : (k : Call) (target : Target) (name : List ℕ) (o : ℕ) (bytes : List ℕ) → k ≡ SpanRead target name o bytes → isAccepted (answerOf k c) ≡ true
+          → step k c .outcome .lent ≡ Block (part (runRead (ledgerOf c) target name) o (length bytes))
+      spans-by k target name o bytes q e = rw q (ledger-spans c passing target name o bytes (rw q at e))
 
       lists-by : (k : Call) (records : List Record) → k ≡ Listing records → isAccepted (answerOf k c) ≡ true
           → (filled : List Record) × (step k c .outcome .lent ≡ Records filled) × (recordNames (length (ledgerNames (ledgerOf c))) filled ≡ ledgerNames (ledgerOf c)) × (drop (length (ledgerNames (ledgerOf c))) filled ≡ drop (length (ledgerNames (ledgerOf c))) records)

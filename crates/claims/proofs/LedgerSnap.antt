@@ -16,7 +16,7 @@ use Rattle.entries.specs.Entry.{find}
 use Rattle.entries.specs.Rules.{entryOf, Rules}
 use Rattle.calls.specs.Parts.{descriptorsOf, snapshotsOf, foundThrough, blockFound}
 use Rattle.calls.specs.Check.{Passes}
-use Rattle.calls.specs.Effect.{snapStores}
+use Rattle.calls.specs.Stores.{snapStores}
 use Rattle.claims.specs.Ledger.{Volume, volumeOf, volumesOf, ledgerOf, ledgerChange}
 use Rattle.calls.proofs.Passed.{SnapPassed}
 use Rattle.claims.specs.Kinds.{Snaps}

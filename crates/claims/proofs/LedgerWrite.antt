@@ -20,14 +20,14 @@ use Rattle.entries.proofs.EntryLaws.{placed-below}
 use Rattle.calls.specs.Parts.{descriptorsOf, snapshotsOf, foundThrough, blockFound}
 use Rattle.claims.specs.Ledger.{Volume, cellsFrom, volumeOf, volumesOf, ledgerOf, ledgerChange}
 use Rattle.calls.specs.Check.{Passes}
-use Rattle.calls.specs.Effect.{writeStores}
+use Rattle.calls.specs.Stores.{writeStores}
 use Rattle.calls.proofs.Passed.{WritePassed}
 use Rattle.claims.specs.Kinds.{Writes}
 use Rattle.entries.proofs.TableLaws.{group-below}
 use Rattle.calls.proofs.CardLaws.{snapshots-snoc, chain-is}
 use Rattle.entries.proofs.RulesLaws.{shared-entry}
 use Rattle.calls.proofs.CellLaws.{blockNamed, cell-as, cell-rules}
-use Rattle.claims.proofs.LedgerLaws.{cells-same, volumes-same, ledger-parts}
+use Rattle.claims.proofs.LedgerLaws.{changed-set, cells-same, volumes-same, ledger-parts}
 use Rattle.calls.proofs.ActiveLaws.{chain-some, region-at, active-last, active-form}
 use Rattle.changes.proofs.WrittenChain.{written-chain, written-revision}
 use Rattle.changes.proofs.WrittenRules.{snapshot-region, write-below, snapshot-rules}
@@ -142,7 +142,7 @@ module _ (c : List ℕ) (passes : Passes c) (l : ℕ) (block : List ℕ) (ok : W
     written-ledger =
         ledger-parts t (revisionOf c) xs x (written-revision c l block ok) (ap snapshotsOf after ∙ snapshots-snoc xs x) active-after
         ∙ ap (λ (vs : List Volume). record { revision = revisionOf c; snapshots = vs; active = record { name = d .name; cells = cellsFrom t x (x .volume) 0 } }) (volumes-same c t xs snapshot-cell)
-        ∙ ap (λ (bs : List (List ℕ)). record { revision = revisionOf c; snapshots = volumesOf c xs; active = record { name = d .name; cells = bs } }) cells-after
+        ∙ ap (λ (bs : List (List ℕ)). record { revision = revisionOf c; snapshots = volumesOf c xs; active = record { name = d .name; cells = bs } }) (cells-after ∙ sym (changed-set (cellsFrom c d (d .volume) 0) l block))
 
 -- and its ledger is the ledger's step
 pub ledger-write : (c : List ℕ) (l : ℕ) (block : List ℕ) → Passes c → WritePassed c l block → ledgerOf (storeAll c (writeStores c l block)) ≡ ledgerChange (Writes l block) (ledgerOf c)

@@ -6,13 +6,14 @@ pub mod Rows
 pub mod Agreement
 pub mod Changes
 pub mod Lists
+pub mod SameStores
+pub mod AgreeChange
 pub mod LedgerFacts
 pub mod Owed
 pub mod Refusals
 pub mod Steps
 pub mod Frame
 pub mod AgreeAnswer
-pub mod SameStores
 pub mod AgreeStep
 pub mod Format
 pub mod Kept
@@ -33,6 +34,7 @@ pub mod Visits
 pub mod LedgerAnswers
 pub mod LedgerSnap
 pub mod LedgerWrite
+pub mod LedgerSpan
 pub mod LedgerRun
 pub mod Places
 pub mod LedgerLaws

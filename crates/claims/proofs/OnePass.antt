@@ -12,7 +12,7 @@ use Rattle.blocks.specs.declared.descriptor.Descriptor.{Descriptor}
 use Rattle.chains.specs.Chain.{activeOf}
 use Rattle.calls.specs.Call.{Snap}
 use Rattle.calls.specs.Parts.{descriptorsOf}
-use Rattle.calls.specs.Effect.{snapStores}
+use Rattle.calls.specs.Stores.{snapStores}
 use Rattle.calls.specs.Meaning.{storesOf}
 use Rattle.claims.specs.History.{betaOf}
 use Rattle.claims.specs.OnePass.{StoreUptoClaim, beforePass, duringPass, OnePassClaim}

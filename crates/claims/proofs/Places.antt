@@ -23,9 +23,9 @@ use Rattle.entries.specs.declared.find.Found.the-variants.{Misplaced, Entry}
 use Rattle.calls.specs.declared.answer.Answer.{Answer}
 use Rattle.calls.specs.declared.answer.Target.{Target}
 use Rattle.calls.specs.declared.answer.Target.the-variants.{Active}
-use Rattle.calls.specs.Call.{Call, Ream, Read, Write, Snap, Revert, Listing, Check, Visit, answer}
+use Rattle.calls.specs.Call.{Call, Ream, Read, Write, Snap, Revert, Listing, Check, Visit, SpanRead, SpanWrite, answer}
 use Rattle.calls.specs.Parts.{areaBad, descriptorsOf, snapshotsOf, isSnapshot, targetOf, foundThrough, isMisplaced, holderOf}
-use Rattle.calls.specs.Ladder.{Row, row, areaRow, nameRow, targetRow, blockRow, chainRow, volumeRow, firstRow, reamRows, readRows, visitRows, writeRows, snapRows, revertRows, listRows, checkRows, admission}
+use Rattle.calls.specs.Ladder.{Row, row, areaRow, nameRow, targetRow, blockRow, chainRow, volumeRow, firstRow, reamRows, readRows, visitRows, writeRows, snapRows, revertRows, listRows, checkRows, spanReadRows, spanWriteRows, admission}
 use Rattle.calls.specs.Meaning.{rowsOf, answerOf}
 use Rattle.chains.specs.Chained.{FirstUnsound}
 use Rattle.chains.proofs.ChainedLaws.{chain-place, place-chain}
@@ -157,6 +157,15 @@ module _ (c : List ℕ) (q : ℕ) where
   pub check-six : SixExactly Check
   unfolding rowsOf admission checkRows fresh clear comesToChain
   check-six = six-by Check (areaRow c ∷ []) _ refl refl refl (clear-one (areaBad c))
+
+  pub span-read-six : (target : Target) (name : List ℕ) (o : ℕ) (bytes : List ℕ) → SixExactly (SpanRead target name o bytes)
+  unfolding rowsOf admission spanReadRows fresh clear comesToChain
+  span-read-six target name o bytes =
+      six-by (SpanRead target name o bytes) (areaRow c ∷ targetRow target name ∷ []) _ refl refl refl (clear-target (areaBad c) (isSnapshot target) (isName name))
+
+  pub span-write-six : (o : ℕ) (bytes : List ℕ) → SixExactly (SpanWrite o bytes)
+  unfolding rowsOf admission spanWriteRows fresh clear comesToChain
+  span-write-six o bytes = six-by (SpanWrite o bytes) (areaRow c ∷ []) _ refl refl refl (clear-one (areaBad c))
 
 -- what find gives of an entry that is not in place
 module _ (ds : List Descriptor) (d : Descriptor) (m p h : ℕ) where

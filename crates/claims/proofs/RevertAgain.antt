@@ -15,7 +15,7 @@ use Rattle.chains.specs.Chain.{activeOf}
 use Rattle.blocks.proofs.RegionLaws.{reopening-kept, reopening-block, reopening-table, reopening-past, reopening-length}
 use Rattle.blocks.proofs.StoreLists.{blocks-taken}
 use Rattle.calls.specs.Parts.{descriptorsOf, snapshotsOf, withName}
-use Rattle.calls.specs.Effect.{activatedOf, revertStores}
+use Rattle.calls.specs.Stores.{activatedOf, revertStores}
 use Rattle.calls.proofs.Passed.{RevertPassed}
 use Rattle.claims.specs.History.{Agree}
 use Rattle.claims.proofs.Agreement.{blocks-agree, agree-back}

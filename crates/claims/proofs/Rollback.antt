@@ -21,7 +21,7 @@ use Rattle.chains.proofs.NamedLaws.{named-none, named-cons, index-at}
 use Rattle.links.proofs.ChainLaws.{active-snoc, descriptors-are, is-sound}
 use Rattle.calls.specs.Call.{Call, Revert, Check}
 use Rattle.calls.specs.Parts.{descriptorsOf, snapshotsOf, withName}
-use Rattle.calls.specs.Effect.{activatedOf, reverting, snapStores, revertStores, staying}
+use Rattle.calls.specs.Stores.{activatedOf, reverting, snapStores, revertStores, staying}
 use Rattle.calls.specs.Meaning.{answerOf, storesOf}
 use Rattle.calls.specs.Step.{step, after, isAccepted}
 use Rattle.claims.specs.History.{betaOf, Agree, AreBytes, Standing, without, isSnapOf}

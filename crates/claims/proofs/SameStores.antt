@@ -15,7 +15,7 @@ use Rattle.entries.specs.declared.find.Found.the-variants.{Entry}
 use Rattle.entries.proofs.EntryLaws.{found-table}
 use Rattle.calls.specs.declared.answer.Target.the-variants.{Active}
 use Rattle.calls.specs.Parts.{descriptorsOf, snapshotsOf, withName}
-use Rattle.calls.specs.Effect.{snapping, reverting, writeStores, snapStores, revertStores}
+use Rattle.calls.specs.Stores.{snapping, reverting, writeStores, snapStores, revertStores}
 use Rattle.claims.specs.History.{betaOf, Agree}
 use Rattle.links.proofs.SharedLaws.{shared-bytes, below-revision}
 use Rattle.claims.proofs.Agreement.{agree-below, agree-chain, found-same}

@@ -7,12 +7,13 @@ use Rattle.blocks.specs.Bytes.{blockCount, storeAll}
 use Rattle.blocks.specs.Descriptor.{descriptorAt, revisionOf, linkedOf, renamedOf, reopenedOf}
 use Rattle.chains.specs.Chain.{chain, chainSound, activeOf, indexOf, Sound}
 use Rattle.blocks.specs.declared.descriptor.Descriptor.{Descriptor}
+use native.Mathlib.Omega.{arith}
 use lib.ListN.{take}
 use lib.Seq.{append-snoc}
 use Rattle.blocks.proofs.BoolLaws.{no}
 use Rattle.links.proofs.ChainLaws.{descriptors-are, region-layout, region-volume, active-snoc}
 use Rattle.calls.specs.Parts.{descriptorsOf, snapshotsOf, withName}
-use Rattle.calls.specs.Effect.{writeStores, snapStores, revertStores, staying}
+use Rattle.calls.specs.Stores.{writeStores, snapStores, revertStores, staying}
 use Rattle.calls.specs.Call.{Call}
 use Rattle.calls.specs.Step.{step, after}
 use Rattle.claims.specs.History.{Agree, formats, Standing, more}
@@ -21,13 +22,15 @@ use Rattle.claims.specs.Claims.{SoundClaim}
 use Rattle.claims.proofs.AgreeStep.{agree-step}
 use Rattle.calls.proofs.Passed.{SnapPassed, RevertPassed}
 use Rattle.claims.specs.Kinds.{Kind}
-use Rattle.claims.proofs.Changes.{storesBy, Allowed, to-format, to-leave, to-write, to-snap, to-revert}
+use Rattle.claims.proofs.Changes.{storesBy, Allowed, to-format, to-leave, to-write, to-span, to-snap, to-revert}
 use Rattle.claims.proofs.Steps.{step-cases}
 use Rattle.calls.proofs.ActiveLaws.{active-last}
 use Rattle.links.proofs.MemberLaws.{member-region}
 use Rattle.calls.proofs.CardLaws.{chain-is}
 use Rattle.changes.proofs.RevertedChain.{revert-split, reverted-chain, reverted-revision, returned}
 use Rattle.calls.proofs.VisitLaws.{before, behind}
+use Rattle.changes.proofs.SpanSteps.{passed-at}
+use Rattle.calls.specs.Spans.{spanCount, writeSpanStores}
 use Rattle.changes.proofs.SnappedChain.{snapped-chain, snapped-revision}
 use Rattle.changes.proofs.WrittenChain.{written-chain, written-revision}
 
@@ -71,10 +74,13 @@ module _ (c : List ℕ) where
       )
 
   kept-change : {x : Kind} → formats x ≡ false → Allowed c x → Keeps (storeAll c (storesBy x c))
-  unfolding formats storesBy storeAll
+  unfolding formats storesBy storeAll writeSpanStores
   kept-change f (to-format e) = no (sym f)
   kept-change f to-leave = (refl, (refl, refl, refl))
   kept-change f (to-write {l = l} {block = block} e) = kept-chain (storeAll c (writeStores c l block)) (snapshotsOf (descriptorsOf c)) _ (written-chain c l block e) (written-revision c l block e) (refl, refl, refl)
+  kept-change f (to-span {o = o} {bytes = bytes} e) =
+      let at = passed-at c o bytes e (spanCount o bytes) (omega arith) in
+      kept-chain (storeAll c (writeSpanStores c o bytes)) (snapshotsOf (descriptorsOf c)) _ (at .chained) (at .revision) (refl, refl, refl)
   kept-change f (to-snap {name = name} e) = kept-snap name e
   kept-change f (to-revert {name = name} e) = kept-revert name e
 

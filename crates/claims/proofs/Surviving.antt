@@ -29,7 +29,7 @@ use Rattle.calls.specs.Call.{Revert, answer}
 use Rattle.calls.specs.Parts.{areaBad, descriptorsOf, snapshotsOf, withName}
 use Rattle.blocks.specs.Name.{isName}
 use Rattle.calls.specs.Ladder.{row, firstRow, admission, reamRows, revertRows}
-use Rattle.calls.specs.Effect.{activatedOf, revertStores, staying}
+use Rattle.calls.specs.Stores.{activatedOf, revertStores, staying}
 use Rattle.calls.specs.Meaning.{rowsOf, answerOf}
 use Rattle.calls.specs.Step.{step, after, isAccepted}
 use Rattle.calls.proofs.ActiveLaws.{active-end, snapshots-few}

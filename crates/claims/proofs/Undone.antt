@@ -23,7 +23,7 @@ use Rattle.chains.proofs.NamedLaws.{named-one, index-at, named-append, named-le
 use Rattle.links.proofs.ChainLaws.{active-snoc, is-sound, descriptors-are}
 use Rattle.links.proofs.SoundLaws.{form-mark}
 use Rattle.calls.specs.Parts.{areaBad, descriptorsOf, snapshotsOf, withName}
-use Rattle.calls.specs.Effect.{snapping, snapStores, revertStores}
+use Rattle.calls.specs.Stores.{snapping, snapStores, revertStores}
 use Rattle.claims.specs.History.{betaOf, Agree, AreBytes}
 use Rattle.blocks.proofs.StoreLists.{Whole, none, isStored, stored-join, stored-length, stored-other, stored-last, blocks-taken, none-stored, one-stored, copies-stored, pair-stored}
 use Rattle.calls.proofs.Passed.{SnapPassed, RevertPassed}

@@ -9,9 +9,10 @@ use Prim.Native.Nat.{ℕ, suc, _+_, _*_, _/_, _%_, _<_, _≤_}
 use lib.ListN.{length, take, drop, getD, replicate}
 use Rattle.blocks.specs.Pick.{pick, same}
 use lib.Dec.{eqb}
-use Rattle.blocks.specs.Bytes.{blockSize, le32, blockCount, blockAt, zeroBlock}
+use Rattle.blocks.specs.Bytes.{blockSize, part, le32, blockCount, blockAt, zeroBlock}
 use Rattle.blocks.specs.Name.{isName}
 use Rattle.blocks.specs.Descriptor.{physical, noDescriptor, tableSize, tableCount, costOf, revisionOf, firstOf, descriptorBlock, renamedOf, linkedOf, extendedOf, reopenedOf, costIn}
+use Rattle.pieces.specs.Span.{touched}
 use Rattle.chains.specs.Chain.{Sound, Unsound, chain, chainSound, indexOf, named, activeOf}
 use Rattle.chains.specs.Chained.{FirstUnsound, Chained}
 use Rattle.blocks.specs.declared.descriptor.Descriptor.{Descriptor}
@@ -21,17 +22,18 @@ use Rattle.entries.specs.Naming.{Naming, namings, atFault}
 use Rattle.entries.specs.Rules.{Rules}
 use Rattle.calls.specs.declared.answer.Target.{Target}
 use Rattle.calls.specs.declared.answer.Record.{Record}
-use Rattle.calls.specs.Call.{Call, Ream, Read, Write, Snap, Revert, Listing, Check, Visit, Lent, None, Block, Records, answer, accepted, NoneGiven}
+use Rattle.calls.specs.Call.{Call, Ream, Read, Write, Snap, Revert, Listing, Check, Visit, SpanRead, SpanWrite, Lent, None, Block, Records, answer, accepted, NoneGiven}
 use Rattle.calls.specs.Parts.{areaBad, descriptorsOf, snapshotsOf, withName, isSnapshot, targetOf, foundThrough}
 use Rattle.calls.specs.Check.{Passes}
-use Rattle.calls.specs.Effect.{staying}
+use Rattle.calls.specs.Stores.{staying}
+use Rattle.calls.specs.Spans.{writeSpanNeed}
 use Rattle.calls.specs.Ladder.{row}
 use Rattle.calls.specs.Meaning.{rowsOf, answerOf}
 use Rattle.claims.specs.Algorithms.{copyRange, closeRegion, openRegion, algorithm1, algorithm2, algorithm3, algorithm4, algorithm5, algorithm6}
 use Rattle.calls.specs.Step.{step, after, outcomes, isAccepted}
-use Rattle.claims.specs.Kinds.{Kind, Formats, Leaves, Writes, Snaps, Reverts, kindOf}
+use Rattle.claims.specs.Kinds.{Kind, Formats, Leaves, Writes, WritesSpan, Snaps, Reverts, kindOf}
 use Rattle.claims.specs.History.{betaOf, Agree, isReam, isFormat, AreBytes, writtenBy, Standing, isSnapOf, Position, Nowhere, At, latestSnap, without, formattable, formatted}
-use Rattle.claims.specs.Ledger.{Ledger, ledgerStep, ledgerNumber, cellRead, ledgerNames, ledgerOf}
+use Rattle.claims.specs.Ledger.{Ledger, ledgerStep, ledgerNumber, cellRead, runRead, ledgerNames, ledgerOf}
 use Rattle.blocks.specs.declared.descriptor.Format.{Format}
 
 -- Areas and names.
@@ -46,12 +48,13 @@ NameClaim = (a b : List ℕ) → (same a b ≡ true) ↔ (a ≡ b)
 
 -- Refusals, formats and room.
 
--- the blocks that a change takes on a card: a write's need, a snap's c. A revert takes none: on revision 1 too its c blocks end at or below the active beta. And
+-- the blocks that a change takes on a card: a write's need, the sum of a span's, a snap's c. A revert takes none: on revision 1 too its c blocks end at or below the active beta. And
 -- those that a call takes
 unfoldable pub blocksTaken : Kind → List ℕ → ℕ
 blocksTaken (Formats format) c = 0
 blocksTaken Leaves c = 0
 blocksTaken (Writes l block) c = let d = activeOf (descriptorsOf c) in need (d .alpha .0) (foundThrough c d l)
+blocksTaken (WritesSpan o bytes) c = writeSpanNeed c o bytes
 blocksTaken (Snaps name) c = costOf (activeOf (descriptorsOf c))
 blocksTaken (Reverts name) c = 0
 
@@ -59,7 +62,7 @@ unfoldable pub blocksNeeded : Call → List ℕ → ℕ
 unfolding kindOf blocksTaken
 blocksNeeded k c = blocksTaken (kindOf k) c
 
--- what is lent to a call at its entry, besides the card: the block of a read or of a write, the records of a listing
+-- what is lent to a call at its entry, besides the card: the block of a read or of a write, the bytes of a span, the records of a listing
 unfoldable pub lentAtEntry : Call → Lent
 lentAtEntry (Ream format) = None
 lentAtEntry (Read target name l block) = Block block
@@ -69,6 +72,8 @@ lentAtEntry (Revert name) = None
 lentAtEntry (Listing records) = Records records
 lentAtEntry Check = None
 lentAtEntry (Visit target name l) = None
+lentAtEntry (SpanRead target name o bytes) = Block bytes
+lentAtEntry (SpanWrite o bytes) = Block bytes
 
 -- A refusal alters no byte of the card or of lent memory and gives nothing, and an accepted call answers 0 with place 0.
 unfoldable pub RefusalClaim : Type 0
@@ -84,13 +89,16 @@ ReamClaim =
     → (isAccepted (answerOf (Ream format) area) ≡ formattable area format)
     × (formattable area format ≡ true → step (Ream format) area .card ≡ formatted area format)
 
--- The whole chain after an accepted call: a write moves the active beta by its need, a snap opens a region of c blocks at beta, a revert goes back to
+-- The whole chain after an accepted call: a write moves the active beta by its need, a span write by the sum of its blocks', a snap opens a region of c blocks at beta, a revert goes back to
 -- the snapshot's region, with those before it; on revision 1 the snapshot stays too, and a region opens at its beta (02, W5). The active name stays, and every
 -- other descriptor is as it was.
 pub record MovesBeta (c : List ℕ) : Type 0 where
   pub write : (l : ℕ) (block : List ℕ) → isAccepted (answerOf (Write l block) c) ≡ true
       → descriptorsOf (step (Write l block) c .card)
       ≡ snapshotsOf (descriptorsOf c) ++ (extendedOf (activeOf (descriptorsOf c)) (blocksNeeded (Write l block) c) ∷ [])
+  pub span : (o : ℕ) (bytes : List ℕ) → isAccepted (answerOf (SpanWrite o bytes) c) ≡ true
+      → descriptorsOf (step (SpanWrite o bytes) c .card)
+      ≡ snapshotsOf (descriptorsOf c) ++ (extendedOf (activeOf (descriptorsOf c)) (blocksNeeded (SpanWrite o bytes) c) ∷ [])
   pub snap : (name : List ℕ) → isAccepted (answerOf (Snap name) c) ≡ true
       → descriptorsOf (step (Snap name) c .card)
       ≡ snapshotsOf (descriptorsOf c) ++ (linkedOf (renamedOf (activeOf (descriptorsOf c)) name) (activeOf (descriptorsOf c) .beta) ∷ reopenedOf (activeOf (descriptorsOf c)) ∷ [])
@@ -119,6 +127,7 @@ unfoldable pub leaves : Kind → Bool
 leaves (Formats format) = false
 leaves Leaves = true
 leaves (Writes l block) = false
+leaves (WritesSpan o bytes) = false
 leaves (Snaps name) = false
 leaves (Reverts name) = false
 
@@ -135,8 +144,11 @@ fills (Revert name) = false
 fills (Listing records) = true
 fills Check = false
 fills (Visit target name l) = false
+fills (SpanRead target name o bytes) = true
+fills (SpanWrite o bytes) = false
 
--- No call alters the card's length; a read, a visit, a listing and a check alter no byte of the card; only a read and a listing alter what is lent.
+-- No call alters the card's length; a read, a span read, a visit, a listing and a check alter no byte of the card; only a read, a span read and a listing alter what is
+-- lent.
 unfoldable pub FrameClaim : Type 0
 FrameClaim =
     (k : Call) (c : List ℕ)
@@ -164,6 +176,10 @@ pub record ByName (c v : List ℕ) : Type 0 where
   pub check : (step Check c .card ≡ c) × (step Check c .outcome .lent ≡ None) × (blocksNeeded Check c ≡ 0) × (writtenBy Check ≡ []) × (isReam Check ≡ false) × (isFormat Check c ≡ false) × (isSnapOf v Check ≡ false) × (step Check c .outcome .given ≡ NoneGiven)
   pub visit : (target : Target) (name : List ℕ) (l : ℕ) → let k = Visit target name l in
       (step k c .card ≡ c) × (step k c .outcome .lent ≡ None) × (blocksNeeded k c ≡ 0) × (writtenBy k ≡ []) × (isReam k ≡ false) × (isFormat k c ≡ false) × (isSnapOf v k ≡ false)
+  pub span-read : (target : Target) (name : List ℕ) (o : ℕ) (bytes : List ℕ) → let k = SpanRead target name o bytes in
+      (step k c .card ≡ c) × (blocksNeeded k c ≡ 0) × (writtenBy k ≡ []) × (isReam k ≡ false) × (isFormat k c ≡ false) × (isSnapOf v k ≡ false) × (step k c .outcome .given ≡ NoneGiven)
+  pub span-write : (o : ℕ) (bytes : List ℕ) → let k = SpanWrite o bytes in
+      (step k c .outcome .lent ≡ Block bytes) × (blocksNeeded k c ≤ 2 * touched o (length bytes)) × (writtenBy k ≡ bytes) × (isReam k ≡ false) × (isFormat k c ≡ false) × (isSnapOf v k ≡ false) × (step k c .outcome .given ≡ NoneGiven)
 
 unfoldable pub ByNameClaim : Type 0
 ByNameClaim = (c v : List ℕ) → ByName c v
@@ -205,6 +221,8 @@ comesToChain (Revert name) c = not (areaBad c) && isName name
 comesToChain (Listing records) c = not (areaBad c)
 comesToChain Check c = not (areaBad c)
 comesToChain (Visit target name l) c = not (areaBad c) && (not (isSnapshot target) || isName name)
+comesToChain (SpanRead target name o bytes) c = not (areaBad c) && (not (isSnapshot target) || isName name)
+comesToChain (SpanWrite o bytes) c = not (areaBad c)
 
 -- A sound chain is all the descriptors from block 0 on; an unsound one is so at the block of its first unsound descriptor. 6 is given exactly where a
 -- call comes to an unsound chain, with that place.
@@ -316,7 +334,7 @@ recordNames n rs = map (λ (r : Record). r .name) (take n rs)
 pub record LedgerStep (k : Call) (c : List ℕ) (g : Ledger) : Type 0 where
   -- "reads match": what the card holds is the ledger, before the call
   pub matches : ledgerOf c ≡ g
-  -- 4, 7, 8, 9, 12, 13 and 14 are the ledger's, in its order; besides them only 11 arises, so that 6 and 10 never do
+  -- 4, 7, 8, 9, 12, 13, 14 and 16 are the ledger's, in its order; besides them only 11 arises, so that 6 and 10 never do
   pub number : isReam k ≡ false → (answerOf k c .number ≡ ledgerNumber k g) ⊎ ((ledgerNumber k g ≡ 0) × (answerOf k c .number ≡ 11))
   pub place : answerOf k c .place ≡ 0
   -- 11 exactly where the ledger has nothing against the call and the blocks needed exceed those free
@@ -324,6 +342,9 @@ pub record LedgerStep (k : Call) (c : List ℕ) (g : Ledger) : Type 0 where
   -- an accepted read gives the ledger's cell, whole
   pub reads : (target : Target) (name : List ℕ) (l : ℕ) (block : List ℕ) → k ≡ Read target name l block → isAccepted (answerOf k c) ≡ true
       → step k c .outcome .lent ≡ Block (cellRead g target name l)
+  -- an accepted span read gives its part of the ledger's run (02, W1)
+  pub spans : (target : Target) (name : List ℕ) (o : ℕ) (bytes : List ℕ) → k ≡ SpanRead target name o bytes → isAccepted (answerOf k c) ≡ true
+      → step k c .outcome .lent ≡ Block (part (runRead g target name) o (length bytes))
   -- an accepted listing gives the ledger's names in their order, and leaves the records after them
   pub lists : (records : List Record) → k ≡ Listing records → isAccepted (answerOf k c) ≡ true
       → (filled : List Record) × (step k c .outcome .lent ≡ Records filled) × (recordNames (length (ledgerNames g)) filled ≡ ledgerNames g) × (drop (length (ledgerNames g)) filled ≡ drop (length (ledgerNames g)) records)

@@ -14,7 +14,7 @@ use Rattle.calls.specs.Call.{Call}
 use Rattle.calls.specs.Parts.{areaBad, descriptorsOf}
 use Rattle.calls.specs.Meaning.{answerOf}
 use Rattle.calls.specs.Step.{step, isAccepted}
-use Rattle.claims.specs.Kinds.{Kind, Formats, Leaves, Writes, Snaps, Reverts, kindOf}
+use Rattle.claims.specs.Kinds.{Kind, Formats, Leaves, Writes, WritesSpan, Snaps, Reverts, kindOf}
 use Rattle.blocks.specs.declared.descriptor.Format.{Format}
 
 -- beta, the active descriptor's
@@ -34,6 +34,7 @@ unfoldable pub formats : Kind → Bool
 formats (Formats format) = true
 formats Leaves = false
 formats (Writes l block) = false
+formats (WritesSpan o bytes) = false
 formats (Snaps name) = false
 formats (Reverts name) = false
 
@@ -54,6 +55,7 @@ unfoldable pub bytesOf : Kind → List ℕ
 bytesOf (Formats format) = []
 bytesOf Leaves = []
 bytesOf (Writes l block) = block
+bytesOf (WritesSpan o bytes) = bytes
 bytesOf (Snaps name) = []
 bytesOf (Reverts name) = []
 
@@ -61,7 +63,7 @@ unfoldable pub writtenBy : Call → List ℕ
 unfolding kindOf bytesOf
 writtenBy k = bytesOf (kindOf k)
 
--- the lists of calls that the claims speak of: reads, writes of bytes, snaps, reverts, lists, checks, visits and refused reams, in any order
+-- the lists of calls that the claims speak of: reads, writes of bytes, snaps, reverts, lists, checks, visits, span reads, span writes of bytes and refused reams, in any order
 pub data Standing (c : List ℕ) : List Call → Type 0 where
   none : Standing c []
   more : {k : Call} {ks : List Call} → isFormat k c ≡ false → AreBytes (writtenBy k) → Standing c ks → Standing c (k ∷ ks)
@@ -71,6 +73,7 @@ unfoldable pub snapsAs : List ℕ → Kind → Bool
 snapsAs name (Formats format) = false
 snapsAs name Leaves = false
 snapsAs name (Writes l block) = false
+snapsAs name (WritesSpan o bytes) = false
 snapsAs name (Snaps n) = same n name
 snapsAs name (Reverts n) = false
 

@@ -12,7 +12,7 @@ use Rattle.calls.specs.Call.{Call, Ream, Revert, answer, accepted}
 use Rattle.blocks.specs.Name.{isName}
 use Rattle.blocks.specs.declared.descriptor.Format.{Format}
 use Rattle.calls.specs.Parts.{areaBad, descriptorsOf, snapshotsOf, withName}
-use Rattle.calls.specs.Effect.{staying}
+use Rattle.calls.specs.Stores.{staying}
 use Rattle.calls.specs.Meaning.{answerOf}
 use Rattle.calls.specs.Step.{step, after, isAccepted}
 use Rattle.claims.specs.History.{betaOf, Agree, AreBytes, Standing, At, latestSnap}

@@ -41,7 +41,7 @@ pub fn entry_at(card: &[u8], m: Physical, j: u32) -> Physical
 }
 
 // Entry `j` of table block `m`, if it is in place, and the region that contains what it names.
-fn locate_in(
+pub fn locate_in(
     card: &[u8],
     starts: &[u32],
     count: usize,

@@ -11,7 +11,7 @@ use Rattle.blocks.specs.Bytes.{blockSize}
 use Rattle.blocks.specs.Descriptor.{asFormat}
 use Rattle.blocks.specs.declared.descriptor.Format.{Format}
 use Rattle.calls.specs.Call.{Call, Outcome, None, accepted}
-use Rattle.calls.specs.Effect.{staying}
+use Rattle.calls.specs.Stores.{staying}
 use Rattle.calls.specs.Step.{after, outcomes}
 use Rattle.claims.specs.History.{Agree, AreBytes, Standing, none, more, isReam, isFormat, writtenBy, formattable, formatted, isSnapOf, Position, Nowhere, At, latestSnap, without}
 use Rattle.claims.specs.Claims.{Matched, RevertedAt, Demand3}

@@ -13,7 +13,7 @@ use Rattle.blocks.specs.declared.descriptor.Format.{Format}
 use Rattle.calls.specs.declared.answer.Answer.{Answer}
 use Rattle.calls.specs.Call.{Call, Outcome, accepted}
 use Rattle.calls.specs.Parts.{descriptorsOf, snapshotsOf, withName}
-use Rattle.calls.specs.Effect.{staying}
+use Rattle.calls.specs.Stores.{staying}
 use Rattle.calls.specs.Step.{after, outcomes}
 use Rattle.claims.specs.History.{betaOf, Agree, AreBytes, Standing, none, more, isReam, isFormat, writtenBy, formattable, formatted, isSnapOf, Position, Nowhere, At, latestSnap, without}
 use Rattle.claims.specs.Claims.{Matched, RevertedAt, Forgets, RollbackClaim, FormatClaim, FormatLedgerClaim}

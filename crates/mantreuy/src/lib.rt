@@ -1,4 +1,4 @@
-// The static library that C and Rust programs link: the eight calls and the padding of a name, on numbers and lent bytes.
+// The static library that C and Rust programs link: the ten calls and the padding of a name, on numbers and lent bytes.
 // Each call returns the number of its answer and stores the place; its contract is one equation, by the calls' `step`, the listing's by `listingOf`. A visit stores its name too.
 use blocks::descriptor;
 use blocks::descriptor::Format;
@@ -12,10 +12,12 @@ use reading::read;
 use reams::ream;
 use reverts::revert;
 use snaps::snap;
+use spanreading::span as span_read;
+use spanwriting::span as span_write;
 use visiting::visit;
 use writes::write;
 ghost use mathlib.Core.Path.{_≡_};
-ghost use Rattle.calls.specs.Call.{Ream, Read, Write, Snap, Revert, Check, Visit, None, Block, answer};
+ghost use Rattle.calls.specs.Call.{Ream, Read, Write, Snap, Revert, Check, Visit, SpanRead, SpanWrite, None, Block, answer};
 ghost use Rattle.calls.specs.Effect.{asVisited};
 ghost use Rattle.calls.specs.Step.{step};
 ghost use Rattle.blocks.specs.Descriptor.{formatOf};
@@ -90,6 +92,39 @@ pub extern "C" fn mantreuy_write(card: &mut [u8], block: u32, bytes: &[u8], plac
     ensures { λ r. ⌜ exported r (now (place .exit)) (Block (now (bytes .entry))) (now (card .exit)) ≡ step (Write block (now (bytes .entry))) (now (card .entry)) ⌝ }
 {
     let a = write::write(card, Logical(block), bytes);
+    *place = a.place;
+    a.number
+}
+
+// Reads as many bytes as are lent, from byte `offset` of the volume on, of the active store where `snapshot` is 0, else of the snapshot that has the name.
+#[no_mangle]
+pub extern "C" fn mantreuy_read_span(
+    card: &[u8],
+    snapshot: u32,
+    name: &[u8],
+    offset: u64,
+    out: &mut [u8],
+    place: &mut u32,
+) -> u32
+    ensures { λ r. ⌜ exported r (now (place .exit)) (Block (now (out .exit))) (now (card .entry)) ≡ step (SpanRead (targetIn snapshot) (nameIn (now (name .entry))) offset (now (out .entry))) (now (card .entry)) ⌝ }
+{
+    let target = argument::target_in(snapshot);
+    let a = span_read::read_span(card, target, argument::name_in(name), offset, out);
+    *place = a.place;
+    a.number
+}
+
+// Writes all the bytes that are lent, from byte `offset` of the active store on.
+#[no_mangle]
+pub extern "C" fn mantreuy_write_span(
+    card: &mut [u8],
+    offset: u64,
+    bytes: &[u8],
+    place: &mut u32,
+) -> u32
+    ensures { λ r. ⌜ exported r (now (place .exit)) (Block (now (bytes .entry))) (now (card .exit)) ≡ step (SpanWrite offset (now (bytes .entry))) (now (card .entry)) ⌝ }
+{
+    let a = span_write::write_span(card, offset, bytes);
     *place = a.place;
     a.number
 }

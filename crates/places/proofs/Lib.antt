@@ -9,6 +9,7 @@ pub mod PlacedWrite
 pub mod PlacedSnap
 pub mod PlacedRevert
 pub mod PlacedFormat
+pub mod PlacedSpan
 pub mod PlacedAnswers
 pub mod PlacedRun
 pub mod PlacedWell

@@ -9,7 +9,7 @@ use lib.ListN.{length, getD, replicate}
 use lib.Seq.{take-length}
 use lib.Dec.{eqb}
 use Rattle.blocks.specs.Pick.{pick}
-use Rattle.blocks.specs.Bytes.{blockCount}
+use Rattle.blocks.specs.Bytes.{part, blockCount}
 use Rattle.blocks.specs.Name.{noName}
 use Rattle.blocks.specs.declared.descriptor.Descriptor.{Descriptor}
 use Rattle.blocks.specs.declared.descriptor.Format.{Format}
@@ -26,12 +26,13 @@ use Rattle.calls.specs.Step.{step, after, isAccepted}
 use Rattle.calls.proofs.Passed.{ReadPassed, read-passed, visit-passed}
 use Rattle.claims.specs.Kinds.{kindOf}
 use Rattle.claims.specs.History.{Position, Nowhere, At, Standing, none, more, formats, isReam, isFormat, formatted}
-use Rattle.claims.specs.Ledger.{volumeNamed, volumeRead, namesFrom, ledgerNames}
+use Rattle.claims.specs.Ledger.{Ledger, runRead, volumeNamed, volumeRead, namesFrom, ledgerNames}
 use Rattle.claims.proofs.Runs.{standing-length, step-length}
 use Rattle.claims.proofs.Visits.{given-is}
-use Rattle.places.specs.Placed.{Cell, Nil, PlacedVolume, Placed, homeOf, contentOf, cellsBy, volumeBy, volumesBy, volumeIndex, noPlaces, firstPlaced, placedStep, placedAfter, placedTarget, originOf, nameAt, cellFound, cellPlace, placedVolume, placedOf, placedVisit, PlacedClaim, PlacedRunClaim, PlacedOriginClaim, PlacedGivesClaim}
+use Rattle.claims.proofs.LedgerFacts.{ledger-spans}
+use Rattle.places.specs.Placed.{Cell, Nil, PlacedVolume, Placed, homeOf, contentOf, cellsBy, volumeBy, volumesBy, volumeIndex, noPlaces, firstPlaced, placedStep, placedAfter, placedTarget, originOf, nameAt, cellFound, cellPlace, placedVolume, placedOf, placedVisit, PlacedClaim, PlacedRunClaim, PlacedOriginClaim, PlacedGivesClaim, ForgetClaim}
 use Rattle.places.specs.Origins.{Origins, firstOrigins, originsStep, originsAfter, originRead, regionName, originGiven, originsOf, LastWritten, OriginsClaim, LastWrittenClaim}
-use Rattle.places.proofs.PlacedForget.{content-found, by-change, by-named}
+use Rattle.places.proofs.PlacedForget.{content-found, by-change, by-named, forget-claim}
 use Rattle.places.proofs.PlacedLaws.{values-first}
 use Rattle.places.proofs.PlacedOrigin.{target-is, below, placed-origin-claim}
 use Rattle.places.proofs.PlacedRun.{placed-claim, placed-run-claim}
@@ -45,7 +46,7 @@ cell-home (x ∷ xs) (suc l) = cell-home xs l
 
 home-named : (vs : List PlacedVolume) (name : List ℕ) → cellsBy homeOf (getD vs (volumeIndex vs name) noPlaces .cells) ≡ volumeNamed (volumesBy homeOf vs) name .cells
 unfolding homeOf
-home-named vs name = by-named homeOf (λ n block. At n) (λ k block. refl) vs name
+home-named vs name = by-named homeOf (λ n becomes old. At n) (λ k f x. refl) vs name
 
 read-origin : (p : Placed) (target : Target) (name : List ℕ) (l : ℕ) → originRead (originsOf p) target name l ≡ originOf p target name l
 unfolding originRead originsOf originOf volumeRead placedTarget volumeBy
@@ -68,7 +69,7 @@ name-origin p k = names-at (p .snapshots) (p .active) k
 -- carried by their own step
 home-step : (k : Call) (p : Placed) → formats (kindOf k) ≡ false → originsOf (placedStep k p) ≡ originsStep k (originsOf p)
 unfolding originsOf originsStep placedStep homeOf
-home-step k p f = by-change homeOf (λ n block. At n) (λ i block. refl) (kindOf k) p f
+home-step k p f = by-change homeOf (λ n becomes old. At n) (λ i g x. refl) (kindOf k) p f
 
 no-format : (k : Call) (c : List ℕ) → isFormat k c ≡ false → isAccepted (answerOf k c) ≡ true → formats (kindOf k) ≡ false
 unfolding isFormat isReam
@@ -152,9 +153,10 @@ given-same p Nowhere = refl
 given-same p (At k) = ap NameGiven (name-origin p k)
 
 pub placed-gives-claim : PlacedGivesClaim
-unfolding PlacedGivesClaim
+unfolding PlacedGivesClaim ForgetClaim
 placed-gives-claim c passing target name l = (
   read-gives c passing target name l,
+  λ o bytes ok. ledger-spans c passing target name o bytes ok ∙ ap (λ (g : Ledger). Block (part (runRead g target name) o (length bytes))) (sym (forget-claim c)),
   λ ok. visit-gives c passing target name l ok ∙ ap (originGiven (originsOf (placedOf c))) (read-origin (placedOf c) target name l) ∙ given-same (placedOf c) (originOf (placedOf c) target name l),
 )
 

@@ -2,11 +2,11 @@
 use mathlib.Core.Path.{_≡_, refl, sym, ap, _∙_}
 use mathlib.Core.Bool.{Bool, true, false, not, _&&_}
 use mathlib.Core.List.{List, [], _∷_, _++_, append-nil}
-use Prim.Native.Nat.{ℕ, _+_}
+use Prim.Native.Nat.{ℕ, _+_, _*_}
 use native.Mathlib.Omega.{arith}
 use lib.ListN.{length}
 use lib.Dec.{eqb, ltb, leb}
-use borrow.Author.Tests.{leb-false, le-ltb}
+use borrow.Author.Tests.{leb-false, le-ltb, ltb-false}
 use Rattle.blocks.specs.Pick.{pick}
 use Rattle.blocks.specs.Bytes.{blockCount}
 use Rattle.blocks.specs.Descriptor.{costOf}
@@ -15,7 +15,8 @@ use Rattle.blocks.specs.declared.descriptor.Format.{Format}
 use Rattle.blocks.proofs.BoolLaws.{no}
 use Rattle.chains.specs.Chain.{chain, activeOf}
 use Rattle.calls.specs.declared.answer.Answer.{Answer}
-use Rattle.calls.specs.Call.{Call, Ream, Write, Snap, Revert, answer, accepted}
+use Rattle.pieces.specs.Span.{touched}
+use Rattle.calls.specs.Call.{Call, Ream, Write, SpanWrite, Snap, Revert, answer, accepted}
 use Rattle.calls.specs.Parts.{descriptorsOf}
 use Rattle.calls.specs.Check.{Passes}
 use Rattle.calls.specs.Ladder.{Row, row, firstRow, admission, reamRows}
@@ -29,9 +30,10 @@ use Rattle.claims.specs.Claims.{blocksTaken, blocksNeeded}
 use Rattle.claims.proofs.LedgerFacts.{active-found}
 use Rattle.claims.proofs.LedgerLaws.{cells-length}
 use Rattle.claims.proofs.Owed.{owed}
-use Rattle.places.specs.Placed.{forget, placedNeed, placeRows, placedRows, placedAnswer, placedVolume, placedOf, PlacedNeedClaim, ForgetClaim}
-use Rattle.places.proofs.CallKinds.{ByKind, formatting, leaving, writing, snapping, reverting, by-kind}
+use Rattle.places.specs.Placed.{forget, placedNeed, spanNeedPlaced, placeRows, placedRows, placedAnswer, placedVolume, placedOf, PlacedNeedClaim, ForgetClaim}
+use Rattle.places.proofs.CallKinds.{ByKind, formatting, leaving, writing, spanning, snapping, reverting, by-kind}
 use Rattle.places.proofs.PlacedForget.{forget-claim}
+use Rattle.places.proofs.PlacedSpan.{span-room}
 use Rattle.places.proofs.PlacedNeed.{placed-need-claim}
 
 -- rows that all give a refusal
@@ -83,9 +85,24 @@ module _ (c : List ℕ) (p : Passes c) where
   inside l block h =
       ap (λ (n : ℕ). leb n l) (sym (cells-length c d (d .volume) 0)) ∙ below-by (not (eqb (length block) 512)) (leb (length (cellsFrom c d (d .volume) 0)) l) h
 
-  needs : (l : ℕ) (block : List ℕ) → eqb (firstRow (ledgerRows (Write l block) g) .number) 0 ≡ true → blocksNeeded (Write l block) c ≡ placedNeed (placedOf c) l
+  needs : (l : ℕ) (block : List ℕ) → eqb (firstRow (ledgerRows (Write l block) g) .number) 0 ≡ true → ltb (blockCount c) (betaOf c + blocksNeeded (Write l block) c) ≡ ltb (blockCount c) (betaOf c + placedNeed (placedOf c) l)
   unfolding PlacedNeedClaim blocksNeeded
-  needs l block h = let b = inside l block h in sym (placed-need-claim c l (p .sound) (leb-false (d .volume) l b) (active-found c p l b))
+  needs l block h = let b = inside l block h in ap (λ (n : ℕ). ltb (blockCount c) (betaOf c + n)) (sym (placed-need-claim c l (p .sound) (leb-false (d .volume) l b) (active-found c p l b)))
+
+  -- and where it has nothing against a span, that ends in the volume, and there is room for both sums or for neither
+  ends-by : (b : Bool) → eqb (pick b (answer 16 0) accepted .number) 0 ≡ true → b ≡ false
+  ends-by true h = no h
+  ends-by false h = refl
+
+  ends : (o : ℕ) (bytes : List ℕ) → eqb (firstRow (ledgerRows (SpanWrite o bytes) g) .number) 0 ≡ true → ltb (512 * d .volume) (o + length bytes) ≡ false
+  unfolding ledgerRows firstRow ledgerOf volumeOf
+  ends o bytes h =
+      ap (λ (n : ℕ). ltb (512 * n) (o + length bytes)) (sym (cells-length c d (d .volume) 0)) ∙ ends-by (ltb (512 * length (cellsFrom c d (d .volume) 0)) (o + length bytes)) h
+
+  span-needs : (o : ℕ) (bytes : List ℕ) → eqb (firstRow (ledgerRows (SpanWrite o bytes) g) .number) 0 ≡ true
+      → ltb (blockCount c) (betaOf c + blocksNeeded (SpanWrite o bytes) c) ≡ ltb (blockCount c) (betaOf c + spanNeedPlaced (placedOf c) o bytes (touched o (length bytes)))
+  unfolding blocksNeeded betaOf
+  span-needs o bytes h = span-room c p o bytes (ltb-false (512 * d .volume) (o + length bytes) (ends o bytes h))
 
   -- a call that takes no block
   no-need : ltb (blockCount c) (betaOf c + 0) ≡ false
@@ -104,13 +121,13 @@ module _ (c : List ℕ) (p : Passes c) where
       ∙ ap (λ (rs : List Row). firstRow (ledgerRows k (forget (placedOf c)) ++ rs)) (sym e)
 
   -- a call that takes blocks
-  by-room : (k : Call) (n : ℕ) → isReam k ≡ false → refusing (ledgerRows k g) ≡ true → (eqb (firstRow (ledgerRows k g) .number) 0 ≡ true → blocksNeeded k c ≡ n)
+  by-room : (k : Call) (n : ℕ) → isReam k ≡ false → refusing (ledgerRows k g) ≡ true → (eqb (firstRow (ledgerRows k g) .number) 0 ≡ true → ltb (blockCount c) (betaOf c + blocksNeeded k c) ≡ ltb (blockCount c) (betaOf c + n))
       → placeRows (kindOf k) (placedOf c) ≡ row (ltb (blockCount c) (betaOf c + n)) 11 0 ∷ [] → answerOf k c ≡ placedAnswer k (placedOf c)
   unfolding placedAnswer placedRows ForgetClaim
   by-room k n r f h e =
       owed k .ledger c p r
       ∙ guarded (eqb (firstRow (ledgerRows k g) .number) 0) (ltb (blockCount c) (betaOf c + blocksNeeded k c)) (ltb (blockCount c) (betaOf c + n)) (answer 11 0) (firstRow (ledgerRows k g))
-      (λ t. ap (λ (x : ℕ). ltb (blockCount c) (betaOf c + x)) (h t))
+      h
       ∙ sym (more-row (ledgerRows k g) (ltb (blockCount c) (betaOf c + n)) f)
       ∙ ap (λ (x : Ledger). firstRow (ledgerRows k x ++ (row (ltb (blockCount c) (betaOf c + n)) 11 0 ∷ []))) (sym (forget-claim c))
       ∙ ap (λ (rs : List Row). firstRow (ledgerRows k (forget (placedOf c)) ++ rs)) (sym e)
@@ -128,6 +145,7 @@ module _ (c : List ℕ) (p : Passes c) where
   answer-by (formatting {format = format}) = ream-answer format
   answer-by (leaving {k = k} e) = leaves-answer k e
   answer-by (writing {l = l} {block = block}) = by-room (Write l block) (placedNeed (placedOf c) l) refl refl (needs l block) refl
+  answer-by (spanning {o = o} {bytes = bytes}) = by-room (SpanWrite o bytes) (spanNeedPlaced (placedOf c) o bytes (touched o (length bytes))) refl refl (span-needs o bytes) refl
   answer-by (snapping {name = name}) = by-room (Snap name) (costOf d) refl refl (λ t. refl) refl
   answer-by (reverting {name = name}) = by-ledger (Revert name) refl refl refl
 

@@ -1,5 +1,5 @@
 -- A card's Placed without its places is its ledger, and so it is after its own step.
-use mathlib.Core.Path.{_≡_, refl, sym, ap}
+use mathlib.Core.Path.{_≡_, refl, sym, ap, _∙_}
 use mathlib.Core.Bool.{Bool, true, false}
 use mathlib.Core.List.{List, [], _∷_, _++_}
 use Prim.Native.Nat.{ℕ, zero, suc}
@@ -9,15 +9,16 @@ use Rattle.blocks.specs.Pick.{pick, same}
 use Rattle.blocks.specs.Bytes.{blockAt, zeroBlock}
 use Rattle.blocks.specs.declared.descriptor.Descriptor.{Descriptor}
 use Rattle.blocks.proofs.BoolLaws.{no}
+use Rattle.pieces.specs.Span.{spanBlock, touched, merged}
 use Rattle.chains.specs.Chain.{activeOf}
 use Rattle.entries.specs.declared.find.Found.{Found}
 use Rattle.entries.specs.declared.find.Found.the-variants.{Misplaced, Entry}
 use Rattle.calls.specs.Parts.{descriptorsOf, snapshotsOf, foundThrough, blockFound}
-use Rattle.calls.specs.Effect.{staying}
-use Rattle.claims.specs.Kinds.{Kind, Formats, Leaves, Writes, Snaps, Reverts}
+use Rattle.calls.specs.Stores.{staying}
+use Rattle.claims.specs.Kinds.{Kind, Formats, Leaves, Writes, WritesSpan, Snaps, Reverts}
 use Rattle.claims.specs.History.{formats}
-use Rattle.claims.specs.Ledger.{VolumeOf, volumeNamed, volumesKept, cellsFrom, volumeOf, volumesOf, ledgerOf, changeBy, ledgerChange}
-use Rattle.places.specs.Placed.{Cell, Nil, Held, PlacedVolume, Placed, contentOf, cellsBy, volumeBy, volumesBy, ledgerBy, forget, volumeIndex, noPlaces, namedVolume, placedWrite, placedOpening, placedActive, placedChange, valuesFrom, cellFound, cellPlace, placedVolume, placedVolumes, placedOf, ForgetClaim, ForgetStepClaim}
+use Rattle.claims.specs.Ledger.{VolumeOf, LedgerOf, volumeNamed, volumesKept, cellsFrom, volumeOf, volumesOf, ledgerOf, changedAt, spanCells, withCells, changeBy, ledgerChange}
+use Rattle.places.specs.Placed.{Cell, Nil, Held, PlacedVolume, Placed, contentOf, cellsBy, volumeBy, volumesBy, ledgerBy, forget, volumeIndex, noPlaces, namedVolume, placedWrite, placedOpening, placedActive, withVolumes, spanPlaced, placedChange, valuesFrom, cellFound, cellPlace, placedVolume, placedVolumes, placedOf, ForgetClaim, ForgetStepClaim}
 
 -- of a card
 held-by : (r : ℕ) (b : List ℕ) (z : Bool) → contentOf (pick z Nil (Held r b)) ≡ pick z zeroBlock b
@@ -48,13 +49,13 @@ pub forget-claim : ForgetClaim
 unfolding ForgetClaim forget placedOf ledgerOf
 forget-claim c = rw (forget-volumes c (snapshotsOf (descriptorsOf c)), forget-volume c (activeOf (descriptorsOf c)))
 
--- of a step, whatever is kept of a cell: keep says it of a cell, put of a block that is written in region k
-module _ {A : Type 0} (keep : Cell → A) (put : ℕ → List ℕ → A) (held : (k : ℕ) (block : List ℕ) → keep (Held k block) ≡ put k block) where
-  cells-set : (xs : List Cell) (l k : ℕ) (block : List ℕ) → cellsBy keep (set xs l (Held k block)) ≡ set (cellsBy keep xs) l (put k block)
-  unfolding cellsBy
-  cells-set [] l k block = refl
-  cells-set (x ∷ xs) zero k block = ap (λ (y : A). y ∷ cellsBy keep xs) (held k block)
-  cells-set (x ∷ xs) (suc l) k block = ap (λ (ys : List A). keep x ∷ ys) (cells-set xs l k block)
+-- of a step, whatever is kept of a cell: keep says it of a cell, put of one that is written in region k, by what its content becomes and what was kept
+module _ {A : Type 0} (keep : Cell → A) (put : ℕ → (List ℕ → List ℕ) → A → A) (held : (k : ℕ) (f : List ℕ → List ℕ) (x : Cell) → keep (Held k (f (contentOf x))) ≡ put k f (keep x)) where
+  cells-set : (xs : List Cell) (l k : ℕ) (f : List ℕ → List ℕ) → cellsBy keep (set xs l (Held k (f (contentOf (getD xs l Nil))))) ≡ changedAt (cellsBy keep xs) l (put k f)
+  unfolding cellsBy changedAt
+  cells-set [] l k f = refl
+  cells-set (x ∷ xs) zero k f = ap (λ (y : A). y ∷ cellsBy keep xs) (held k f x)
+  cells-set (x ∷ xs) (suc l) k f = ap (λ (ys : List A). keep x ∷ ys) (cells-set xs l k f)
 
   by-length : (vs : List PlacedVolume) → length (volumesBy keep vs) ≡ length vs
   unfolding volumesBy
@@ -105,11 +106,33 @@ module _ {A : Type 0} (keep : Cell → A) (put : ℕ → List ℕ → A) (held :
   unfolding placedActive
   by-active p v i = active-by (eqb (p .revision) 1) p v (suc i)
 
+  -- a span, block by block
+  by-write : (p : Placed) (l : ℕ) (f : List ℕ → List ℕ)
+      → ledgerBy keep (withVolumes p (p .snapshots) (placedWrite p l (f (contentOf (getD (p .active .cells) l Nil))))) ≡ withCells (ledgerBy keep p) (changedAt (ledgerBy keep p .active .cells) l (put (length (p .snapshots)) f))
+  unfolding ledgerBy placedWrite volumeBy
+  by-write p l f = ap (λ (xs : List A). withCells (ledgerBy keep p) xs) (cells-set (p .active .cells) l (length (p .snapshots)) f)
+
+  same-snapshots : (p : Placed) (o : ℕ) (bytes : List ℕ) (i : ℕ) → spanPlaced p o bytes i .snapshots ≡ p .snapshots
+  unfolding spanPlaced
+  same-snapshots p o bytes zero = refl
+  same-snapshots p o bytes (suc i) = same-snapshots p o bytes i
+
+  by-span : (p : Placed) (o : ℕ) (bytes : List ℕ) (i : ℕ) → ledgerBy keep (spanPlaced p o bytes i) ≡ withCells (ledgerBy keep p) (spanCells (put (length (p .snapshots))) (ledgerBy keep p .active .cells) o bytes i)
+  unfolding spanPlaced spanCells
+  by-span p o bytes zero = refl
+  by-span p o bytes (suc i) =
+      let q = spanPlaced p o bytes i in
+      let l = spanBlock o i in
+      by-write q l (λ old. merged old o bytes l)
+      ∙ ap (λ (n : ℕ). withCells (ledgerBy keep q) (changedAt (ledgerBy keep q .active .cells) l (put n (λ old. merged old o bytes l)))) (ap length (same-snapshots p o bytes i))
+      ∙ ap (λ (g : LedgerOf A). withCells g (changedAt (g .active .cells) l (put (length (p .snapshots)) (λ old. merged old o bytes l)))) (by-span p o bytes i)
+
   pub by-change : (x : Kind) (p : Placed) → formats x ≡ false → ledgerBy keep (placedChange x p) ≡ changeBy put x (ledgerBy keep p)
   unfolding formats ledgerBy placedChange changeBy placedWrite placedOpening volumeBy volumesBy
   by-change (Formats format) p f = no (sym f)
   by-change Leaves p f = refl
-  by-change (Writes l block) p f = rw (by-length (p .snapshots), cells-set (p .active .cells) l (length (p .snapshots)) block)
+  by-change (Writes l block) p f = rw (by-length (p .snapshots)) (by-write p l (λ old. block))
+  by-change (WritesSpan o bytes) p f = rw (by-length (p .snapshots)) (by-span p o bytes (touched o (length bytes)))
   by-change (Snaps name) p f = rw (by-append (p .snapshots) (namedVolume (p .active) name ∷ []))
   by-change (Reverts name) p f =
       let i = volumeIndex (p .snapshots) name in
@@ -118,4 +141,4 @@ module _ {A : Type 0} (keep : Cell → A) (put : ℕ → List ℕ → A) (held :
 -- the ledger keeps the content
 pub forget-step-claim : ForgetStepClaim
 unfolding ForgetStepClaim forget ledgerChange contentOf
-forget-step-claim x p f = by-change contentOf (λ k block. block) (λ k block. refl) x p f
+forget-step-claim x p f = by-change contentOf (λ k becomes old. becomes old) (λ k g y. refl) x p f

@@ -24,7 +24,7 @@ use Rattle.entries.specs.Rules.{Rules}
 use Rattle.entries.proofs.LocalLaws.{Region, local-table}
 use Rattle.calls.specs.Parts.{descriptorsOf, snapshotsOf, withName}
 use Rattle.calls.specs.Check.{Passes}
-use Rattle.calls.specs.Effect.{activatedOf, revertStores, staying}
+use Rattle.calls.specs.Stores.{activatedOf, revertStores, staying}
 use Rattle.calls.proofs.Passed.{RevertPassed}
 use Rattle.calls.proofs.CardLaws.{chain-is, snapshots-snoc}
 use Rattle.calls.proofs.ActiveLaws.{chain-starts, region-at, region-below}

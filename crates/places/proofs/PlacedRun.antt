@@ -15,7 +15,7 @@ use Rattle.calls.specs.Step.{step, after, isAccepted}
 use Rattle.claims.specs.Kinds.{Kind}
 use Rattle.claims.specs.History.{formats, isReam, isFormat, formatted}
 use Rattle.claims.specs.Claims.{ReamClaim}
-use Rattle.claims.proofs.Changes.{storesBy, Allowed, to-format, to-leave, to-write, to-snap, to-revert}
+use Rattle.claims.proofs.Changes.{storesBy, Allowed, to-format, to-leave, to-write, to-span, to-snap, to-revert}
 use Rattle.claims.proofs.Format.{formatted-passes}
 use Rattle.claims.proofs.LedgerRun.{passes-change}
 use Rattle.claims.proofs.Rows.{ream-claim}
@@ -24,6 +24,7 @@ use Rattle.places.specs.Placed.{Placed, firstPlaced, placedChange, place
 use Rattle.places.proofs.CallKinds.{ream-is}
 use Rattle.places.proofs.PlacedAnswers.{placed-answer}
 use Rattle.places.proofs.PlacedWrite.{placed-write}
+use Rattle.places.proofs.PlacedSpan.{placed-span}
 use Rattle.places.proofs.PlacedSnap.{placed-snap}
 use Rattle.places.proofs.PlacedRevert.{placed-revert}
 use Rattle.places.proofs.PlacedFormat.{first-placed}
@@ -38,6 +39,7 @@ module _ (c : List ℕ) (passing : Passes c) where
   placed-change f (to-format e) = no (sym f)
   placed-change f to-leave = refl
   placed-change f (to-write {l = l} {block = block} e) = placed-write c l block passing e
+  placed-change f (to-span {o = o} {bytes = bytes} e) = placed-span c (e .passes) o bytes (e .upto) (e .room)
   placed-change f (to-snap {name = name} e) = placed-snap c name passing e
   placed-change f (to-revert {name = name} e) = placed-revert c name passing e
 

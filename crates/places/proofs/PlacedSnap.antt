@@ -18,7 +18,7 @@ use Rattle.entries.specs.Entry.{phiAt}
 use Rattle.entries.proofs.LocalLaws.{Region, local-table}
 use Rattle.calls.specs.Parts.{descriptorsOf, snapshotsOf}
 use Rattle.calls.specs.Check.{Passes}
-use Rattle.calls.specs.Effect.{snapStores}
+use Rattle.calls.specs.Stores.{snapStores}
 use Rattle.calls.proofs.Passed.{SnapPassed}
 use Rattle.calls.proofs.CardLaws.{chain-is, snapshots-snoc}
 use Rattle.calls.proofs.ActiveLaws.{region-at, region-below, active-after, active-inside, active-last, active-rise}

@@ -26,7 +26,7 @@ use Rattle.entries.proofs.RulesLaws.{shared-entry}
 use Rattle.entries.proofs.TableLaws.{table-own, layout-two, group-below}
 use Rattle.calls.specs.Parts.{descriptorsOf, snapshotsOf, foundThrough}
 use Rattle.calls.specs.Check.{Passes}
-use Rattle.calls.specs.Effect.{writeStores}
+use Rattle.calls.specs.Stores.{writeStores}
 use Rattle.calls.proofs.Passed.{WritePassed}
 use Rattle.calls.proofs.CardLaws.{chain-is, snapshots-snoc}
 use Rattle.calls.proofs.ActiveLaws.{chain-some, region-at, active-last, active-form, active-rise}

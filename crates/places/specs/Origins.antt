@@ -29,10 +29,10 @@ abbrev pub firstOrigins : Format → Origins
 firstOrigins format = record { revision = format .revision; snapshots = []; active = record { name = format .name; cells = replicate (format .volume) Nowhere } }
 
 -- their step is the ledger's, which knows no bytes of a card, no alpha, no beta and no tables: a write sets the active region, whose index is the number of the
--- snapshots, whatever the block holds; a snap copies; a rollback takes the visit's back
+-- snapshots, whatever the block holds, and a span write does so with each block that it touches; a snap copies; a rollback takes the visit's back
 unfoldable pub originsStep : Call → Origins → Origins
 unfolding kindOf changeBy
-originsStep k o = changeBy (λ n block. At n) (kindOf k) o
+originsStep k o = changeBy (λ n becomes old. At n) (kindOf k) o
 
 -- carried along a run: their own step for each accepted call, nothing for a refused one
 unfoldable pub originsAfter : List Call → List ℕ → Origins → Origins

@@ -8,11 +8,12 @@ use Prim.Native.Nat.{ℕ, zero, suc, _+_, _/_, _<_, _≤_}
 use lib.ListN.{length, take, getD, set, replicate}
 use lib.Dec.{eqb, ltb}
 use Rattle.blocks.specs.Pick.{pick, same}
-use Rattle.blocks.specs.Bytes.{blockCount, blockAt, zeroBlock}
+use Rattle.blocks.specs.Bytes.{part, blockCount, blockAt, zeroBlock}
 use Rattle.blocks.specs.Name.{noName}
 use Rattle.blocks.specs.Descriptor.{tableSize, tableCount, costOf, costIn, revisionOf}
 use Rattle.blocks.specs.declared.descriptor.Descriptor.{Descriptor}
 use Rattle.blocks.specs.declared.descriptor.Format.{Format}
+use Rattle.pieces.specs.Span.{spanBlock, touched, merged}
 use Rattle.chains.specs.Chain.{mostDescriptors, chain, chainSound, named, activeOf}
 use Rattle.entries.specs.InPlace.{ownerIndex, ownerOf}
 use Rattle.entries.specs.Entry.{tableOf, foundBlock, need}
@@ -21,16 +22,16 @@ use Rattle.entries.specs.declared.find.Found.the-variants.{Misplaced, Entry}
 use Rattle.calls.specs.declared.answer.Answer.{Answer}
 use Rattle.calls.specs.declared.answer.Target.{Target}
 use Rattle.calls.specs.declared.answer.Target.the-variants.{Active, Snapshot}
-use Rattle.calls.specs.Call.{Call, Read, Check, Visit, Block, Given, NoneGiven, NameGiven}
+use Rattle.calls.specs.Call.{Call, Read, SpanRead, Check, Visit, Block, Given, NoneGiven, NameGiven}
 use Rattle.calls.specs.Parts.{descriptorsOf, snapshotsOf, isSnapshot, targetOf, foundThrough, isMisplaced}
 use Rattle.calls.specs.Check.{Passes}
 use Rattle.calls.specs.Ladder.{Row, row, firstRow, formatRows}
-use Rattle.calls.specs.Effect.{staying}
+use Rattle.calls.specs.Stores.{staying}
 use Rattle.calls.specs.Meaning.{answerOf}
 use Rattle.calls.specs.Step.{step, after, isAccepted}
-use Rattle.claims.specs.Kinds.{Kind, Formats, Leaves, Writes, Snaps, Reverts, kindOf}
+use Rattle.claims.specs.Kinds.{Kind, Formats, Leaves, Writes, WritesSpan, Snaps, Reverts, kindOf}
 use Rattle.claims.specs.History.{Position, Nowhere, At, formats, formattable, formatted}
-use Rattle.claims.specs.Ledger.{VolumeOf, LedgerOf, Ledger, ledgerRows, ledgerOf, ledgerChange}
+use Rattle.claims.specs.Ledger.{VolumeOf, LedgerOf, Ledger, ledgerRows, runRead, ledgerOf, ledgerChange}
 
 -- a cell: nil, or the region that holds it and its content
 pub data Cell : Type 0 where
@@ -145,6 +146,18 @@ placedWrite p l block =
     let v = p .active in
     record { name = v .name; beta = v .beta + placedNeed p l; tables = set (v .tables) (l / tableSize) (At k); cells = set (v .cells) l (Held k block) }
 
+-- it after the first i blocks of a span, each written on what those before left; and the blocks that they take
+unfoldable pub spanPlaced : Placed → ℕ → List ℕ → ℕ → Placed
+spanPlaced p o bytes zero = p
+spanPlaced p o bytes (suc i) =
+    let l = spanBlock o i in
+    let q = spanPlaced p o bytes i in
+    withVolumes q (q .snapshots) (placedWrite q l (merged (contentOf (getD (q .active .cells) l Nil)) o bytes l))
+
+unfoldable pub spanNeedPlaced : Placed → ℕ → List ℕ → ℕ → ℕ
+spanNeedPlaced p o bytes zero = 0
+spanNeedPlaced p o bytes (suc i) = spanNeedPlaced p o bytes i + placedNeed (spanPlaced p o bytes i) (spanBlock o i)
+
 -- a volume under another name
 abbrev pub namedVolume : PlacedVolume → List ℕ → PlacedVolume
 namedVolume v name = record { name = name; beta = v .beta; tables = v .tables; cells = v .cells }
@@ -162,6 +175,7 @@ unfoldable pub placedChange : Kind → Placed → Placed
 placedChange (Formats format) p = firstPlaced (p .blocks) format
 placedChange Leaves p = p
 placedChange (Writes l block) p = withVolumes p (p .snapshots) (placedWrite p l block)
+placedChange (WritesSpan o bytes) p = spanPlaced p o bytes (touched o (length bytes))
 placedChange (Snaps name) p = withVolumes p (p .snapshots ++ (namedVolume (p .active) name ∷ [])) (placedOpening p (p .active) (suc (activeIndex p)))
 placedChange (Reverts name) p =
     let i = volumeIndex (p .snapshots) name in
@@ -181,6 +195,7 @@ unfolding formatRows
 placeRows (Formats format) p = formatRows (p .blocks) format
 placeRows Leaves p = []
 placeRows (Writes l block) p = roomRow p (placedNeed p l) ∷ []
+placeRows (WritesSpan o bytes) p = roomRow p (spanNeedPlaced p o bytes (touched o (length bytes))) ∷ []
 placeRows (Snaps name) p = roomRow p (p .cost) ∷ []
 placeRows (Reverts name) p = []
 
@@ -298,11 +313,12 @@ PlacedClaim =
     → (answerOf k c ≡ placedAnswer k (placedOf c))
     × (isAccepted (answerOf k c) ≡ true → placedOf (step k c .card) ≡ placedStep k (placedOf c))
 
--- And it gives what is answered besides: the block of an accepted read, and what an accepted visit gives.
+-- And it gives what is answered besides: the block of an accepted read, the bytes of an accepted span read, and what an accepted visit gives.
 unfoldable pub PlacedGivesClaim : Type 0
 PlacedGivesClaim =
     (c : List ℕ) → Passes c → (target : Target) (name : List ℕ) (l : ℕ)
     → ((block : List ℕ) → isAccepted (answerOf (Read target name l block) c) ≡ true → step (Read target name l block) c .outcome .lent ≡ Block (contentOf (getD (placedTarget (placedOf c) target name .cells) l Nil)))
+    × ((o : ℕ) (bytes : List ℕ) → isAccepted (answerOf (SpanRead target name o bytes) c) ≡ true → step (SpanRead target name o bytes) c .outcome .lent ≡ Block (part (runRead (forget (placedOf c)) target name) o (length bytes)))
     × (isAccepted (answerOf (Visit target name l) c) ≡ true → step (Visit target name l) c .outcome .given ≡ placedVisit (placedOf c) (originOf (placedOf c) target name l))
 
 -- A format leaves the first, whatever the area held.

@@ -23,7 +23,7 @@ ghost use Rattle.blocks.specs.Descriptor.{costOf, tailAt, descriptorBlock, reop
 ghost use Rattle.chains.specs.Walk.{Enough, placesLeft};
 ghost use Rattle.calls.specs.Call.{Revert, None};
 ghost use Rattle.calls.specs.Parts.{areaBad, SoundCard};
-ghost use Rattle.calls.specs.Effect.{activatedOf};
+ghost use Rattle.calls.specs.Stores.{activatedOf};
 ghost use Rattle.calls.specs.Step.{step, done};
 
 // The descriptor `d` in block `p` becomes the active one: it gets the active name, and a nil next.

@@ -1,15 +1,15 @@
 -- A check of a given card, computed with little work. `entryAt` goes along the card from its first byte for each entry; here a table block is taken apart in one pass.
--- The laws say that the entries, and so the verdict, the answer and the value of a row, are those of the definitions.
+-- The laws say that the entries, and so the verdict, the answer of check and of a span write, what a call does and the value of a row, are those of the definitions.
 use mathlib.Core.Path.{_≡_, refl, sym, ap, _∙_}
 use mathlib.Core.Bool.{true, false, not, _&&_}
 use mathlib.Core.List.{List, [], _∷_, _++_, map}
 use Prim.Native.Nat.{ℕ, zero, suc, _+_, _*_}
 use native.Mathlib.Omega.{arith}
-use lib.ListN.{drop}
+use lib.ListN.{length, drop}
 use lib.Seq.{getD-drop, drop-drop}
 use lib.Dec.{eqb, ltb}
 use Rattle.blocks.specs.Pick.{pick}
-use Rattle.blocks.specs.Bytes.{u32At}
+use Rattle.blocks.specs.Bytes.{u32At, blockCount, storeAll}
 use Rattle.blocks.specs.Descriptor.{tableSize, phiSize, tableCount}
 use Rattle.blocks.specs.declared.descriptor.Descriptor.{Descriptor}
 use Rattle.entries.specs.Entry.{entryAt, phiAt, tableOf}
@@ -17,14 +17,15 @@ use Rattle.entries.specs.Naming.{Naming, tableNamings, tablesNamings, phiNaming
 use Rattle.entries.specs.declared.check.Verdict.{Verdict}
 use Rattle.entries.specs.declared.check.Verdict.the-variants.{Passed}
 use Rattle.calls.specs.declared.answer.Answer.{Answer}
-use Rattle.calls.specs.Call.{Call, Ream, Read, Write, Snap, Revert, Listing, Check, Visit}
+use Rattle.calls.specs.Call.{Call, Ream, Read, Write, Snap, Revert, Listing, Check, Visit, SpanRead, SpanWrite}
 use Rattle.calls.specs.Parts.{descriptorsOf}
 use Rattle.calls.specs.Check.{orElse, checkAll, checkCard, isFault, faultHolder}
-use Rattle.calls.specs.Ladder.{row, firstRow, admission, chainRow, checkRows}
-use Rattle.calls.specs.Meaning.{rowsOf, answerOf}
-use Rattle.calls.specs.Step.{step}
-use Rattle.calls.proofs.StepLaws.{step-answer}
-use Rattle.claims.specs.Bench.{Shown, Value, Result, expected, computed, showing, blockOf}
+use Rattle.calls.specs.Spans.{writeSpanNeed}
+use Rattle.calls.specs.Ladder.{Row, row, firstRow, admission, chainRow, checkRows, spanRow, spanWriteRows}
+use Rattle.calls.specs.Meaning.{rowsOf, answerOf, storesOf, filledOf, givenOf, lentOf}
+use Rattle.calls.specs.Step.{Done, step, done, isAccepted}
+use Rattle.claims.specs.History.{betaOf}
+use Rattle.claims.specs.Bench.{Value, Result, expected, computed, showing, blockOf}
 use Rattle.claims.proofs.Running.{running}
 
 -- the first k stored numbers of a list of bytes, each byte looked at once; 0 past its end
@@ -105,7 +106,7 @@ module _ (c : List ℕ) (d : Descriptor) where
   unfolding namings once
   namings-once = let e : 512 * d .alpha .0 + 64 + 4 * 0 ≡ 512 * d .alpha .0 + 64 = omega arith in rw (tables-once (tableCount (d .volume)) 0, phi-by phiSize 0, e)
 
--- the verdict on the descriptors of the card, and the answer of check
+-- the verdict on the descriptors of the card
 unfoldable pub allOnce : List ℕ → List Descriptor → List Descriptor → Verdict
 allOnce c ds [] = Passed
 allOnce c ds (d ∷ rest) = orElse (firstFault ds d [] (once c d)) (allOnce c ds rest)
@@ -115,35 +116,61 @@ unfolding checkAll allOnce checkOne
 all-once c ds [] = refl
 all-once c ds (d ∷ rest) = rw (namings-once c d, all-once c ds rest)
 
+-- the row of check's fault, and the answer of check
+abbrev rowOnce : List ℕ → Row
+rowOnce c = let v = allOnce c (descriptorsOf c) (descriptorsOf c) in row (isFault v) 10 (faultHolder v)
+
 unfoldable pub answerOnce : List ℕ → Answer
-answerOnce c = let v = allOnce c (descriptorsOf c) (descriptorsOf c) in firstRow (admission c ++ (chainRow c ∷ row (isFault v) 10 (faultHolder v) ∷ []))
+answerOnce c = firstRow (admission c ++ (chainRow c ∷ rowOnce c ∷ []))
 
 pub answer-once : (c : List ℕ) → answerOf Check c ≡ answerOnce c
 unfolding answerOf rowsOf checkRows checkCard answerOnce
 answer-once c = rw (all-once c (descriptorsOf c) (descriptorsOf c))
 
--- what a row of the table gives, with this answer
-abbrev shownBy : Answer → List ℕ → Call → Shown → Result
-shownBy a c k s = record { answer = a; shown = showing s (step k c) }
+-- the answer of a span write, which has check's row too
+unfoldable pub spanOnce : List ℕ → ℕ → List ℕ → Answer
+spanOnce c o bytes =
+    let room = row (ltb (blockCount c) (betaOf c + writeSpanNeed c o bytes)) 11 0 in
+    firstRow (admission c ++ (chainRow c ∷ spanRow c o (length bytes) ∷ rowOnce c ∷ room ∷ []))
 
--- the same, with the answer of check computed as above, of the other calls as the ladder says
-unfoldable pub resultBy : (c : List ℕ) (s : Shown) (k : Call) → (r : Result) × (shownBy (answerOf k c) c k s ≡ r)
-resultBy c s (Ream format) = (shownBy (answerOf (Ream format) c) c (Ream format) s, refl)
-resultBy c s (Read target name l block) = (shownBy (answerOf (Read target name l block) c) c (Read target name l block) s, refl)
-resultBy c s (Write l block) = (shownBy (answerOf (Write l block) c) c (Write l block) s, refl)
-resultBy c s (Snap name) = (shownBy (answerOf (Snap name) c) c (Snap name) s, refl)
-resultBy c s (Revert name) = (shownBy (answerOf (Revert name) c) c (Revert name) s, refl)
-resultBy c s (Listing records) = (shownBy (answerOf (Listing records) c) c (Listing records) s, refl)
-resultBy c s (Visit target name l) = (shownBy (answerOf (Visit target name l) c) c (Visit target name l) s, refl)
-resultBy c s Check = (shownBy (answerOnce c) c Check s, ap (λ (a : Answer). shownBy a c Check s) (answer-once c))
+pub span-once : (c : List ℕ) (o : ℕ) (bytes : List ℕ) → answerOf (SpanWrite o bytes) c ≡ spanOnce c o bytes
+unfolding answerOf rowsOf spanWriteRows checkCard betaOf spanOnce
+span-once c o bytes = rw (all-once c (descriptorsOf c) (descriptorsOf c))
 
--- what a row gives, computed so; it is what `computed` gives
+-- the answer of a call: of check and of a span write computed as above, of the others as the ladder says
+unfoldable pub answerBy : (c : List ℕ) (k : Call) → (a : Answer) × (answerOf k c ≡ a)
+answerBy c (Ream format) = (answerOf (Ream format) c, refl)
+answerBy c (Read target name l block) = (answerOf (Read target name l block) c, refl)
+answerBy c (Write l block) = (answerOf (Write l block) c, refl)
+answerBy c (Snap name) = (answerOf (Snap name) c, refl)
+answerBy c (Revert name) = (answerOf (Revert name) c, refl)
+answerBy c (Listing records) = (answerOf (Listing records) c, refl)
+answerBy c (Visit target name l) = (answerOf (Visit target name l) c, refl)
+answerBy c (SpanRead target name o bytes) = (answerOf (SpanRead target name o bytes) c, refl)
+answerBy c Check = (answerOnce c, answer-once c)
+answerBy c (SpanWrite o bytes) = (spanOnce c o bytes, span-once c o bytes)
+
+-- what a call does, given its answer; and with the answer computed so
+unfoldable pub doneBy : Call → List ℕ → Answer → Done
+doneBy k c a =
+    pick (isAccepted a)
+    (record { outcome = record { answer = a; lent = filledOf k c; given = givenOf k c }; card = storeAll c (storesOf k c) })
+    (done a (lentOf k) c)
+
+unfoldable pub doneOnce : Call → List ℕ → Done
+doneOnce k c = doneBy k c (answerBy c k .0)
+
+pub done-once : (k : Call) (c : List ℕ) → step k c ≡ doneOnce k c
+unfolding step doneBy doneOnce
+done-once k c = ap (doneBy k c) (answerBy c k .1)
+
+-- what a row of the table gives, computed so; it is what `computed` gives
 unfoldable pub quick : Value → Result
-quick v = resultBy (v .card) (v .shown) (v .call) .0
+quick v = let d = doneOnce (v .call) (v .card) in record { answer = d .outcome .answer; shown = showing (v .shown) d }
 
-quick-one : (v : Value) → computed v ≡ quick v
+pub quick-one : (v : Value) → computed v ≡ quick v
 unfolding computed quick
-quick-one v = ap (λ (a : Answer). shownBy a (v .card) (v .call) (v .shown)) (step-answer (v .call) (v .card)) ∙ resultBy (v .card) (v .shown) (v .call) .1
+quick-one v = ap (λ (d : Done). record { answer = d .outcome .answer; shown = showing (v .shown) d }) (done-once (v .call) (v .card))
 
 pub quick-all : (vs : List Value) → map computed vs ≡ map quick vs
 quick-all [] = refl
@@ -151,5 +178,5 @@ quick-all (v ∷ vs) = rw (quick-one v, quick-all vs)
 
 -- every definition that a row computed so goes through: `unfolding runningOnce` opens them all
 unfoldable pub runningOnce : ℕ
-unfolding running expected showing blockOf numbers tableBy tablesOnce phiBy once allOnce answerOnce resultBy quick
+unfolding running expected showing blockOf numbers tableBy tablesOnce phiBy once allOnce answerOnce spanOnce answerBy doneBy doneOnce quick
 runningOnce = 0

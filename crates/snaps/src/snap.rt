@@ -23,7 +23,8 @@ ghost use Rattle.blocks.specs.Bytes.{storeAll, blockSize};
 ghost use Rattle.blocks.specs.Descriptor.{costOf};
 ghost use Rattle.calls.specs.Call.{Snap, None};
 ghost use Rattle.calls.specs.Parts.{areaBad, SoundCard};
-ghost use Rattle.calls.specs.Effect.{snapping, noSite, siteOf};
+ghost use Rattle.calls.specs.Stores.{snapping};
+ghost use Rattle.calls.specs.Effect.{noSite, siteOf};
 ghost use Rattle.calls.specs.Step.{step, done};
 
 // Opens a region at the active descriptor's beta, and leaves that descriptor behind under the name.

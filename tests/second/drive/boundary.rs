@@ -1,11 +1,13 @@
 //! The C boundary of the library, and the own store behind the same boundary.
 
-use crate::call::{carry_out, Call};
+use crate::call::{carry_out, Call, Said};
 use crate::declared::*;
 use crate::lent::{noise, Lent};
 use crate::numbers::{MOST_DESCRIPTORS, NAME_SIZE};
 use crate::rng::Rng;
-use crate::store::{number_at, padded, store_number, unpadded, Logical, Name, Record, Target};
+use crate::store::{
+    self, number_at, padded, store_number, unpadded, Logical, Name, Record, Target,
+};
 
 /// A call's arguments and the memory lent to it besides the card.
 #[derive(Clone, PartialEq, Eq)]
@@ -42,6 +44,16 @@ pub enum Ask {
         block: u32,
         /// Sixteen bytes: a part of the answer, which every call stores.
         visit: Lent,
+    },
+    ReadSpan {
+        snapshot: u32,
+        name: Lent,
+        offset: u64,
+        out: Lent,
+    },
+    WriteSpan {
+        offset: u64,
+        bytes: Lent,
     },
 }
 
@@ -99,6 +111,20 @@ impl Ask {
             } => Call::Visit {
                 target: target_of(*snapshot, name),
                 logical: Logical(u64::from(*block)),
+            },
+            Ask::ReadSpan {
+                snapshot,
+                name,
+                offset,
+                out,
+            } => Call::ReadSpan {
+                target: target_of(*snapshot, name),
+                offset: *offset,
+                lent: out.part().to_vec(),
+            },
+            Ask::WriteSpan { offset, bytes } => Call::WriteSpan {
+                offset: *offset,
+                lent: bytes.part().to_vec(),
             },
         }
     }
@@ -159,6 +185,23 @@ impl Ask {
                     visit: unset_name(rng),
                 }
             }
+            Call::ReadSpan {
+                target,
+                offset,
+                lent,
+            } => {
+                let (snapshot, name) = lent_target(target, rng);
+                Ask::ReadSpan {
+                    snapshot,
+                    name,
+                    offset: *offset,
+                    out: Lent::new(rng, lent, 40),
+                }
+            }
+            Call::WriteSpan { offset, lent } => Ask::WriteSpan {
+                offset: *offset,
+                bytes: Lent::new(rng, lent, 40),
+            },
         }
     }
 
@@ -209,6 +252,34 @@ impl Ask {
                 "visit snapshot {snapshot} name {} block {block}",
                 text(name)
             ),
+            Ask::ReadSpan {
+                snapshot,
+                name,
+                offset,
+                out,
+            } => format!(
+                "read span snapshot {snapshot} name {} offset {offset} length {}",
+                text(name),
+                out.length()
+            ),
+            Ask::WriteSpan { offset, bytes } => {
+                format!("write span offset {offset} length {}", bytes.length())
+            }
+        }
+    }
+
+    /// What was said, by the answer and this call with its memory at exit.
+    pub fn said(&self, answer: Answer) -> Said {
+        let (block, records) = self.call().lent();
+        Said {
+            answer: store::Answer {
+                number: u64::from(answer.0),
+                place: u64::from(answer.1),
+            },
+            block,
+            records,
+            filled: 0,
+            visit: self.visit(),
         }
     }
 }
@@ -273,6 +344,20 @@ pub fn by_library(card: &mut [u8], ask: &mut Ask) -> Answer {
                 let (name, length) = lend(name.part_mut());
                 let (visit, _) = lend(visit.part_mut());
                 mantreuy_visit(card, n, *snapshot, name, length, *block, visit, at)
+            }
+            Ask::ReadSpan {
+                snapshot,
+                name,
+                offset,
+                out,
+            } => {
+                let (name, length) = lend(name.part_mut());
+                let (out, room) = lend(out.part_mut());
+                mantreuy_read_span(card, n, *snapshot, name, length, *offset, out, room, at)
+            }
+            Ask::WriteSpan { offset, bytes } => {
+                let (bytes, length) = lend(bytes.part_mut());
+                mantreuy_write_span(card, n, *offset, bytes, length, at)
             }
         }
     };
@@ -345,7 +430,9 @@ fn store_record(bytes: &mut [u8], record: &Record) {
 pub fn by_own(card: &mut [u8], ask: &mut Ask) -> Answer {
     let said = carry_out(card, &ask.call());
     match ask {
-        Ask::Read { out, .. } => out.part_mut().copy_from_slice(&said.block),
+        Ask::Read { out, .. } | Ask::ReadSpan { out, .. } => {
+            out.part_mut().copy_from_slice(&said.block);
+        }
         Ask::Visit { visit, .. } => visit.part_mut().copy_from_slice(&said.visit),
         Ask::List { records } => {
             let chunks = records.part_mut().chunks_exact_mut(RECORD_SIZE);

@@ -13,7 +13,7 @@ use crate::store::{self, Logical, Record, Target, NOTHING};
 use crate::table::Table;
 
 /// The kinds of calls on a damaged card, some more often.
-const OFTEN: [Kind; 13] = [
+const OFTEN: [Kind; 19] = [
     Kind::Read,
     Kind::Read,
     Kind::Read,
@@ -27,6 +27,12 @@ const OFTEN: [Kind; 13] = [
     Kind::Check,
     Kind::Visit,
     Kind::Visit,
+    Kind::ReadSpan,
+    Kind::ReadSpan,
+    Kind::ReadSpan,
+    Kind::WriteSpan,
+    Kind::WriteSpan,
+    Kind::WriteSpan,
 ];
 
 /// The list of a seed: a card in use, damage, calls, more damage, more calls.
@@ -61,12 +67,12 @@ pub fn one(seed: u64, table: &mut Table) -> Result<(), String> {
             damaged.truncate(length as usize);
         }
         let mut pair = Pair::new(Lent::new(&mut maker.rng, &damaged, 1_100));
-        for k in 0..maker.rng.between(7, 20) {
+        for k in 0..maker.rng.between(10, 24) {
             let area = maker.area_length(&pair.own);
             // Reams last: they make the card good again.
             let kind = match k {
                 0 => Kind::Check,
-                18.. => Kind::Ream,
+                22.. => Kind::Ream,
                 _ => *maker.rng.pick(&OFTEN),
             };
             let ask = maker.make(kind, pair.own.part());
@@ -98,7 +104,7 @@ fn wide_shape(rng: &mut Rng) -> Shape {
     }
 }
 
-/// Formats the card and uses it by the own store.
+/// Formats the card and uses it by the own store. Spans are left out: each would check the card.
 fn in_use(maker: &mut Maker, card: &mut [u8], length: u64) {
     let mut ask = maker.first_ream();
     by_own(card, &mut ask);
@@ -108,7 +114,12 @@ fn in_use(maker: &mut Maker, card: &mut [u8], length: u64) {
         let mut ask = maker.next(card);
         if matches!(
             ask,
-            Ask::Check | Ask::Read { .. } | Ask::List { .. } | Ask::Visit { .. }
+            Ask::Check
+                | Ask::Read { .. }
+                | Ask::List { .. }
+                | Ask::Visit { .. }
+                | Ask::ReadSpan { .. }
+                | Ask::WriteSpan { .. }
         ) {
             continue;
         }
@@ -144,6 +155,15 @@ fn reserved_bytes(rng: &mut Rng, card: &[u8], table: &mut Table) -> Result<(), S
         calls.push(Call::Visit {
             target: Target::Active,
             logical,
+        });
+        calls.push(Call::ReadSpan {
+            target: Target::Active,
+            offset: 0,
+            lent: vec![7; 700],
+        });
+        calls.push(Call::WriteSpan {
+            offset: u64::MAX,
+            lent: vec![7; 700],
         });
     }
     let mut pair = Pair::new(Lent::new(rng, &damaged, 0));

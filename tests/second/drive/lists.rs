@@ -3,11 +3,12 @@
 use crate::boundary::{unset_name, Ask};
 use crate::call::Kind;
 use crate::declared::RECORD_SIZE;
+use crate::extent;
 use crate::lent::{noise, Lent};
 use crate::numbers::*;
 use crate::pair::Pair;
 use crate::rng::Rng;
-use crate::store::{self, opening_cost, Logical, Name};
+use crate::store::{self, opening_cost, Logical, Name, NOTHING};
 
 /// The weight of snaps in a list that is to meet 13.
 pub const MANY_SNAPS: u64 = 4_000;
@@ -83,6 +84,14 @@ pub fn most_volume(layout: u64, blocks: u64) -> u64 {
     }
 }
 
+/// How many blocks of a card are free; 0 where it has no sound chain.
+fn free_blocks(card: &[u8]) -> u64 {
+    let mut records = [NOTHING; MOST_DESCRIPTORS];
+    let count = store::list(card, &mut records).1;
+    let last = records[..count].last();
+    last.map_or(0, |record| (card.len() / BLOCK) as u64 - record.beta)
+}
+
 /// What a card may hold before it is formatted.
 pub fn unformatted(rng: &mut Rng, blocks: usize) -> Vec<u8> {
     let length = blocks * BLOCK;
@@ -147,7 +156,7 @@ impl Maker {
     pub fn after(&mut self, ask: &Ask, number: u32) {
         let named = |name: &Lent| Name::try_from(name.part()).unwrap_or([0; NAME_SIZE]);
         match ask {
-            Ask::Write { .. } => self.full = number == 11,
+            Ask::Write { .. } | Ask::WriteSpan { .. } => self.full = number == 11,
             Ask::Snap { name } => {
                 self.full = number == 11;
                 if number == 0 {
@@ -222,8 +231,10 @@ impl Maker {
             _ => self.shape.snap_weight,
         };
         let kind = match self.rng.below(1_000 + snap) {
-            0..=449 => Kind::Write,
-            450..=609 => Kind::Read,
+            0..=359 => Kind::Write,
+            360..=449 => Kind::WriteSpan,
+            450..=539 => Kind::Read,
+            540..=609 => Kind::ReadSpan,
             610..=729 => Kind::Visit,
             730..=799 => Kind::List,
             800..=839 => Kind::Check,
@@ -251,7 +262,8 @@ impl Maker {
                 }
             }
             Kind::Write => {
-                let content = self.content(card);
+                let length = self.block_length();
+                let content = self.content(card, length);
                 Ask::Write {
                     block: self.logical(),
                     bytes: self.lent(&content),
@@ -278,6 +290,25 @@ impl Maker {
                     name,
                     block: self.logical(),
                     visit: unset_name(&mut self.rng),
+                }
+            }
+            Kind::ReadSpan => {
+                let (snapshot, name) = self.target();
+                let (offset, length) = self.extent(card);
+                let before = noise(&mut self.rng, length);
+                Ask::ReadSpan {
+                    snapshot,
+                    name,
+                    offset,
+                    out: self.lent(&before),
+                }
+            }
+            Kind::WriteSpan => {
+                let (offset, length) = self.extent(card);
+                let content = self.content(card, length);
+                Ask::WriteSpan {
+                    offset,
+                    bytes: self.lent(&content),
                 }
             }
         }
@@ -316,6 +347,13 @@ impl Maker {
         }
     }
 
+    /// The offset and the length of a span.
+    fn extent(&mut self, card: &[u8]) -> (u64, usize) {
+        let used = u64::from(*self.rng.pick(&self.hot));
+        let volume = u64::from(self.shape.volume);
+        extent::random(&mut self.rng, volume, used, free_blocks(card))
+    }
+
     fn block_length(&mut self) -> usize {
         match self.rng.below(40) {
             0 => *self.rng.pick(&[0, 1, 100, 511, 513, 1_024]),
@@ -324,8 +362,7 @@ impl Maker {
     }
 
     /// What is written: also bytes that would do harm if they were taken for entries.
-    fn content(&mut self, card: &[u8]) -> Vec<u8> {
-        let length = self.block_length();
+    fn content(&mut self, card: &[u8], length: usize) -> Vec<u8> {
         match self.rng.below(5) {
             0 => vec![self.rng.below(256) as u8; length],
             1 => vec![0; length],

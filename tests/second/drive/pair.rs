@@ -1,15 +1,19 @@
 //! Two cards, the library's and the own store's, and a call on both. Beside them stand the origins
-//! since the last format.
+//! since the last format, and beside a span the library's calls of whole blocks.
 
+use crate::blockwise;
 use crate::boundary::{by_library, by_own, Answer, Ask};
-use crate::call::Call;
+use crate::call::{Call, Said};
 use crate::counts::Dated;
 use crate::lent::Lent;
-use crate::numbers::MOST_DESCRIPTORS;
+use crate::numbers::{BLOCK, MOST_DESCRIPTORS};
 use crate::origins::Origins;
 use crate::rng::Rng;
 use crate::store::{self, padded, shown, Name, Target, NOTHING};
 use crate::table::Table;
+
+/// The longest card that is copied for the calls of whole blocks.
+const MOST_COPIED: usize = 8_000 * BLOCK;
 
 #[derive(Clone)]
 pub struct Pair {
@@ -77,6 +81,7 @@ impl Pair {
         given: Name,
         table: &mut Table,
     ) -> Result<(), String> {
+        table.spans.add(call);
         if let Call::Visit { target, .. } = call {
             let (snapshot, own) = match target {
                 Target::Active => (false, self.active_name(length)),
@@ -147,15 +152,36 @@ impl Pair {
         }
     }
 
-    /// The call, with both comparisons.
+    /// The call, with both comparisons; a span on a card that is not too long is also held against
+    /// the library's calls of whole blocks, on a card of their own.
     pub fn call(
         &mut self,
         length: usize,
         ask: &Ask,
         table: &mut Table,
     ) -> Result<(Answer, Ask), String> {
-        let result = self.answers(length, ask, table)?;
+        let span = matches!(ask, Ask::ReadSpan { .. } | Ask::WriteSpan { .. });
+        let before = match span && length <= MOST_COPIED {
+            true => Some(self.library.lend(length).to_vec()),
+            false => None,
+        };
+        let (answer, lent) = self.answers(length, ask, table)?;
         self.compare()?;
-        Ok(result)
+        if let Some(before) = before {
+            let (call, said) = (ask.call(), lent.said(answer));
+            let after = self.library.lend(length);
+            let need = blockwise::hold(&mut said_by_library, &call, &said, before, after)?;
+            if let Some(need) = need {
+                table.spans.add_need(&call, &need);
+            }
+        }
+        Ok((answer, lent))
     }
+}
+
+/// What the library says of a call.
+fn said_by_library(card: &mut [u8], call: &Call) -> Said {
+    let mut ask = Ask::of(call, &mut Rng::new(0));
+    let answer = by_library(card, &mut ask);
+    ask.said(answer)
 }

@@ -1,7 +1,7 @@
 //! Counts of the answers by call and number.
 
 use crate::call::KINDS;
-use crate::counts::{Counts, Reverts, Visits};
+use crate::counts::{Counts, Reverts, Spans, Visits};
 use crate::numbers::ANSWERS;
 
 /// The row of mantreuy_pad_name, after those of the calls.
@@ -22,6 +22,8 @@ pub const CALLS: Expected = [
     &[0, 1, 6, 14],
     &[0, 1, 6],
     &[0, 1, 4, 6, 7, 8],
+    &[0, 1, 4, 6, 7, 16],
+    &[0, 1, 6, 11, 16],
     &[],
 ];
 
@@ -34,6 +36,8 @@ pub const DAMAGED: Expected = [
     &[0, 1, 6, 14],
     &[0, 1, 6, 10],
     &[0, 1, 4, 6, 7, 8, 10],
+    &[0, 1, 4, 6, 7, 10, 16],
+    &[0, 1, 6, 10, 11, 16],
     &[],
 ];
 
@@ -47,6 +51,8 @@ pub const ROLLBACK: Expected = [
     &[0, 14],
     &[0],
     &[0, 4, 7, 8],
+    &[0, 4, 7, 16],
+    &[0, 11, 16],
     &[],
 ];
 
@@ -59,12 +65,14 @@ pub const VALUES: Expected = [
     &[0, 6, 11, 12, 13],
     &[0, 1, 4, 6, 7],
     &[0, 6],
-    &[0, 6],
+    &[0, 6, 10],
     &[0, 1, 4, 6, 7, 8, 10],
+    &[0, 1, 4, 6, 7, 10, 16],
+    &[0, 1, 6, 10, 11, 16],
     &[],
 ];
 
-pub const NAMES: Expected = [&[], &[], &[], &[], &[], &[], &[], &[], &[0, 4]];
+pub const NAMES: Expected = [&[], &[], &[], &[], &[], &[], &[], &[], &[], &[], &[0, 4]];
 
 #[derive(Default)]
 pub struct Table {
@@ -73,6 +81,7 @@ pub struct Table {
     pub reverts: Reverts,
     pub compared: u64,
     pub visits: Visits,
+    pub spans: Spans,
     /// How many names of visits were held against the origins.
     pub names: u64,
 }
@@ -99,6 +108,7 @@ impl Table {
         println!("{sum} calls");
         self.reverts.print(self.compared);
         self.visits.print();
+        self.spans.print();
         if self.names > 0 {
             println!("{} names compared with the origins", self.names);
         }

@@ -1,15 +1,16 @@
 //! The bench value of document 01 that is not marked, on the library and on the own store:
 //! layout 2, N 256, 255 snaps pass, the next gives 13. Then the cases by hand of document 02's
-//! revisions and visits, and every call on chains of each length up to twelve.
+//! revisions, visits and spans, and every call on chains of each length up to twelve.
 
 use crate::boundary::Ask;
-use crate::call::{Call, Said};
+use crate::call::Call;
 use crate::cases::{self, Case};
 use crate::lent::Lent;
 use crate::numbers::{BLOCK, NEXT};
 use crate::pair::Pair;
 use crate::rng::Rng;
-use crate::store::{self, number_at, Answer, Logical, Target, NOTHING};
+use crate::spans;
+use crate::store::{self, number_at, Logical, Target, NOTHING};
 use crate::table::Table;
 use crate::visits;
 
@@ -24,7 +25,8 @@ pub fn one(seed: u64, table: &mut Table) -> Result<(), String> {
             lengths(&mut rng, layout, revision.into(), table)?;
         }
     }
-    for case in cases::all().into_iter().chain(visits::all()) {
+    let cases = cases::all().into_iter().chain(visits::all());
+    for case in cases.chain(spans::all()) {
         for fill in [0, 0xff] {
             by_hand(&mut rng, &case, fill, table)
                 .map_err(|reason| format!("{}, on bytes of {fill}: {reason}", case.name))?;
@@ -78,6 +80,12 @@ fn lengths(rng: &mut Rng, layout: u64, revision: u64, table: &mut Table) -> Resu
             let lent = vec![k as u8 + 1; BLOCK];
             run(&mut pair.clone(), Call::Write { logical, lent })?;
         }
+        // Blocks k and k + 1, then 127 and 128.
+        let offsets = [k * BLOCK as u64 + 300, 128 * BLOCK as u64 - 300];
+        for offset in offsets {
+            let lent = vec![k as u8 + 1; 700];
+            run(&mut pair.clone(), Call::WriteSpan { offset, lent })?;
+        }
         let lent = vec![k as u8 + 1; BLOCK];
         let logical = Logical(k);
         run(&mut pair, Call::Write { logical, lent })?;
@@ -111,6 +119,18 @@ fn lengths(rng: &mut Rng, layout: u64, revision: u64, table: &mut Table) -> Resu
                         },
                     )?;
                 }
+                for offset in offsets {
+                    let lent = vec![0xee; 700];
+                    let target = target.clone();
+                    run(
+                        pair,
+                        Call::ReadSpan {
+                            target,
+                            offset,
+                            lent,
+                        },
+                    )?;
+                }
             }
             for visit in visits.iter().map(String::as_str).chain(["none"]) {
                 run(&mut pair.clone(), Call::Revert { name: name(visit) })?;
@@ -119,6 +139,8 @@ fn lengths(rng: &mut Rng, layout: u64, revision: u64, table: &mut Table) -> Resu
             if !sound {
                 let lent = vec![1; BLOCK];
                 run(pair, Call::Write { logical, lent })?;
+                let (offset, lent) = (offsets[0], vec![1; 700]);
+                run(pair, Call::WriteSpan { offset, lent })?;
             }
         }
         let visit = format!("visit-{k}");
@@ -152,18 +174,7 @@ fn by_hand(rng: &mut Rng, case: &Case, fill: u8, table: &mut Table) -> Result<()
         }
         let before = pair.library.part().to_vec();
         let (answer, lent) = pair.call(area.len(), &ask, table).map_err(named)?;
-        let (block, records) = lent.call().lent();
-        let said = Said {
-            answer: Answer {
-                number: u64::from(answer.0),
-                place: u64::from(answer.1),
-            },
-            block,
-            records,
-            filled: 0,
-            visit: lent.visit(),
-        };
-        step.compare(&said, &before, pair.library.part())
+        step.compare(&lent.said(answer), &before, pair.library.part())
             .map_err(named)?;
     }
     Ok(())

@@ -7,7 +7,7 @@ use Rattle.blocks.specs.Bytes.{storeAll}
 use Rattle.blocks.specs.Descriptor.{physical, linkedOf, reopening}
 use Rattle.blocks.specs.declared.descriptor.Descriptor.{Descriptor}
 use Rattle.blocks.proofs.DescriptorLaws.{cost-least}
-use Rattle.calls.specs.Effect.{activatedOf}
+use Rattle.calls.specs.Stores.{activatedOf}
 use Rattle.reverts.proofs.revert.open_active.Statement.{statement}
 use Rattle.reverts.proofs.revert.open_active.Tie as tie
 

@@ -1,0 +1,3 @@
+-- Laws of runs, and of spans.
+pub mod RunLaws
+pub mod SpanLaws

@@ -1,0 +1,2 @@
+-- The definitions of runs and spans.
+pub mod Span

@@ -1,0 +1,2 @@
+-- What the code of a span read goes by.
+pub mod Fetched

@@ -1,0 +1,231 @@
+// The bytes of a span through a descriptor: all its entries are looked at before a byte is filled.
+use blocks::bytes;
+use blocks::descriptor::Descriptor;
+use blocks::numbers::Logical;
+use blocks::numbers::Physical;
+use blocks::sizes::BLOCK_SIZE;
+use blocks::sizes::TABLE_SIZE;
+use calls::answer;
+use calls::answer::Answer;
+use entries::check::Verdict;
+use entries::find::Found;
+use finding::find;
+use pieces::piece;
+ghost use mathlib.Core.Path.{_≡_};
+ghost use mathlib.Core.Bool.{false};
+ghost use mathlib.Core.List.{List};
+ghost use Prim.Native.Nat.{ℕ, _+_, _*_, _-_, _%_, _≤_, _<_, _^_};
+ghost use lib.ListN.{length, replicate};
+ghost use lib.Dec.{eqb};
+ghost use Rattle.blocks.specs.Pick.{pick};
+ghost use Rattle.blocks.specs.Bytes.{zeroBlock, blockAt, blockSize, part, splice};
+ghost use Rattle.blocks.specs.Descriptor.{physical, tableSize};
+ghost use Rattle.chains.specs.Chain.{chain as chainOf, descriptors};
+ghost use Rattle.entries.specs.Through.{Through};
+ghost use Rattle.entries.specs.Entry.{foundBlock, find as finding};
+ghost use Rattle.calls.specs.Parts.{isMisplaced, blockFound};
+ghost use Rattle.calls.specs.Check.{isFault};
+ghost use Rattle.calls.specs.Spans.{misplacedFrom, spanVerdict, spanBytes};
+ghost use Rattle.pieces.specs.Span.{pieceOf, pieceIn};
+ghost use Rattle.spanreading.specs.Fetched.{placedFrom, fetched};
+
+// All bytes are now zero.
+fn clear(out: &mut [u8])
+    ensures { λ _. ⌜ now (out .exit) ≡ replicate (length (now (out .entry))) 0 ⌝ }
+{
+    let mut i = 0;
+    while i < out.len() {
+        out[i] = 0;
+        i += 1;
+    }
+}
+
+// Copies a part of a block into what is lent for it, by way of a copy of its own, of which the compiler makes one move.
+fn put_part(out: &mut [u8], from: &[u8])
+    requires { ⌜ (length (now out) ≡ length (now from)) × (length (now from) ≤ blockSize) ⌝ }
+    ensures { λ _. ⌜ now (out .exit) ≡ now (from .entry) ⌝ }
+{
+    let n = from.len();
+    let mut copy = [0u8; BLOCK_SIZE];
+    bytes::put_bytes(&mut copy, 0, from);
+    bytes::put_bytes(out, 0, &copy[..n]);
+}
+
+// The caller's bytes are now those of block `p` from its byte `first` on, or zeros where it is nil.
+fn fill_piece(card: &[u8], p: Physical, first: usize, out: &mut [u8])
+    requires { ⌜ (first + length (now out) ≤ blockSize) × ((p .0 ≡ 0 → ⊥) → blockSize * p .0 + blockSize ≤ length (now card)) ⌝ }
+    ensures { λ _. ⌜ now (out .exit) ≡ part (pick (eqb (p .0) 0) zeroBlock (blockAt (now (card .entry)) (p .0))) first (length (now (out .entry))) ⌝ }
+{
+    if p.0 == 0 {
+        clear(out);
+        return;
+    }
+    let at = BLOCK_SIZE * (p.0 as usize) + first;
+    put_part(out, &card[at..at + out.len()]);
+}
+
+// Whether `k` entries of table block `m` from entry `j` on are in place.
+fn are_placed(
+    card: &[u8],
+    starts: &[u32],
+    count: usize,
+    d: Descriptor,
+    m: Physical,
+    j: u32,
+    k: u32,
+) -> bool
+    requires { ⌜ Through (now card) (now starts) count d × (blockSize * m .0 + blockSize ≤ length (now card)) × (j + k ≤ tableSize) ⌝ }
+    ensures { λ r. ⌜ r ≡ placedFrom (now (card .entry)) d (m .0) j k ⌝ }
+{
+    let mut i = 0;
+    while i < k {
+        let at = find::locate_in(&*card, &*starts, count, d, m, j + i);
+        let found = at.found;
+        if let Found::Misplaced(_) = found {
+            return false;
+        }
+        i += 1;
+    }
+    true
+}
+
+// The first of `k` logical blocks of one group, from `l` on, whose entry is not in place. Where that of the first is, its table block serves the others.
+fn misplaced_in_group(
+    card: &[u8],
+    starts: &[u32],
+    count: usize,
+    d: Descriptor,
+    l: u32,
+    k: u32,
+) -> Verdict
+    requires { ⌜ Through (now card) (now starts) count d × (0 < k) × (l % tableSize + k ≤ tableSize) × (l + k ≤ d .volume) ⌝ }
+    ensures { λ r. ⌜ r ≡ misplacedFrom (now (card .entry)) d l k ⌝ }
+{
+    let at = find::locate(&*card, &*starts, count, d, Logical(l));
+    let found = at.found;
+    match found {
+        Found::Misplaced(h) => Verdict::Fault(h),
+        Found::Entry(m, _) => rest_of_group(card, starts, count, d, m, l, k),
+    }
+}
+
+// The same of the others, given the table block of the first, which is in place.
+fn rest_of_group(
+    card: &[u8],
+    starts: &[u32],
+    count: usize,
+    d: Descriptor,
+    m: Physical,
+    l: u32,
+    k: u32,
+) -> Verdict
+    requires { ⌜ Through (now card) (now starts) count d × (0 < k) × (l % tableSize + k ≤ tableSize) × (l + k ≤ d .volume) × ((p : Physical) × (finding (now card) (descriptors (chainOf (now card))) d l ≡ Found.Entry m p)) ⌝ }
+    ensures { λ r. ⌜ r ≡ misplacedFrom (now (card .entry)) d l k ⌝ }
+{
+    if m.0 == 0 {
+        return Verdict::Passed;
+    }
+    if are_placed(card, starts, count, d, m, l % TABLE_SIZE + 1, k - 1) {
+        return Verdict::Passed;
+    }
+    Verdict::Fault(m)
+}
+
+// How many logical blocks there are from `l` up to `end` that are of the group of `l`.
+fn group_left(l: u32, end: u32) -> u32
+    requires { ⌜ l < end ⌝ }
+    ensures { λ r. ⌜ (0 < r) × (l % tableSize + r ≤ tableSize) × (l + r ≤ end) ⌝ }
+{
+    let left = TABLE_SIZE - l % TABLE_SIZE;
+    if end - l < left {
+        return end - l;
+    }
+    left
+}
+
+// The first of the logical blocks from `first` up to `end` whose entry is not in place, group by group.
+fn misplaced(
+    card: &[u8],
+    starts: &[u32],
+    count: usize,
+    d: Descriptor,
+    first: u32,
+    end: u32,
+) -> Verdict
+    requires { ⌜ Through (now card) (now starts) count d × (first ≤ end) × (end ≤ d .volume) ⌝ }
+    ensures { λ r. ⌜ r ≡ misplacedFrom (now (card .entry)) d first (end - first) ⌝ }
+{
+    let mut l = first;
+    while l < end {
+        let k = group_left(l, end);
+        let v = misplaced_in_group(&*card, &*starts, count, d, l, k);
+        if let Verdict::Fault(h) = v {
+            return Verdict::Fault(h);
+        }
+        l += k;
+    }
+    Verdict::Passed
+}
+
+// The entry of logical block `l` through the descriptor `d`, nil where its table block is.
+fn entry_of(card: &[u8], d: Descriptor, l: u32) -> Physical
+    requires { ⌜ ((starts : List ℕ) × (count : ℕ) × Through (now card) starts count d) × (l < d .volume) × (isMisplaced (finding (now card) (descriptors (chainOf (now card))) d l) ≡ false) ⌝ }
+    ensures { λ r. ⌜ r ≡ physical (foundBlock (finding (now (card .entry)) (descriptors (chainOf (now (card .entry)))) d l)) ⌝ }
+{
+    let m = find::table_of(card, d, l / TABLE_SIZE);
+    if m.0 == 0 {
+        return m;
+    }
+    find::entry_at(card, m, l % TABLE_SIZE)
+}
+
+// The piece of the span in logical block `l`, put where it stands among the caller's bytes.
+fn fetch_piece(card: &[u8], d: Descriptor, l: usize, offset: usize, out: &mut [u8])
+    requires { ⌜ ((starts : List ℕ) × (count : ℕ) × Through (now card) starts count d) × (l < d .volume) × (isMisplaced (finding (now card) (descriptors (chainOf (now card))) d l) ≡ false) × (blockSize * l < offset + length (now out)) × (offset < blockSize * l + blockSize) × (offset + length (now out) < 2 ^ 64) ⌝ }
+    ensures { λ _. ⌜ now (out .exit) ≡ splice (now (out .entry)) (pieceOf offset (length (now (out .entry))) l .stands) (pieceIn (blockFound (now (card .entry)) (finding (now (card .entry)) (descriptors (chainOf (now (card .entry)))) d l)) offset (length (now (out .entry))) l) ⌝ }
+{
+    let p = entry_of(card, d, l as u32);
+    let q = piece::piece_in(offset, out.len(), l);
+    let start = q.stands;
+    let end = start + q.count;
+    fill_piece(card, p, q.first, &mut out[start..end]);
+}
+
+// The caller's bytes are now those of the volume from `offset` on: each is copied once. All entries on the way are in place.
+fn gather(card: &[u8], d: Descriptor, offset: usize, out: &mut [u8])
+    requires { ⌜ ((starts : List ℕ) × (count : ℕ) × Through (now card) starts count d) × (offset + length (now out) ≤ blockSize * d .volume) × (isFault (spanVerdict (now card) d offset (length (now out))) ≡ false) ⌝ }
+    ensures { λ _. ⌜ now (out .exit) ≡ spanBytes (now (card .entry)) d offset (length (now (out .entry))) ⌝ }
+{
+    let first = offset / BLOCK_SIZE;
+    let blocks = piece::blocks_touched(offset, out.len());
+    let mut i = 0;
+    while i < blocks {
+        fetch_piece(card, d, first + i, offset, out);
+        i += 1;
+    }
+}
+
+// Fills the caller's bytes with those of the volume from `offset` on, or gives the refusal of the first entry that is not in place.
+pub fn fetch(
+    card: &[u8],
+    starts: &[u32],
+    count: usize,
+    d: Descriptor,
+    offset: usize,
+    out: &mut [u8],
+) -> Answer
+    requires { ⌜ Through (now card) (now starts) count d × (offset + length (now out) ≤ blockSize * d .volume) ⌝ }
+    ensures { λ r. ⌜ record { answer = r; bytes = now (out .exit) } ≡ fetched (now (card .entry)) d offset (now (out .entry)) ⌝ }
+{
+    let first = offset / BLOCK_SIZE;
+    let end = first + piece::blocks_touched(offset, out.len());
+    let v = misplaced(&*card, &*starts, count, d, first as u32, end as u32);
+    if let Verdict::Fault(h) = v {
+        return Answer {
+            number: 10,
+            place: h.0,
+        };
+    }
+    gather(card, d, offset, out);
+    answer::ACCEPTED
+}

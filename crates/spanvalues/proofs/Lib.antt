@@ -1,0 +1,2 @@
+-- The values of spans, computed.
+pub mod SpanValues

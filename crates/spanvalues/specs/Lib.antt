@@ -1,0 +1,2 @@
+-- Values of spans.
+pub mod SpanValues
