@@ -24,7 +24,7 @@ exportedVisit number place name = record { answer = answer number place; name = 
 unfoldable pub nameIn : List ℕ → List ℕ
 nameIn bytes = pick (eqb (length bytes) nameSize) bytes noName
 
--- the target of a read or a visit: the active store at 0, else the snapshot of the name
+-- the target of a read, a visit or a span read: the active store at 0, else the snapshot of the name
 unfoldable pub targetIn : ℕ → Target
 targetIn snapshot = pick (eqb snapshot 0) Active Snapshot
 

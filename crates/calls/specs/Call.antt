@@ -7,8 +7,8 @@ use Rattle.calls.specs.declared.answer.Record.{Record}
 use Rattle.blocks.specs.declared.descriptor.Format.{Format}
 
 -- Each call stands with its arguments and the content, at its entry, of what is lent besides the card: a read's block, a write's block, the bytes of a span, a list.
--- A name is any sixteen bytes; a block, the bytes of a span and a list have any length. The name beside a read of the active store is not looked at, nor is a visit's
--- or a span read's.
+-- A name is any sixteen bytes; a block, the bytes of a span and a list have any length. A read, a visit and a span read of the active store
+-- do not look at the name beside it.
 -- Visit is document 02's new call, W2: which visit's region holds what a read of this target gives. SpanRead and SpanWrite are those of W1: from byte `offset` of the
 -- volume on, as many bytes as are lent.
 pub data Call : Type 0 where

@@ -37,12 +37,12 @@ snapshotsOf (d ∷ e ∷ ds) = d ∷ snapshotsOf (e ∷ ds)
 abbrev pub withName : List Descriptor → List ℕ → Descriptor
 withName ds name = getD ds (indexOf ds name) noDescriptor
 
--- whether the target of a read or a visit is a snapshot, so that a name is given
+-- whether the target of a read, a visit or a span read is a snapshot, so that a name is given
 abbrev pub isSnapshot : Target → Bool
 isSnapshot Active = false
 isSnapshot Snapshot = true
 
--- the descriptor that a read or a visit goes through
+-- the descriptor that a read, a visit or a span read goes through
 unfoldable pub targetOf : List Descriptor → Target → List ℕ → Descriptor
 targetOf ds Active name = activeOf ds
 targetOf ds Snapshot name = withName (snapshotsOf ds) name

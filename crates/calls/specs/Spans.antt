@@ -54,7 +54,8 @@ spanStores c o bytes (suc i) =
 abbrev pub spanCard : List ℕ → ℕ → List ℕ → ℕ → List ℕ
 spanCard c o bytes i = storeAll c (spanStores c o bytes i)
 
--- what its first i blocks take, "each counted after those before it". Where there is no room for one of them, that of the later ones says nothing: the sum is too large already
+-- what its first i blocks take, "each counted after those before it". Where there is no room for one of them, what the later ones take says
+-- nothing, since a store past the end makes the area longer: the sum is too large already
 unfoldable pub spanNeed : List ℕ → ℕ → List ℕ → ℕ → ℕ
 spanNeed c o bytes zero = 0
 spanNeed c o bytes (suc i) = spanNeed c o bytes i + writeNeed (spanCard c o bytes i) (spanBlock o i)

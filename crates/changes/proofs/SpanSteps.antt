@@ -1,6 +1,7 @@
 -- A span write as its whole-block writes, one after the other: on a card that passes each of them is one that is accepted, as long as there is room, and the card passes
 -- after each.
 use mathlib.Core.Path.{_≡_, refl, sym, ap, _∙_, subst}
+use mathlib.Core.Bool.{false}
 use mathlib.Core.List.{List, [], _∷_, _++_}
 use Prim.Native.Nat.{ℕ, zero, suc, _+_, _*_, _-_, _≤_, _<_}
 use native.Mathlib.Omega.{arith}
@@ -15,7 +16,7 @@ use Rattle.pieces.specs.Span.{spanBlock}
 use Rattle.pieces.proofs.SpanLaws.{inside, merged-length}
 use Rattle.chains.specs.Chain.{Sound, chain, activeOf}
 use Rattle.links.proofs.ChainLaws.{active-snoc, descriptors-are}
-use Rattle.calls.specs.Parts.{descriptorsOf, snapshotsOf, foundThrough}
+use Rattle.calls.specs.Parts.{descriptorsOf, snapshotsOf, foundThrough, isMisplaced}
 use Rattle.calls.specs.Check.{Passes}
 use Rattle.calls.specs.Stores.{writeStores, writeNeed}
 use Rattle.calls.specs.Spans.{mergedOn, spanStores, spanCard, spanNeed, spanCount, writeSpanNeed}
@@ -78,27 +79,42 @@ module _ (c : List ℕ) (o : ℕ) (bytes : List ℕ) where
     pub snapshots-then : snapshotsOf (descriptorsOf s) ≡ xs
     snapshots-then = ap snapshotsOf descriptors-at ∙ snapshots-snoc xs x
 
-    count-then : blockCount s ≡ blockCount c
+    pub count-then : blockCount s ≡ blockCount c
     count-then = count-kept s c (at .long)
 
-    -- the write of the next block is accepted where there is room
-    pub write-then : i < spanCount o bytes → o + length bytes ≤ 512 * d .volume → d .beta .0 + spanNeed c o bytes (suc i) ≤ blockCount c → WritePassed s (spanBlock o i) (mergedOn s o bytes (spanBlock o i))
-    unfolding mergedOn writeNeed
-    write-then k upto room =
-        let l = spanBlock o i in
-        let a = activeOf (descriptorsOf s) in
-        let volume : a .volume ≡ d .volume = ap (λ (y : Descriptor). y .volume) active-then in
-        let beta : a .beta .0 ≡ d .beta .0 + spanNeed c o bytes i = ap (λ (y : Descriptor). y .beta .0) active-then in
-        let below : l < a .volume = omega (arith, inside o (length bytes) (d .volume) i upto k, volume) in
-        let end = blocks-long s (a .beta .0) (active-end s (descriptorsOf s) (chain-is (chain s) (at .passes .sound))) in
-        record {
-          area = at .passes .area;
-          sound = at .passes .sound;
-          whole = merged-length _ o bytes i (found-long s (descriptorsOf s) a end l) k;
-          below = below;
-          in-place = active-placed s (at .passes) l below;
-          room = omega (arith, room, need-next i, beta, count-then);
-        }
+    -- the facts of the write of the next block
+    module _ (k : i < spanCount o bytes) (upto : o + length bytes ≤ 512 * d .volume) where
+      abbrev l : ℕ
+      l = spanBlock o i
+
+      pub below-then : l < activeOf (descriptorsOf s) .volume
+      below-then = omega (arith, inside o (length bytes) (d .volume) i upto k, ap (λ (y : Descriptor). y .volume) active-then)
+
+      pub whole-then : length (mergedOn s o bytes l) ≡ 512
+      unfolding mergedOn
+      whole-then =
+          let a = activeOf (descriptorsOf s) in
+          let end = blocks-long s (a .beta .0) (active-end s (descriptorsOf s) (chain-is (chain s) (at .passes .sound))) in
+          merged-length _ o bytes i (found-long s (descriptorsOf s) a end l) k
+
+      pub placed-then : isMisplaced (foundThrough s (activeOf (descriptorsOf s)) l) ≡ false
+      placed-then = active-placed s (at .passes) l below-then
+
+      pub room-then : activeOf (descriptorsOf s) .beta .0 + writeNeed s l ≡ d .beta .0 + spanNeed c o bytes (suc i)
+      room-then = omega (arith, need-next i, ap (λ (y : Descriptor). y .beta .0) active-then)
+
+      -- it is accepted where there is room
+      pub write-then : d .beta .0 + spanNeed c o bytes (suc i) ≤ blockCount c → WritePassed s l (mergedOn s o bytes l)
+      unfolding writeNeed
+      write-then room =
+          record {
+            area = at .passes .area;
+            sound = at .passes .sound;
+            whole = whole-then;
+            below = below-then;
+            in-place = placed-then;
+            room = omega (arith, room, room-then, count-then);
+          }
 
     pub next-at : WritePassed s (spanBlock o i) (mergedOn s o bytes (spanBlock o i)) → SpanAt c o bytes (suc i)
     unfolding writeNeed spanStores

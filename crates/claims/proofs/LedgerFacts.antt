@@ -42,7 +42,7 @@ use Rattle.calls.proofs.ActiveLaws.{target-member, active-target, chain-some, v
 use Rattle.calls.proofs.CellLaws.{passing-found}
 use Rattle.claims.proofs.LedgerLaws.{cells-length, volume-named, volumes-length, cell-of, has-volume}
 
-volume-read : (c : List ℕ) (target : Target) (name : List ℕ) → (isSnapshot target && not (named (snapshotsOf (descriptorsOf c)) name)) ≡ false
+pub volume-read : (c : List ℕ) (target : Target) (name : List ℕ) → (isSnapshot target && not (named (snapshotsOf (descriptorsOf c)) name)) ≡ false
     → volumeRead (ledgerOf c) target name ≡ volumeOf c (targetOf (descriptorsOf c) target name)
 unfolding volumeRead ledgerOf targetOf
 volume-read c Active name h = refl

@@ -106,6 +106,9 @@ module _ (cells : List (List ℕ)) (whole : Whole cells) (o : ℕ) (bytes : List
   pub patched-count : length (spanCells keep cells o bytes (touched o n)) ≡ length cells
   patched-count = patched-at (touched o n) (omega arith) .count
 
+  pub patched-whole : Whole (spanCells keep cells o bytes (touched o n))
+  patched-whole = patched-at (touched o n) (omega arith) .blocks
+
 -- a span write on a card that passes
 module _ (c : List ℕ) (o : ℕ) (bytes : List ℕ) (ok : SpanPassed c o bytes) where
   abbrev g : Ledger

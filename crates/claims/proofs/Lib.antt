@@ -38,6 +38,9 @@ pub mod LedgerSpan
 pub mod LedgerRun
 pub mod Places
 pub mod LedgerLaws
+pub mod SpanRows
+pub mod SpanClaims
+pub mod SpanVolumes
 pub mod LedgerRevert
 pub mod LedgerReopened
 pub mod OnePass

@@ -38,7 +38,7 @@ use Rattle.blocks.specs.declared.descriptor.Format.{Format}
 use Rattle.calls.proofs.ActiveLaws.{target-member, chain-some, region-at}
 
 -- no row of a list holds
-unfoldable clear : List Row → Bool
+unfoldable pub clear : List Row → Bool
 clear [] = true
 clear (r ∷ rs) = not (r .holds) && clear rs
 
@@ -51,7 +51,7 @@ last-by : (n p q : ℕ) (ys : List Row) (b : Bool) → fresh n ys ≡ true → (
 last-by n p q ys true f z e = (refl, ap (λ (a : Answer). a .place) e)
 last-by n p q ys false f z e = absurd (fresh-never ys n f z (ap (λ (a : Answer). a .number) e))
 
-row-is : (xs ys : List Row) (b : Bool) (n p q : ℕ) → fresh n xs ≡ true → fresh n ys ≡ true → (n ≡ 0 → ⊥) → firstRow (xs ++ (row b n p ∷ ys)) ≡ answer n q
+pub row-is : (xs ys : List Row) (b : Bool) (n p q : ℕ) → fresh n xs ≡ true → fresh n ys ≡ true → (n ≡ 0 → ⊥) → firstRow (xs ++ (row b n p ∷ ys)) ≡ answer n q
     → (clear xs ≡ true) × (b ≡ true) × (p ≡ q)
 unfolding firstRow fresh clear
 row-is [] ys b n p q f g z e = let r = last-by n p q ys b g z e in (refl, r .0, r .1)
@@ -60,7 +60,7 @@ row-is (r ∷ xs) ys b n p q f g z e =
     let rest = row-is xs ys b n p q (and-right (not (eqb (r .number) n)) (fresh n xs) f) g z (first .1) in
     (rw (first .0) (rest .0), rest .1, rest .2)
 
-is-row : (xs ys : List Row) (b : Bool) (n p q : ℕ) → clear xs ≡ true → b ≡ true → p ≡ q → firstRow (xs ++ (row b n p ∷ ys)) ≡ answer n q
+pub is-row : (xs ys : List Row) (b : Bool) (n p q : ℕ) → clear xs ≡ true → b ≡ true → p ≡ q → firstRow (xs ++ (row b n p ∷ ys)) ≡ answer n q
 unfolding firstRow clear
 is-row [] ys b n p q f h e = rw (h, e)
 is-row (r ∷ xs) ys b n p q f h e = rw (not-true (r .holds) (and-left (not (r .holds)) (clear xs) f)) (is-row xs ys b n p q (and-right (not (r .holds)) (clear xs) f) h e)
@@ -76,11 +76,11 @@ unfolding chainSound chainPlace
 unsound-row ch q e = rw e (refl, refl)
 
 -- rows that do not hold, by the tests that pass
-clear-one : (a : Bool) → (not a && true) ≡ not a
+pub clear-one : (a : Bool) → (not a && true) ≡ not a
 clear-one true = refl
 clear-one false = refl
 
-clear-two : (a b : Bool) → (not a && (not (not b) && true)) ≡ (not a && b)
+pub clear-two : (a b : Bool) → (not a && (not (not b) && true)) ≡ (not a && b)
 clear-two true b = refl
 clear-two false true = refl
 clear-two false false = refl
@@ -205,7 +205,7 @@ module _ (c : List ℕ) (d : Descriptor) (l : ℕ) where
       subst (NotInPlace c d l) (r .1) (named-table two hi (eqb-false f 0 hz) (r .0))
   phi-by h two false z hi hz q k = subst (NotInPlace c d l) k (phi two hi)
 
-  out-of-place-by : (h : ℕ) → (eqb (d .layout) 1 || eqb (d .layout) 2) ≡ true → (t : Bool) → eqb (d .layout) 1 ≡ t
+  pub out-of-place-by : (h : ℕ) → (eqb (d .layout) 1 || eqb (d .layout) 2) ≡ true → (t : Bool) → eqb (d .layout) 1 ≡ t
       → isMisplaced (foundThrough c d l) ≡ true → holderOf (foundThrough c d l) ≡ h → NotInPlace c d l h
   unfolding find tableOf
   out-of-place-by h form true e q k =
@@ -213,14 +213,14 @@ module _ (c : List ℕ) (d : Descriptor) (l : ℕ) where
       subst (NotInPlace c d l) (r .1) (own-table (eqb-true (d .layout) 1 e) (r .0))
   out-of-place-by h form false e q k = phi-by h (layout-two (d .layout) form e) (inPlace ds d f) (eqb f 0) refl refl (rw e at q) (rw e at k)
 
-  found-out-of-place : (h : ℕ) → NotInPlace c d l h → (isMisplaced (foundThrough c d l) ≡ true) × (holderOf (foundThrough c d l) ≡ h)
+  pub found-out-of-place : (h : ℕ) → NotInPlace c d l h → (isMisplaced (foundThrough c d l) ≡ true) × (holderOf (foundThrough c d l) ≡ h)
   unfolding find tableOf isMisplaced holderOf
   found-out-of-place h (phi two e) = rw (ne-eqb (d .layout) 1 (omega (arith, two)), e) (refl, refl)
   found-out-of-place h (named-table two e set p) = rw (ne-eqb (d .layout) 1 (omega (arith, two)), e, ne-eqb f 0 set) (entry-misplaced ds d f (entryAt c f (l % 128)) 0 p)
   found-out-of-place h (own-table one p) = rw (eq-eqb (d .layout) 1 one) (entry-misplaced ds d o (entryAt c o (l % 128)) 0 p)
 
 -- the descriptor that a call goes through has layout 1 or 2
-target-layout : (c : List ℕ) → chainSound (chain c) ≡ true → (target : Target) (name : List ℕ) → (isSnapshot target && not (named (snapshotsOf (descriptorsOf c)) name)) ≡ false
+pub target-layout : (c : List ℕ) → chainSound (chain c) ≡ true → (target : Target) (name : List ℕ) → (isSnapshot target && not (named (snapshotsOf (descriptorsOf c)) name)) ≡ false
     → (eqb (targetOf (descriptorsOf c) target name .layout) 1 || eqb (targetOf (descriptorsOf c) target name .layout) 2) ≡ true
 target-layout c ok target name h =
     let sound-c = chain-is (chain c) ok in
@@ -261,15 +261,15 @@ clear-write false true false v = refl
 clear-write false true true true = refl
 clear-write false true true false = refl
 
-given-name : (s t : Bool) → (not s || t) ≡ true → (s && not t) ≡ false
+pub given-name : (s t : Bool) → (not s || t) ≡ true → (s && not t) ≡ false
 given-name true true h = refl
 given-name true false h = no h
 given-name false t h = refl
 
-and-both : (a b : Bool) → a ≡ true → b ≡ true → (a && b) ≡ true
+pub and-both : (a b : Bool) → a ≡ true → b ≡ true → (a && b) ≡ true
 and-both a b h k = rw (h, k)
 
-not-false-of : (v : Bool) → v ≡ false → not v ≡ true
+pub not-false-of : (v : Bool) → v ≡ false → not v ≡ true
 not-false-of v e = rw e
 
 module _ (c : List ℕ) (l : ℕ) (block : List ℕ) (h : ℕ) where

@@ -6,5 +6,6 @@ pub mod Ledger
 pub mod Claims
 pub mod Surviving
 pub mod Visits
+pub mod Spans
 pub mod OnePass
 pub mod Bench

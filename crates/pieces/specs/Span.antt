@@ -10,7 +10,7 @@ unfoldable pub runOf : List (List ℕ) → List ℕ
 runOf [] = []
 runOf (x ∷ xs) = x ++ runOf xs
 
--- block i of those that a span touches, and how many it touches: none where it has no byte
+-- block i of those that a span touches, and how many it touches: none where the span has no byte
 abbrev pub spanBlock : ℕ → ℕ → ℕ
 spanBlock o i = o / blockSize + i
 

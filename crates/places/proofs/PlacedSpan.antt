@@ -19,7 +19,9 @@ use Rattle.calls.specs.Spans.{mergedOn, spanStores, spanCard, spanNeed, spanCou
 use Rattle.calls.proofs.CellLaws.{active-placed}
 use Rattle.changes.proofs.SpanSteps.{SpanPassed, card-next, need-next, span-at, span-write, active-then}
 use Rattle.claims.specs.Kinds.{WritesSpan}
-use Rattle.places.specs.Placed.{Nil, contentOf, Placed, placedNeed, spanPlaced, spanNeedPlaced, placedWrite, withVolumes, placedChange, cellPlace, placedVolume, placedOf, PlacedNeedClaim}
+use Rattle.claims.specs.Claims.{blocksNeeded}
+use Rattle.claims.proofs.CheckClaims.{span-allowed}
+use Rattle.places.specs.Placed.{Nil, contentOf, Placed, placedNeed, spanPlaced, spanNeedPlaced, placedWrite, withVolumes, placedChange, cellPlace, placedVolume, placedOf, PlacedNeedClaim, PlacedSpanNeedClaim}
 use Rattle.places.proofs.PlacedForget.{content-found}
 use Rattle.places.proofs.PlacedLaws.{values-first}
 use Rattle.places.proofs.PlacedNeed.{placed-need-claim}
@@ -107,3 +109,9 @@ module _ (c : List ℕ) (p : Passes c) (o : ℕ) (bytes : List ℕ) (upto : o + 
   pub span-room : lacks (writeSpanNeed c o bytes) ≡ lacks (spanNeedPlaced (placedOf c) o bytes (spanCount o bytes))
   unfolding writeSpanNeed
   span-room = room-by (spanCount o bytes) (omega arith) _ _ refl refl
+
+pub placed-span-need-claim : PlacedSpanNeedClaim
+unfolding PlacedSpanNeedClaim blocksNeeded writeSpanNeed
+placed-span-need-claim c o bytes e =
+    let s = span-allowed c o bytes e in
+    sym (matches c (s .passes) o bytes (s .upto) (spanCount o bytes) (omega arith) (s .room) .1)

@@ -22,7 +22,7 @@ use Rattle.entries.specs.declared.find.Found.the-variants.{Misplaced, Entry}
 use Rattle.calls.specs.declared.answer.Answer.{Answer}
 use Rattle.calls.specs.declared.answer.Target.{Target}
 use Rattle.calls.specs.declared.answer.Target.the-variants.{Active, Snapshot}
-use Rattle.calls.specs.Call.{Call, Read, SpanRead, Check, Visit, Block, Given, NoneGiven, NameGiven}
+use Rattle.calls.specs.Call.{Call, Read, SpanRead, SpanWrite, Check, Visit, Block, Given, NoneGiven, NameGiven}
 use Rattle.calls.specs.Parts.{descriptorsOf, snapshotsOf, isSnapshot, targetOf, foundThrough, isMisplaced}
 use Rattle.calls.specs.Check.{Passes}
 use Rattle.calls.specs.Ladder.{Row, row, firstRow, formatRows}
@@ -31,6 +31,7 @@ use Rattle.calls.specs.Meaning.{answerOf}
 use Rattle.calls.specs.Step.{step, after, isAccepted}
 use Rattle.claims.specs.Kinds.{Kind, Formats, Leaves, Writes, WritesSpan, Snaps, Reverts, kindOf}
 use Rattle.claims.specs.History.{Position, Nowhere, At, formats, formattable, formatted}
+use Rattle.claims.specs.Claims.{blocksNeeded}
 use Rattle.claims.specs.Ledger.{VolumeOf, LedgerOf, Ledger, ledgerRows, runRead, ledgerOf, ledgerChange}
 
 -- a cell: nil, or the region that holds it and its content
@@ -146,7 +147,7 @@ placedWrite p l block =
     let v = p .active in
     record { name = v .name; beta = v .beta + placedNeed p l; tables = set (v .tables) (l / tableSize) (At k); cells = set (v .cells) l (Held k block) }
 
--- it after the first i blocks of a span, each written on what those before left; and the blocks that they take
+-- the Placed after the first i blocks of a span, each written on what those before left; and the blocks that they take
 unfoldable pub spanPlaced : Placed → ℕ → List ℕ → ℕ → Placed
 spanPlaced p o bytes zero = p
 spanPlaced p o bytes (suc i) =
@@ -289,6 +290,12 @@ PlacedNeedClaim =
     → let d = activeOf (descriptorsOf c) in
     let found = foundThrough c d l in
     l < d .volume → isMisplaced found ≡ false → placedNeed (placedOf c) l ≡ need (d .alpha .0) found
+
+-- So is that of a span write which is accepted.
+unfoldable pub PlacedSpanNeedClaim : Type 0
+PlacedSpanNeedClaim =
+    (c : List ℕ) (o : ℕ) (bytes : List ℕ) → isAccepted (answerOf (SpanWrite o bytes) c) ≡ true
+    → spanNeedPlaced (placedOf c) o bytes (touched o (length bytes)) ≡ blocksNeeded (SpanWrite o bytes) c
 
 -- Wherever the chain is sound: the origin of what a read gives is the region that contains the block found, none where there is none, and the name of it is
 -- that of the descriptor.

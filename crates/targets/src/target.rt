@@ -1,4 +1,4 @@
-// What a read or a visit is asked of: the active store, or a snapshot by its name.
+// What a read, a visit or a span read is asked of: the active store, or a snapshot by its name.
 use blocks::sizes::NAME_SIZE;
 use calls::answer::Target;
 use indexing::index;
