@@ -1,51 +1,42 @@
--- What a span write comes to: its whole-block writes one after the other, its need, its room; the pieces of a span; spans of no byte; and the ledger's run.
-use mathlib.Core.Path.{_≡_, refl, sym, ap, _∙_, subst}
-use mathlib.Core.Logic.{_⊎_, inl, inr, _↔_}
-use mathlib.Core.Bool.{Bool, true, false, not, _&&_, _||_}
-use mathlib.Core.List.{List, [], _∷_, _++_}
+-- The blocks that a span touches and its pieces, byte by byte; and what a span write comes to: its whole-block writes one after the other, its need, its room.
+use mathlib.Core.Path.{_≡_, refl, sym, ap, _∙_}
+use mathlib.Core.Logic.{_⊎_, inl, inr}
+use mathlib.Core.Bool.{Bool, true, false}
+use mathlib.Core.List.{List, [], _∷_}
 use Prim.Native.Nat.{ℕ, zero, suc, _+_, _*_, _-_, _/_, _≤_, _<_, min}
 use native.Mathlib.Omega.{arith}
 use lib.ListN.{length, getD}
-use lib.Dec.{eqb, ltb, leb}
+use lib.Dec.{ltb, leb}
 use borrow.Author.Tests.{eq-eqb, ltb-true, ltb-false, lt-ltb, le-ltb, lt-leb, leb-true, leb-false}
 use Rattle.blocks.specs.Pick.{pick}
 use Rattle.blocks.specs.Bytes.{part, splice, blockCount, storeAll}
-use Rattle.blocks.specs.Name.{isName}
-use Rattle.blocks.specs.Descriptor.{extendedOf}
 use Rattle.blocks.specs.declared.descriptor.Descriptor.{Descriptor}
 use Rattle.blocks.proofs.BoolLaws.{no}
-use Rattle.blocks.proofs.ByteLaws.{length-part, part-at, splice-in, splice-other, blocks-long}
-use Rattle.blocks.proofs.StoreLists.{count-kept}
-use Rattle.pieces.specs.Span.{runOf, spanBlock, touched, merged}
-use Rattle.pieces.proofs.RunLaws.{run-length}
-use Rattle.pieces.proofs.SpanLaws.{begins, inside, in-block, in-bytes, merged-long}
-use Rattle.chains.specs.Chain.{chain, chainSound, named, activeOf}
-use Rattle.links.proofs.ChainLaws.{active-snoc, descriptors-are}
+use Rattle.blocks.proofs.ByteLaws.{length-part, part-at, splice-in, splice-other}
+use Rattle.pieces.specs.Span.{spanBlock, touched, merged}
+use Rattle.pieces.proofs.SpanLaws.{begins, in-block, in-bytes, merged-long}
+use Rattle.chains.specs.Chain.{chain, activeOf}
 use Rattle.entries.specs.Entry.{need}
 use Rattle.calls.specs.declared.answer.Answer.{Answer}
-use Rattle.calls.specs.declared.answer.Target.{Target}
 use Rattle.calls.specs.declared.answer.Target.the-variants.{Active}
-use Rattle.calls.specs.Call.{Call, Read, Write, SpanRead, SpanWrite, Lent, Block, answer, accepted}
-use Rattle.calls.specs.Parts.{areaBad, descriptorsOf, snapshotsOf, isSnapshot, targetOf, foundThrough, isMisplaced, blockFound}
-use Rattle.calls.specs.Check.{checkCard, isFault, Passes}
-use Rattle.calls.specs.Stores.{writeStores, writeNeed}
-use Rattle.calls.specs.Spans.{misplacedFrom, spanVerdict, gathered, spanBytes, mergedOn, spanStores, spanCard, spanNeed, spanCount, writeSpanStores, writeSpanNeed}
-use Rattle.calls.specs.Ladder.{firstRow, admission, readRows, writeRows, spanReadRows, spanWriteRows}
-use Rattle.calls.specs.Meaning.{rowsOf, answerOf, lentOf, filledOf, storesOf}
+use Rattle.calls.specs.Call.{Call, Read, Write, SpanWrite, Block, answer, accepted}
+use Rattle.calls.specs.Parts.{descriptorsOf, targetOf, foundThrough, blockFound}
+use Rattle.calls.specs.Check.{Passes}
+use Rattle.calls.specs.Stores.{writeNeed}
+use Rattle.calls.specs.Spans.{mergedOn, spanStores, spanCard, spanNeed, writeSpanStores, writeSpanNeed}
+use Rattle.calls.specs.Ladder.{firstRow, admission, readRows, writeRows, spanWriteRows}
+use Rattle.calls.specs.Meaning.{rowsOf, answerOf, filledOf, storesOf}
 use Rattle.calls.specs.Step.{step, after, isAccepted}
-use Rattle.calls.proofs.Passed.{WritePassed, write-accepted, write-passed, span-read-passed}
+use Rattle.calls.proofs.Passed.{WritePassed, write-accepted}
 use Rattle.calls.proofs.StepLaws.{accepted-card, step-lent, after-append}
 use Rattle.calls.proofs.CardLaws.{chain-is}
-use Rattle.calls.proofs.ActiveLaws.{active-end, target-member, chain-some, volume-at, region-below}
+use Rattle.calls.proofs.ActiveLaws.{active-end}
 use Rattle.changes.proofs.SpanSteps.{SpanPassed, SpanAt, card-next, need-next, need-upto, span-at, span-write, active-then, count-then, below-then, whole-then, placed-then, room-then, passed-at, passed-write}
 use Rattle.claims.specs.Kinds.{kindOf}
 use Rattle.claims.specs.History.{betaOf}
-use Rattle.claims.specs.Ledger.{Ledger, Volume, ledgerStep, ledgerChange, runRead, volumeOf, ledgerOf}
-use Rattle.claims.specs.Claims.{blocksTaken, blocksNeeded, comesToChain}
-use Rattle.claims.specs.Spans.{TouchedClaim, MergedClaim, readsThere, spanWrites, cardBefore, writeAt, needSum, SpanRun, SpanRunClaim, StopsAt, SpanRoom, SpanRoomClaim, EmptySpan, EmptySpanClaim, SpanPatches, SpanLedgerClaim}
+use Rattle.claims.specs.Claims.{blocksTaken, blocksNeeded}
+use Rattle.claims.specs.Spans.{TouchedClaim, MergedClaim, readsThere, spanWrites, cardBefore, writeAt, needSum, SpanRun, SpanRunClaim, StopsAt, SpanRoom, SpanRoomClaim}
 use Rattle.claims.proofs.CheckClaims.{span-allowed, passes-faultless}
-use Rattle.claims.proofs.LedgerFacts.{volume-read}
-use Rattle.claims.proofs.LedgerSpan.{cells-count, cells-whole, patched-run, patched-count, patched-whole}
 
 -- the blocks that have a byte of the span
 pub byte-among : (o n j : ℕ) → o ≤ j → j < o + n → j / 512 - o / 512 < touched o n
@@ -339,8 +330,12 @@ module _ (c : List ℕ) (o : ℕ) (bytes : List ℕ) where
         let before = room-before i (omega (arith, x .among)) (x .earlier) in
         let same = cards-while i (omega (arith, x .among)) before in
         let e : suc i + (n - suc i) ≡ n = omega (arith, x .among) in
-        omega (arith, stopped-by i (ltb (blockCount c) (d .beta .0 + spanNeed c o bytes (suc i))) refl (rw (same-write i same, same, write-is i (x .among) before) at (x .here)),
-          need-upto c o bytes (suc i) (n - suc i), ap (λ (k : ℕ). spanNeed c o bytes k) e)
+        omega (
+          arith,
+          stopped-by i (ltb (blockCount c) (d .beta .0 + spanNeed c o bytes (suc i))) refl (rw (same-write i same, same, write-is i (x .among) before) at (x .here)),
+          need-upto c o bytes (suc i) (n - suc i),
+          ap (λ (k : ℕ). spanNeed c o bytes k) e,
+        )
 
     lacks : answerOf (SpanWrite o bytes) c ≡ answer 11 0 → blockCount c < d .beta .0 + spanNeed c o bytes n
     unfolding writeSpanNeed

@@ -1,40 +1,36 @@
--- The rows of the span calls: 16, the 10 of a span read and of a span write, and spans of no byte.
-use mathlib.Core.Path.{_≡_, refl, sym, ap, _∙_, subst}
-use mathlib.Core.Logic.{_⊎_, inl, inr, _↔_}
+-- The rows of the span calls: 16, the 10 of a span read and of a span write, and where a span read is accepted.
+use mathlib.Core.Path.{_≡_, refl, sym, ap, _∙_}
+use mathlib.Core.Logic.{_↔_}
 use mathlib.Core.Bool.{Bool, true, false, not, _&&_, _||_}
 use mathlib.Core.List.{List, [], _∷_, _++_}
 use Prim.Native.Nat.{ℕ, zero, suc, _+_, _*_, _≤_, _<_}
 use native.Mathlib.Omega.{arith}
 use lib.ListN.{length}
 use lib.Dec.{eqb, ltb}
-use borrow.Author.Tests.{eqb-false, ltb-true, ltb-false, lt-ltb, le-ltb, not-true, not-false}
+use borrow.Author.Tests.{eqb-false, ltb-true, ltb-false, lt-ltb, le-ltb, not-true}
 use Rattle.blocks.specs.Pick.{pick}
-use Rattle.blocks.specs.Bytes.{blockCount, storeAll}
+use Rattle.blocks.specs.Bytes.{blockCount}
 use Rattle.blocks.specs.Name.{isName}
 use Rattle.blocks.specs.Descriptor.{physical}
-use Rattle.blocks.specs.declared.numbers.Physical.{Physical}
 use Rattle.blocks.specs.declared.descriptor.Descriptor.{Descriptor}
 use Rattle.blocks.proofs.Tests.{and-left, and-right}
 use Rattle.blocks.proofs.BoolLaws.{no}
 use Rattle.pieces.specs.Span.{spanBlock, touched}
 use Rattle.chains.specs.Chain.{chain, chainSound, chainPlace, named, activeOf}
 use Rattle.entries.specs.declared.check.Verdict.{Verdict}
-use Rattle.entries.specs.declared.check.Verdict.the-variants.{Passed, Fault}
+use Rattle.entries.specs.declared.check.Verdict.the-variants.{Fault}
 use Rattle.calls.specs.declared.answer.Answer.{Answer}
 use Rattle.calls.specs.declared.answer.Target.{Target}
-use Rattle.calls.specs.Call.{Call, Check, SpanRead, SpanWrite, Block, answer, accepted}
+use Rattle.calls.specs.Call.{Call, Check, SpanRead, SpanWrite, answer, accepted}
 use Rattle.calls.specs.Parts.{areaBad, descriptorsOf, snapshotsOf, isSnapshot, targetOf, foundThrough, isMisplaced, holderOf}
-use Rattle.calls.specs.Check.{checkCard, isFault, faultHolder, Passes}
-use Rattle.calls.specs.Spans.{misplacedFrom, spanVerdict, gathered, spanBytes, spanStores, spanNeed, writeSpanStores, writeSpanNeed}
+use Rattle.calls.specs.Check.{checkCard, isFault, faultHolder}
+use Rattle.calls.specs.Spans.{misplacedFrom, spanVerdict, writeSpanNeed}
 use Rattle.calls.specs.Ladder.{Row, row, areaRow, targetRow, chainRow, spanRow, faultRow, firstRow, admission, checkRows, spanReadRows, spanWriteRows}
-use Rattle.calls.specs.Meaning.{rowsOf, answerOf, lentOf, filledOf, storesOf}
-use Rattle.calls.specs.Step.{step, isAccepted}
-use Rattle.calls.proofs.RowLaws.{fresh, fresh-never, rows-numbered, none, all-passed}
-use Rattle.calls.proofs.CardLaws.{chain-is}
-use Rattle.calls.proofs.ActiveLaws.{active-end}
+use Rattle.calls.specs.Meaning.{rowsOf, answerOf}
+use Rattle.calls.proofs.RowLaws.{fresh, fresh-never}
 use Rattle.claims.specs.Claims.{comesToChain, NotInPlace, FirstFault, FaultClaim}
-use Rattle.claims.specs.Spans.{SpanEnds, SpanEndClaim, FirstMisplaced, SpanPlaceClaim, SpanChecks, SpanCheckClaim, EmptySpan, EmptySpanClaim}
-use Rattle.claims.proofs.CheckClaims.{span-allowed, passes-faultless, fault-claim}
+use Rattle.claims.specs.Spans.{SpanEndClaim, FirstMisplaced, SpanPlaceClaim, SpanCheckClaim}
+use Rattle.claims.proofs.CheckClaims.{span-allowed, fault-claim}
 use Rattle.claims.proofs.Places.{clear, row-is, is-row, clear-two, given-name, and-both, not-false-of, target-layout, out-of-place-by, found-out-of-place}
 
 -- the rows above that of 16, of a span read

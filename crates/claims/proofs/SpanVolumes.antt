@@ -1,24 +1,24 @@
--- What a span read gives, on every card, as the reads of its blocks give it; spans of no byte; and the ledger's run.
+-- What a span read gives, on every card, as the reads of its blocks give it; spans of no byte; the ledger's run, and the cells that a span write changes.
 use mathlib.Core.Path.{_≡_, refl, sym, ap, _∙_, subst}
 use mathlib.Core.Logic.{_↔_}
 use mathlib.Core.Bool.{Bool, true, false, not, _&&_, _||_}
-use mathlib.Core.List.{List, [], _∷_, _++_}
+use mathlib.Core.List.{List, [], _∷_}
 use Prim.Native.Nat.{ℕ, zero, suc, _+_, _*_, _-_, _/_, _%_, _≤_, _<_}
 use native.Mathlib.Omega.{arith}
 use lib.ListN.{length, getD}
 use lib.Dec.{eqb}
 use borrow.Author.Tests.{eq-eqb, eqb-true, eqb-false, le-ltb, lt-leb}
 use Rattle.blocks.specs.Pick.{pick}
-use Rattle.blocks.specs.Bytes.{part, splice, blockCount, storeAll}
+use Rattle.blocks.specs.Bytes.{blockCount, storeAll}
 use Rattle.blocks.specs.Name.{isName}
 use Rattle.blocks.specs.declared.descriptor.Descriptor.{Descriptor}
-use Rattle.blocks.proofs.Tests.{and-left, and-right}
+use Rattle.blocks.proofs.Tests.{and-right}
 use Rattle.blocks.proofs.ByteLaws.{length-part, part-at, blocks-long}
 use Rattle.pieces.specs.Span.{runOf, spanBlock, touched, merged}
 use Rattle.pieces.proofs.RunLaws.{run-length, block-part}
 use Rattle.chains.specs.Chain.{chain, chainSound, named, activeOf}
 use Rattle.calls.specs.declared.answer.Target.{Target}
-use Rattle.calls.specs.Call.{Call, Read, SpanRead, SpanWrite, Lent, Block, answer, accepted}
+use Rattle.calls.specs.Call.{Call, Read, SpanRead, SpanWrite, Lent, Block, accepted}
 use Rattle.calls.specs.Parts.{areaBad, descriptorsOf, snapshotsOf, isSnapshot, targetOf, foundThrough, isMisplaced, blockFound}
 use Rattle.calls.specs.Check.{Passes}
 use Rattle.calls.specs.Spans.{gathered, spanBytes, spanStores, spanNeed, writeSpanStores, writeSpanNeed, spanVerdict}
@@ -30,9 +30,9 @@ use Rattle.calls.proofs.StepLaws.{step-lent}
 use Rattle.calls.proofs.CardLaws.{chain-is}
 use Rattle.calls.proofs.ActiveLaws.{active-end, target-member, chain-some, volume-at, region-below}
 use Rattle.claims.specs.Kinds.{kindOf}
-use Rattle.claims.specs.Ledger.{Volume, LedgerOf, changedAt, spanCells, changeBy, ledgerStep, ledgerChange, runRead, volumeOf, ledgerOf}
-use Rattle.claims.specs.Claims.{comesToChain, NotInPlace}
-use Rattle.claims.specs.Spans.{TouchedClaim, SpanReads, SpanReadClaim, EmptySpan, EmptySpanClaim, SpanPatches, SpanLedgerClaim, SpanKeeps, SpanCellClaim}
+use Rattle.claims.specs.Ledger.{Volume, changedAt, spanCells, changeBy, ledgerStep, ledgerChange, runRead, volumeOf, ledgerOf}
+use Rattle.claims.specs.Claims.{comesToChain}
+use Rattle.claims.specs.Spans.{TouchedClaim, SpanReadClaim, EmptySpanClaim, SpanPatches, SpanLedgerClaim, SpanCellClaim}
 use Rattle.claims.proofs.CheckClaims.{span-allowed}
 use Rattle.claims.proofs.LedgerLaws.{cell-of}
 use Rattle.claims.proofs.LedgerFacts.{volume-read}
