@@ -34,7 +34,7 @@ use Rattle.calls.proofs.RowLaws.{numbered, fresh, none, first-append, r
 use Rattle.calls.proofs.StepLaws.{step-refused, step-accepted}
 
 -- an entry that is in place is one
-entry-is : (f : Found) → isMisplaced f ≡ false → f ≡ Entry (physical (holderOf f)) (physical (foundBlock f))
+pub entry-is : (f : Found) → isMisplaced f ≡ false → f ≡ Entry (physical (holderOf f)) (physical (foundBlock f))
 unfolding isMisplaced holderOf foundBlock
 entry-is (Misplaced h) e = let z : _≡_ {A = ℕ} 0 1 = cc in absurd (omega arith)
 entry-is (Entry m p) e = refl

@@ -10,13 +10,14 @@ use entries::find::Found;
 use entries::find::Located;
 use owning::place;
 ghost use mathlib.Core.Path.{_≡_};
-ghost use Prim.Native.Nat.{_+_, _*_, _≤_, _<_, _^_};
+ghost use mathlib.Core.List.{List};
+ghost use Prim.Native.Nat.{ℕ, _+_, _*_, _≤_, _<_, _^_};
 ghost use lib.ListN.{length};
 ghost use Rattle.blocks.specs.Bytes.{blockSize};
 ghost use Rattle.blocks.specs.Descriptor.{tableSize, phiSize, physical};
 ghost use Rattle.chains.specs.Chain.{chain, descriptors};
 ghost use Rattle.entries.specs.Through.{Through};
-ghost use Rattle.entries.specs.Entry.{tableOf, entryAt, entryFound, locatedIn, locate as locating};
+ghost use Rattle.entries.specs.Entry.{tableOf, entryAt, entryFound, find as finding, locatedIn, locate as locating};
 
 // The table block of group `i` of 128 logical blocks: the i-th after the descriptor in layout 1, as Phi names it in layout 2.
 pub fn table_of(card: &[u8], d: Descriptor, i: u32) -> Physical
@@ -38,6 +39,19 @@ pub fn entry_at(card: &[u8], m: Physical, j: u32) -> Physical
 {
     let at = BLOCK_SIZE * (m.0 as usize) + 4 * (j as usize);
     Physical(bytes::get_u32(card, at))
+}
+
+// The entry of logical block `l` through the descriptor `d`, where it is in place: the table block and the entry are read, and no region is looked for.
+pub fn entry_of(card: &[u8], d: Descriptor, l: Logical) -> Found
+    requires { ⌜ ((starts : List ℕ) × (count : ℕ) × Through (now card) starts count d) × (l .0 < d .volume) × ((m : Physical) × (p : Physical) × (finding (now card) (descriptors (chain (now card))) d (l .0) ≡ Found.Entry m p)) ⌝ }
+    ensures { λ r. ⌜ r ≡ finding (now (card .entry)) (descriptors (chain (now (card .entry)))) d (l .0) ⌝ }
+{
+    let m = table_of(card, d, l.0 / TABLE_SIZE);
+    if m.0 == 0 {
+        return Found::Entry(Physical(0), Physical(0));
+    }
+    let p = entry_at(card, m, l.0 % TABLE_SIZE);
+    Found::Entry(m, p)
 }
 
 // Entry `j` of table block `m`, if it is in place, and the region that contains what it names.

@@ -1,10 +1,9 @@
 -- The pieces of a span as they are filled: one piece out of a block or of zeros, put where it stands, and all of them joined.
 use mathlib.Core.Path.{_≡_, refl, sym, ap, _∙_}
-use mathlib.Core.Bool.{Bool, true, false}
-use mathlib.Core.List.{List, [], _∷_, _++_}
-use Prim.Native.Nat.{ℕ, zero, suc, _+_, _*_, _-_, _/_, _%_, _≤_, _<_, min}
+use mathlib.Core.List.{List, _∷_, _++_}
+use Prim.Native.Nat.{ℕ, zero, suc, _+_, _*_, _-_, _≤_, _<_, min}
 use native.Mathlib.Omega.{arith}
-use lib.ListN.{length, take, drop, getD, set, replicate, length-append, length-replicate}
+use lib.ListN.{length, take, drop, set, replicate, length-append, length-replicate}
 use lib.Seq.{take-at}
 use lib.Dec.{eqb}
 use borrow.Author.Tests.{eq-eqb, ne-eqb}
@@ -13,20 +12,17 @@ use Rattle.blocks.specs.Bytes.{part, splice, blockAt, zeroBlock}
 use Rattle.blocks.specs.Descriptor.{physical}
 use Rattle.blocks.specs.declared.numbers.Physical.{Physical}
 use Rattle.blocks.specs.declared.descriptor.Descriptor.{Descriptor}
-use Rattle.blocks.proofs.BoolLaws.{no}
 use Rattle.blocks.proofs.ByteLaws.{copied, copied-all, cleared-more, length-part, part-part, part-put, splice-start, splice-whole, splice-join}
 use Rattle.pieces.specs.declared.piece.Piece.{Piece}
 use Rattle.pieces.specs.Span.{spanBlock, touched, pieceOf, pieceIn}
 use Rattle.pieces.proofs.RunLaws.{splice-none}
 use Rattle.pieces.proofs.SpanLaws.{begins, ends, reached, reached-none, reached-all, stands-is, next-is, in-block, in-bytes}
-use Rattle.entries.specs.Entry.{find, foundBlock, entryAt, tableOf}
-use Rattle.entries.specs.Rules.{entryOf}
+use Rattle.entries.specs.Entry.{foundBlock}
 use Rattle.entries.specs.declared.find.Found.{Found}
 use Rattle.entries.specs.declared.find.Found.the-variants.{Misplaced, Entry}
 use Rattle.entries.specs.Through.{Through}
-use Rattle.entries.proofs.EntryLaws.{through-end, found-table, found-inside}
-use Rattle.entries.proofs.FoundLaws.{found-value, found-holder}
-use Rattle.calls.specs.Parts.{descriptorsOf, foundThrough, isMisplaced, blockFound}
+use Rattle.entries.proofs.EntryLaws.{found-inside}
+use Rattle.calls.specs.Parts.{descriptorsOf, foundThrough, blockFound}
 use Rattle.calls.specs.Spans.{gathered, spanBytes}
 use Rattle.calls.proofs.CellLaws.{found-long}
 
@@ -67,25 +63,17 @@ unfolding blockFound foundBlock
 block-by c (Misplaced h) = refl
 block-by c (Entry m p) = refl
 
--- the entry that is found, by the table block
-module _ (c : List ℕ) (d : Descriptor) (l : ℕ) where
-  entry-by : (f : Found) → foundThrough c d l ≡ f → isMisplaced f ≡ false → (foundBlock f ≡ entryOf c d l)
-  unfolding isMisplaced foundBlock
-  entry-by (Misplaced h) e g = no (sym g)
-  entry-by (Entry m p) e g = sym (found-value c (descriptorsOf c) d l m p e)
+-- what an entry that is not in place names, and what one that was found does
+pub block-none : (f : Found) (h : Physical) → f ≡ Misplaced h → physical 0 ≡ physical (foundBlock f)
+unfolding foundBlock
+block-none f h e = rw e
 
-  pub entry-nil : isMisplaced (foundThrough c d l) ≡ false → (m : Physical) → m ≡ physical (tableOf c d (l / 128)) → m .0 ≡ 0 → m ≡ physical (foundBlock (foundThrough c d l))
-  unfolding entryOf
-  entry-nil g m is z =
-      let t : tableOf c d (l / 128) ≡ 0 = sym (ap (λ (x : Physical). x .0) is) ∙ z in
-      is ∙ ap physical (t ∙ sym (entry-by (foundThrough c d l) refl g ∙ rw (eq-eqb (tableOf c d (l / 128)) 0 t)))
+pub block-some : (f : Found) (m p : Physical) → f ≡ Entry m p → p ≡ physical (foundBlock f)
+unfolding foundBlock
+block-some f m p e = rw e
 
-  pub entry-set : isMisplaced (foundThrough c d l) ≡ false → (m : Physical) → m ≡ physical (tableOf c d (l / 128)) → (m .0 ≡ 0 → ⊥) → (p : Physical) → p ≡ physical (entryAt c (m .0) (l % 128))
-      → p ≡ physical (foundBlock (foundThrough c d l))
-  unfolding entryOf
-  entry-set g m is z p e =
-      let t : m .0 ≡ tableOf c d (l / 128) = ap (λ (x : Physical). x .0) is in
-      e ∙ ap physical (ap (λ (x : ℕ). entryAt c x (l % 128)) t ∙ sym (entry-by (foundThrough c d l) refl g ∙ rw (ne-eqb (tableOf c d (l / 128)) 0 (λ q. z (t ∙ q)))))
+pub block-found : (c : List ℕ) (d : Descriptor) (l : ℕ) (f : Found) → f ≡ foundThrough c d l → (p : Physical) → p ≡ physical (foundBlock f) → p ≡ physical (foundBlock (foundThrough c d l))
+block-found c d l f is p e = e ∙ ap (λ (x : Found). physical (foundBlock x)) is
 
 -- a piece put where it stands
 pub piece-put : (c : List ℕ) (f : Found) (o l : ℕ) (out y : List ℕ) (p : Physical) → p ≡ physical (foundBlock f) → 512 * l < o + length out → o < 512 * l + 512
@@ -159,18 +147,8 @@ cleared-all out x i a b e =
     let long : length zeros ≡ length out = length-replicate {A = ℕ} (length out) 0 in
     e ∙ copied-all out 0 zeros i (omega (arith, long)) ∙ splice-whole out zeros long
 
--- the descriptor and the table block that an entry is read through are on the card
-module _ (c starts : List ℕ) (count : ℕ) (d : Descriptor) (t : Through c starts count d) (l : ℕ) (below : l < d .volume) where
-  table-by : (f : Found) → foundThrough c d l ≡ f → isMisplaced f ≡ false → tableOf c d (l / 128) < d .beta .0
-  unfolding isMisplaced
-  table-by (Misplaced h) e g = no (sym g)
-  table-by (Entry m p) e g = omega (arith, found-holder c (descriptorsOf c) d l m p e, found-table c starts count d t l below (foundThrough c d l) refl m p e)
-
-  pub entry-ready : isMisplaced (foundThrough c d l) ≡ false → (m : Physical) → m ≡ physical (tableOf c d (l / 128)) → (512 * m .0 + 512 ≤ length c) × (l % 128 < 128)
-  entry-ready g m is =
-      let e : m .0 ≡ tableOf c d (l / 128) = ap (λ (x : Physical). x .0) is in
-      (omega (arith, e, table-by (foundThrough c d l) refl g, through-end c starts count d t), omega arith)
-
+-- the block that an entry names is on the card, and a piece of it is no longer than a block
+module _ (c starts : List ℕ) (count : ℕ) (d : Descriptor) (t : Through c starts count d) (l : ℕ) where
   inside-by : (f : Found) → foundThrough c d l ≡ f → (foundBlock f ≡ 0 → ⊥) → 512 * foundBlock f + 512 ≤ length c
   unfolding foundBlock
   inside-by (Misplaced h) e n = absurd (n refl)

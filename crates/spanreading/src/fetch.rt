@@ -167,16 +167,14 @@ fn misplaced(
     Verdict::Passed
 }
 
-// The entry of logical block `l` through the descriptor `d`, nil where its table block is.
-fn entry_of(card: &[u8], d: Descriptor, l: u32) -> Physical
-    requires { ⌜ ((starts : List ℕ) × (count : ℕ) × Through (now card) starts count d) × (l < d .volume) × (isMisplaced (finding (now card) (descriptors (chainOf (now card))) d l) ≡ false) ⌝ }
-    ensures { λ r. ⌜ r ≡ physical (foundBlock (finding (now (card .entry)) (descriptors (chainOf (now (card .entry)))) d l)) ⌝ }
+// The block that an entry names, nil where the entry is nil or not in place.
+fn block_of(found: Found) -> Physical
+    ensures { λ r. ⌜ r ≡ physical (foundBlock found) ⌝ }
 {
-    let m = find::table_of(card, d, l / TABLE_SIZE);
-    if m.0 == 0 {
-        return m;
+    match found {
+        Found::Misplaced(_) => Physical(0),
+        Found::Entry(_, p) => p,
     }
-    find::entry_at(card, m, l % TABLE_SIZE)
 }
 
 // The piece of the span in logical block `l`, put where it stands among the caller's bytes.
@@ -184,7 +182,9 @@ fn fetch_piece(card: &[u8], d: Descriptor, l: usize, offset: usize, out: &mut [u
     requires { ⌜ ((starts : List ℕ) × (count : ℕ) × Through (now card) starts count d) × (l < d .volume) × (isMisplaced (finding (now card) (descriptors (chainOf (now card))) d l) ≡ false) × (blockSize * l < offset + length (now out)) × (offset < blockSize * l + blockSize) × (offset + length (now out) < 2 ^ 64) ⌝ }
     ensures { λ _. ⌜ now (out .exit) ≡ splice (now (out .entry)) (pieceOf offset (length (now (out .entry))) l .stands) (pieceIn (blockFound (now (card .entry)) (finding (now (card .entry)) (descriptors (chainOf (now (card .entry)))) d l)) offset (length (now (out .entry))) l) ⌝ }
 {
-    let p = entry_of(card, d, l as u32);
+    let number = l as u32;
+    let found = find::entry_of(card, d, Logical(number));
+    let p = block_of(found);
     let q = piece::piece_in(offset, out.len(), l);
     let start = q.stands;
     let end = start + q.count;

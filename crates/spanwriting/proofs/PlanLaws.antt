@@ -1,40 +1,39 @@
 -- What a block of a span takes, as the code counts it.
-use mathlib.Core.Path.{_≡_, refl, sym, ap, _∙_}
+use mathlib.Core.Path.{_≡_, refl, sym, ap, _∙_, subst}
 use mathlib.Core.Bool.{Bool, true, false, _||_}
 use mathlib.Core.List.{List}
-use Prim.Native.Nat.{ℕ, zero, suc, _+_, _*_, _-_, _/_, _%_, _≤_, _<_, min}
+use Prim.Native.Nat.{ℕ, suc, _+_, _/_, _%_, _≤_, _<_, min}
 use native.Mathlib.Omega.{arith}
 use lib.Dec.{eqb}
 use borrow.Author.Tests.{eq-eqb, ne-eqb}
 use Rattle.blocks.specs.Pick.{pick}
 use Rattle.blocks.specs.declared.descriptor.Descriptor.{Descriptor}
 use Rattle.blocks.proofs.BoolLaws.{no}
-use Rattle.pieces.specs.Span.{spanBlock}
 use Rattle.chains.specs.Chain.{activeOf}
-use Rattle.entries.specs.Entry.{locate, need, needBy}
-use Rattle.entries.specs.declared.find.Located.{Located}
+use Rattle.entries.specs.Entry.{need}
+use Rattle.entries.specs.declared.find.Found.{Found}
 use Rattle.entries.proofs.EntryLaws.{need-most}
-use Rattle.entries.proofs.OwnerLaws.{need-active}
-use Rattle.entries.proofs.RegionLaws.{through-linked, through-count}
-use Rattle.calls.specs.Parts.{descriptorsOf, foundThrough}
+use Rattle.calls.specs.Parts.{descriptorsOf, foundThrough, isMisplaced}
+use Rattle.calls.specs.Check.{Passes}
 use Rattle.calls.specs.Stores.{writeNeed}
-use Rattle.spanwriting.specs.Planned.{countedAt, plannedNeed, ActiveCard}
-use Rattle.spanwriting.proofs.ActiveCards.{active-ready}
+use Rattle.calls.proofs.CellLaws.{active-placed}
+use Rattle.spanwriting.specs.Planned.{countedAt, plannedNeed}
 
 least-one : (n : ℕ) → n ≤ 2 → (n ≡ 2 → ⊥) → n ≡ min n 1
 least-one n h z = omega arith
 
-module _ (c starts : List ℕ) (count : ℕ) (d : Descriptor) (a : ActiveCard c starts count d) (o i : ℕ)
-    (at : Located) (is : at ≡ locate c (descriptorsOf c) d (o / 512 + i)) (n : ℕ) (taken : n ≡ needBy (count - 1) (d .alpha .0) (at .found) (at .owner)) where
+-- the entry of a block of the volume is in place, on a card that passes
+pub in-place : (c : List ℕ) → Passes c → (d : Descriptor) → d ≡ activeOf (descriptorsOf c) → (l : ℕ) → l < d .volume → isMisplaced (foundThrough c d l) ≡ false
+in-place c p d active l h =
+    subst (λ (x : Descriptor). isMisplaced (foundThrough c x l) ≡ false) (sym active) (active-placed c p l (subst (λ (x : Descriptor). l < x .volume) active h))
+
+module _ (c : List ℕ) (d : Descriptor) (active : d ≡ activeOf (descriptorsOf c)) (o i : ℕ) (f : Found) (is : f ≡ foundThrough c d (o / 512 + i)) (n : ℕ) (taken : n ≡ need (d .alpha .0) f) where
   abbrev l : ℕ
   l = o / 512 + i
 
   counts : n ≡ writeNeed c l
   unfolding writeNeed
-  counts =
-      let t = active-ready c starts count d a in
-      taken ∙ need-active c (descriptorsOf c) (through-linked c starts count d t) count (through-count c starts count d t) d (a .active) l at is
-      ∙ ap (λ (x : Descriptor). need (x .alpha .0) (foundThrough c x l)) (a .active)
+  counts = taken ∙ ap (need (d .alpha .0)) is ∙ ap (λ (x : Descriptor). need (x .alpha .0) (foundThrough c x l)) active
 
   pub counts-most : n ≤ 2
   unfolding writeNeed

@@ -41,6 +41,13 @@ pub active-card : (c : List ℕ) (count : ℕ) (starts : List ℕ) → SoundCard
 active-card c count starts s d e =
     record { sound = s; active = e ∙ sym (card-active c (record { sound = true; place = physical 0; active = activeOf (descriptorsOf c); count = count; starts = starts }) (sym (s .regions)) (s .area) refl) }
 
+-- a card that check finds no fault in passes
+pub checked-passes : (c : List ℕ) (count : ℕ) (starts : List ℕ) → SoundCard c count starts → (v : Verdict) → v ≡ checkCard c → v ≡ Passed → Passes c
+unfolding isFault
+checked-passes c count starts s v is passed =
+    let r : Regions = record { sound = true; place = physical 0; active = activeOf (descriptorsOf c); count = count; starts = starts } in
+    faultless-passes c (s .area) (card-sound c r (sym (s .regions)) refl) (ap isFault (sym is ∙ passed))
+
 module _ (c : List ℕ) (o : ℕ) (bytes : List ℕ) (count : ℕ) (starts : List ℕ) (s : SoundCard c count starts) (d : Descriptor) (d-is : d ≡ descriptorAt c (getD starts (count - 1) 0)) where
   abbrev call : Call
   call = SpanWrite o bytes
@@ -90,7 +97,7 @@ module _ (c : List ℕ) (o : ℕ) (bytes : List ℕ) (count : ℕ) (starts : Lis
           faultless = ap isFault (sym is ∙ passed)
 
           passes : Passes c
-          passes = faultless-passes c (s .area) sound-c faultless
+          passes = checked-passes c count starts s v is passed
 
           abbrev wants : ℕ → Bool
           wants n = ltb (blockCount c) (activeOf (descriptorsOf c) .beta .0 + n)

@@ -17,7 +17,7 @@ use Rattle.calls.specs.Check.{Passes}
 use Rattle.calls.specs.Spans.{spanNeed, writeSpanNeed}
 
 -- what block i of a span takes, counted on the card at entry: that of a write, but at most one block where the block before it is of the same group and of the span, since
--- the table block is then one of the active region
+-- the table block is then one of the active region (on a card that passes: where the block before takes nothing, by the rule `table-above`)
 unfoldable pub countedAt : List ℕ → ℕ → ℕ → ℕ
 countedAt c o i =
     let l = spanBlock o i in

@@ -71,7 +71,7 @@ fn write_through(
     }
     let at = offset as usize;
     let blocks = pieces_of::blocks_touched(at, bytes.len());
-    let taken = plan::span_need(&*card, &*starts, count, d, at, blocks);
+    let taken = plan::span_need(&*card, d, at, blocks);
     let beta = d.beta.0;
     if card.len() / BLOCK_SIZE < (beta as usize) + taken {
         return answer::NO_ROOM;

@@ -10,25 +10,25 @@ use Rattle.spanwriting.proofs.plan.span_need.Statement.{statement}
 use Rattle.spanwriting.proofs.plan.span_need.Tie as tie
 
 abbrev Inv-loop : tie.InvT-loop
-Inv-loop card starts count d offset blocks total₀ i₀ total i = (i ≤ blocks) × (total ≡ plannedNeed card offset i) × (total ≤ 2 * i)
+Inv-loop card d offset blocks total₀ i₀ total i = (i ≤ blocks) × (total ≡ plannedNeed card offset i) × (total ≤ 2 * i)
 
 abbrev μ-loop : tie.MeasureT-loop
-μ-loop card starts count d offset blocks total₀ i₀ total i = blocks - i
+μ-loop card d offset blocks total₀ i₀ total i = blocks - i
 
 loop-holds : tie.Need-loop-holds Inv-loop μ-loop
 loop-holds c = (omega arith, planned-none _ _, omega arith)
 
 block-need-requires : tie.Need-block-need-requires Inv-loop μ-loop
-block-need-requires c κs = let q = c .before .before .before .before .pre in (q .0, omega (arith, q .1))
+block-need-requires c κs = let q = c .before .before .before .pre in (q .0, q .1, omega (arith, q .2))
 
 cast-total : tie.Need-cast-total Inv-loop μ-loop
 cast-total c = omega (arith, c .block-need .ensures .1)
 
 add-total : tie.Need-add-total Inv-loop μ-loop
-add-total c = let q = c .before .before .before .before .before .pre in omega (arith, c .block-need .ensures .1, c .before .before .loop .inv .2, q .1, through-volume _ _ _ _ (active-ready _ _ _ _ (q .0)))
+add-total c = let q = c .before .before .before .before .pre in omega (arith, c .block-need .ensures .1, c .before .before .loop .inv .2, q .2, through-volume _ _ _ _ (active-ready _ _ _ _ (q .0 .2)))
 
 add-i : tie.Need-add-i Inv-loop μ-loop
-add-i c = let q = c .before .before .before .before .before .pre in omega (arith, q .1, through-volume _ _ _ _ (active-ready _ _ _ _ (q .0)))
+add-i c = let q = c .before .before .before .before .pre in omega (arith, q .2, through-volume _ _ _ _ (active-ready _ _ _ _ (q .0 .2)))
 
 loop-less : tie.Need-loop-less Inv-loop μ-loop
 loop-less c = omega arith

@@ -4,7 +4,7 @@ use native.Mathlib.Omega.{arith}
 use Rattle.entries.proofs.EntryLaws.{through-volume, through-end}
 use Rattle.calls.proofs.CardLaws.{card-some, card-few, card-long, card-inside, card-small}
 use Rattle.spanwriting.proofs.ActiveCards.{active-ready}
-use Rattle.spanwriting.proofs.WriteSpanLaws.{active-card, span-16, span-10, span-11, span-ready, span-0}
+use Rattle.spanwriting.proofs.WriteSpanLaws.{active-card, checked-passes, span-16, span-10, span-11, span-ready, span-0}
 use Rattle.pieces.proofs.SpanLaws.{past-upto}
 use Rattle.spanwriting.proofs.BlocksLaws.{touched-upto, small-upto, sum-small}
 use borrow.Author.Needs.{needs}
@@ -54,13 +54,20 @@ blocks-touched-requires : tie.Need-blocks-touched-requires
 blocks-touched-requires c κs = small-upto _ _ _ _ (c .before .before .before .before .before .before .is-past .ensures) (c .before .before .before .before .before .if1 .left) (through-volume _ _ _ _ (active-ready _ _ _ _ (active-card _ _ _ (c .before .before .before .before .before .before .before .before .before .before .before .before .before .pre) _ (c .before .before .before .before .before .before .before .read-descriptor .ensures))))
 
 span-need-requires : tie.Need-span-need-requires
-span-need-requires c κs = let u = past-upto _ _ _ _ (c .before .before .before .before .before .before .before .before .before .is-past .ensures) (c .before .before .before .before .before .before .before .before .if1 .left) in let t = c .before .before .blocks-touched .ensures in (active-card _ _ _ (c .before .before .before .before .before .before .before .before .before .before .before .before .before .before .before .before .pre) _ (c .before .before .before .before .before .before .before .before .before .before .read-descriptor .ensures), touched-upto _ _ _ _ u (t .0) (t .1))
+span-need-requires c κs =
+    let s = c .before .before .before .before .before .before .before .before .before .before .before .before .before .before .before .pre in
+    let u = past-upto _ _ _ _ (c .before .before .before .before .before .before .before .before .is-past .ensures) (c .before .before .before .before .before .before .before .if1 .left) in
+    let t = c .before .blocks-touched .ensures in (
+      (_, _, active-card _ _ _ s _ (c .before .before .before .before .before .before .before .before .before .read-descriptor .ensures)),
+      checked-passes _ _ _ s _ (c .before .before .before .before .check-regions .ensures) (c .before .before .enum-told .given .1),
+      touched-upto _ _ _ _ u (t .0) (t .1),
+    )
 
 cast-if2 : tie.Need-cast-if2
-cast-if2 c = let t = active-ready _ _ _ _ (active-card _ _ _ (c .before .before .before .before .before .before .before .before .before .before .before .before .before .before .before .before .before .pre) _ (c .before .before .before .before .before .before .before .before .before .before .before .read-descriptor .ensures)) in omega (arith, through-end _ _ _ _ t, card-small _ (c .before .before .before .before .before .before .before .before .before .before .before .before .before .before .before .before .before .pre .area))
+cast-if2 c = let t = active-ready _ _ _ _ (active-card _ _ _ (c .before .before .before .before .before .before .before .before .before .before .before .before .before .before .before .before .pre) _ (c .before .before .before .before .before .before .before .before .before .before .read-descriptor .ensures)) in omega (arith, through-end _ _ _ _ t, card-small _ (c .before .before .before .before .before .before .before .before .before .before .before .before .before .before .before .before .pre .area))
 
 add-if2 : tie.Need-add-if2
-add-if2 c = let t = active-ready _ _ _ _ (active-card _ _ _ (c .before .before .before .before .before .before .before .before .before .before .before .before .before .before .before .before .before .pre) _ (c .before .before .before .before .before .before .before .before .before .before .before .read-descriptor .ensures)) in record { fits = sum-small _ _ _ _ _ _ _ (c .before .before .before .before .before .before .before .before .before .before .is-past .ensures) (c .before .before .before .before .before .before .before .before .before .if1 .left) (through-volume _ _ _ _ t) (c .span-need .ensures .1) (c .before .before .before .blocks-touched .ensures .1) (omega (arith, through-end _ _ _ _ t, card-small _ (c .before .before .before .before .before .before .before .before .before .before .before .before .before .before .before .before .before .pre .area))) }
+add-if2 c = let t = active-ready _ _ _ _ (active-card _ _ _ (c .before .before .before .before .before .before .before .before .before .before .before .before .before .before .before .before .pre) _ (c .before .before .before .before .before .before .before .before .before .before .read-descriptor .ensures)) in record { fits = sum-small _ _ _ _ _ _ _ (c .before .before .before .before .before .before .before .before .before .is-past .ensures) (c .before .before .before .before .before .before .before .before .if1 .left) (through-volume _ _ _ _ t) (c .span-need .ensures .1) (c .before .before .blocks-touched .ensures .1) (omega (arith, through-end _ _ _ _ t, card-small _ (c .before .before .before .before .before .before .before .before .before .before .before .before .before .before .before .before .pre .area))) }
 
 same-length-4 : tie.Need-same-length-4
 same-length-4 c = search needs
@@ -69,10 +76,10 @@ same-length-5 : tie.Need-same-length-5
 same-length-5 c = search needs
 
 returns-3 : tie.Need-returns-3
-returns-3 c = span-11 _ _ _ _ _ (c .before .before .before .before .before .before .before .before .before .before .before .before .before .before .before .before .before .before .pre) _ (c .before .before .before .before .before .before .before .before .before .before .before .before .read-descriptor .ensures) _ (c .before .before .before .before .before .before .before .before .before .before .before .is-past .ensures) (c .before .before .before .before .before .before .before .before .before .before .if1 .left) _ (c .before .before .before .before .before .before .before .check-regions .ensures) (c .before .before .before .before .before .enum-told .given .1) _ (c .before .before .before .before .blocks-touched .ensures .0) _ (c .before .span-need .ensures .0) (omega (arith, c .if2 .taken))
+returns-3 c = span-11 _ _ _ _ _ (c .before .before .before .before .before .before .before .before .before .before .before .before .before .before .before .before .before .pre) _ (c .before .before .before .before .before .before .before .before .before .before .before .read-descriptor .ensures) _ (c .before .before .before .before .before .before .before .before .before .before .is-past .ensures) (c .before .before .before .before .before .before .before .before .before .if1 .left) _ (c .before .before .before .before .before .before .check-regions .ensures) (c .before .before .before .before .enum-told .given .1) _ (c .before .before .before .blocks-touched .ensures .0) _ (c .before .span-need .ensures .0) (omega (arith, c .if2 .taken))
 
 write-blocks-requires : tie.Need-write-blocks-requires
-write-blocks-requires c κs = span-ready _ _ _ _ _ (c .before .before .before .before .before .before .before .before .before .before .before .before .before .before .before .before .before .before .before .before .pre) _ (c .before .before .before .before .before .before .before .before .before .before .before .before .before .before .read-descriptor .ensures) _ (c .before .before .before .before .before .before .before .before .before .before .before .before .before .is-past .ensures) (c .before .before .before .before .before .before .before .before .before .before .before .before .if1 .left) _ (c .before .before .before .before .before .before .before .before .before .check-regions .ensures) (c .before .before .before .before .before .before .before .enum-told .given .1) _ (c .before .before .before .before .before .before .blocks-touched .ensures .0) _ (c .before .before .before .span-need .ensures .0) (omega (arith, c .before .before .if2 .left))
+write-blocks-requires c κs = span-ready _ _ _ _ _ (c .before .before .before .before .before .before .before .before .before .before .before .before .before .before .before .before .before .before .before .pre) _ (c .before .before .before .before .before .before .before .before .before .before .before .before .before .read-descriptor .ensures) _ (c .before .before .before .before .before .before .before .before .before .before .before .before .is-past .ensures) (c .before .before .before .before .before .before .before .before .before .before .before .if1 .left) _ (c .before .before .before .before .before .before .before .before .check-regions .ensures) (c .before .before .before .before .before .before .enum-told .given .1) _ (c .before .before .before .before .before .blocks-touched .ensures .0) _ (c .before .before .before .span-need .ensures .0) (omega (arith, c .before .before .if2 .left))
 
 same-length-6 : tie.Need-same-length-6
 same-length-6 c = search needs
@@ -81,7 +88,7 @@ same-length-7 : tie.Need-same-length-7
 same-length-7 c = search needs
 
 returns-4 : tie.Need-returns-4
-returns-4 c = span-0 _ _ _ _ _ (c .before .before .before .before .before .before .before .before .before .before .before .before .before .before .before .before .before .before .before .before .before .before .before .before .before .pre) _ (c .before .before .before .before .before .before .before .before .before .before .before .before .before .before .before .before .before .before .before .read-descriptor .ensures) _ (c .before .before .before .before .before .before .before .before .before .before .before .before .before .before .before .before .before .before .is-past .ensures) (c .before .before .before .before .before .before .before .before .before .before .before .before .before .before .before .before .before .if1 .left) _ (c .before .before .before .before .before .before .before .before .before .before .before .before .before .before .check-regions .ensures) (c .before .before .before .before .before .before .before .before .before .before .before .before .enum-told .given .1) _ (c .before .before .before .before .before .before .before .before .before .before .before .blocks-touched .ensures .0) _ (c .before .before .before .before .before .before .before .before .span-need .ensures .0) (omega (arith, c .before .before .before .before .before .before .before .if2 .left)) _ (c .before .before .before .before .write-blocks .ensures)
+returns-4 c = span-0 _ _ _ _ _ (c .before .before .before .before .before .before .before .before .before .before .before .before .before .before .before .before .before .before .before .before .before .before .before .before .pre) _ (c .before .before .before .before .before .before .before .before .before .before .before .before .before .before .before .before .before .before .read-descriptor .ensures) _ (c .before .before .before .before .before .before .before .before .before .before .before .before .before .before .before .before .before .is-past .ensures) (c .before .before .before .before .before .before .before .before .before .before .before .before .before .before .before .before .if1 .left) _ (c .before .before .before .before .before .before .before .before .before .before .before .before .before .check-regions .ensures) (c .before .before .before .before .before .before .before .before .before .before .before .enum-told .given .1) _ (c .before .before .before .before .before .before .before .before .before .before .blocks-touched .ensures .0) _ (c .before .before .before .before .before .before .before .before .span-need .ensures .0) (omega (arith, c .before .before .before .before .before .before .before .if2 .left)) _ (c .before .before .before .before .write-blocks .ensures)
 
 pub write-through-spec : {M : Type 1} → statement M
 write-through-spec =

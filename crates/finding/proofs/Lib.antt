@@ -1,0 +1,2 @@
+-- The laws that reading an entry in place rests on.
+pub mod ReadLaws
