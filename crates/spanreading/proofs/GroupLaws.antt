@@ -2,25 +2,22 @@
 use mathlib.Core.Path.{_≡_, refl, sym, ap, _∙_}
 use mathlib.Core.Bool.{Bool, true, false, not, _&&_}
 use mathlib.Core.List.{List}
-use Prim.Native.Nat.{ℕ, zero, suc, _+_, _*_, _-_, _/_, _%_, _≤_, _<_}
+use Prim.Native.Nat.{ℕ, zero, suc, _+_, _-_, _/_, _%_, _≤_, _<_, min}
 use native.Mathlib.Omega.{arith}
-use lib.ListN.{length}
 use lib.Dec.{eqb}
-use borrow.Author.Tests.{eqb-true, eqb-false, eq-eqb, ne-eqb}
+use borrow.Author.Tests.{eq-eqb, ne-eqb}
 use Rattle.blocks.specs.Pick.{pick}
 use Rattle.blocks.specs.Descriptor.{physical}
 use Rattle.blocks.specs.declared.numbers.Physical.{Physical}
 use Rattle.blocks.specs.declared.descriptor.Descriptor.{Descriptor}
 use Rattle.blocks.proofs.BoolLaws.{no}
 use Rattle.entries.specs.InPlace.{inPlace}
-use Rattle.entries.specs.Entry.{entryAt, tableOf, entryFound, find, foundBlock}
-use Rattle.entries.specs.Rules.{entryOf}
+use Rattle.entries.specs.Entry.{entryAt, tableOf, entryFound, find}
 use Rattle.entries.specs.declared.check.Verdict.{Verdict}
 use Rattle.entries.specs.declared.check.Verdict.the-variants.{Passed, Fault}
 use Rattle.entries.specs.declared.find.Found.{Found}
 use Rattle.entries.specs.declared.find.Found.the-variants.{Misplaced, Entry}
-use Rattle.entries.proofs.EntryLaws.{entry-table}
-use Rattle.entries.proofs.FoundLaws.{found-value, found-holder}
+use Rattle.entries.proofs.FoundLaws.{found-holder}
 use Rattle.entries.proofs.TableLaws.{table-own}
 use Rattle.calls.specs.Parts.{descriptorsOf, foundThrough, isMisplaced, holderOf}
 use Rattle.calls.specs.Check.{orElse, isFault}
@@ -130,6 +127,17 @@ pub first-fault : (c : List ℕ) (d : Descriptor) (l k : ℕ) → 0 < k → (f :
 unfolding misplacedFrom isMisplaced holderOf
 first-fault c d l zero s f is h e = absurd (omega arith)
 first-fault c d l (suc k) s f is h e = rw (← is, e)
+
+-- what is left of a group: some block, all of the group, none at or past the end
+module _ (l end : ℕ) (h : l < end) (k : ℕ) (is : k ≡ min (128 - l % 128) (end - l)) where
+  pub group-some : 0 < k
+  group-some = omega (arith, is)
+
+  pub group-shared : l % 128 + k ≤ 128
+  group-shared = omega (arith, is)
+
+  pub group-within : l + k ≤ end
+  group-within = omega (arith, is)
 
 -- group after group
 split : (c : List ℕ) (d : Descriptor) (a b l : ℕ) → misplacedFrom c d l (a + b) ≡ orElse (misplacedFrom c d l a) (misplacedFrom c d (l + a) b)

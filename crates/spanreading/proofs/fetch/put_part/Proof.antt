@@ -1,5 +1,4 @@
 -- `put_part` meets its contract: what comes out of the copy is what went in.
-use mathlib.Core.Path.{refl, sym, _∙_}
 use native.Mathlib.Omega.{arith}
 use Rattle.spanreading.proofs.FillLaws.{copied-count, copied-out}
 use borrow.Author.Needs.{needs}

@@ -1,12 +1,12 @@
 -- `are_placed` meets its contract: after i turns i entries were in place.
-use mathlib.Core.Path.{_≡_, refl}
+use mathlib.Core.Path.{_≡_}
 use Prim.Native.Nat.{_≤_, _+_, _-_}
 use native.Mathlib.Omega.{arith}
 use borrow.Author.Needs.{needs}
 use Rattle.spanreading.specs.Fetched.{placedFrom}
 use Rattle.spanreading.proofs.PlacedLaws.{placed-start, placed-end, placed-stop, placed-more}
-use Rattle.spanreading.proofs.fetch.are_placed.Statement.{statement}
-use Rattle.spanreading.proofs.fetch.are_placed.Tie as tie
+use Rattle.spanreading.proofs.groups.are_placed.Statement.{statement}
+use Rattle.spanreading.proofs.groups.are_placed.Tie as tie
 
 abbrev Inv-loop : tie.InvT-loop
 Inv-loop card starts count d m j k i₀ i = (i ≤ k) × (placedFrom card d (m .0) j k ≡ placedFrom card d (m .0) (j + i) (k - i))

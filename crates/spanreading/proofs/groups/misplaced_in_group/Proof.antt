@@ -3,8 +3,8 @@ use mathlib.Core.Path.{sym, _∙_}
 use Rattle.entries.proofs.OwnerLaws.{located-found}
 use Rattle.spanreading.proofs.GroupLaws.{first-fault}
 use borrow.Author.Needs.{needs}
-use Rattle.spanreading.proofs.fetch.misplaced_in_group.Statement.{statement}
-use Rattle.spanreading.proofs.fetch.misplaced_in_group.Tie as tie
+use Rattle.spanreading.proofs.groups.misplaced_in_group.Statement.{statement}
+use Rattle.spanreading.proofs.groups.misplaced_in_group.Tie as tie
 
 locate-requires : tie.Need-locate-requires
 locate-requires c κs = search needs

@@ -2,10 +2,10 @@
 use native.Mathlib.Omega.{arith}
 use Rattle.entries.proofs.EntryLaws.{found-table, through-end}
 use Rattle.spanreading.proofs.GroupLaws.{rest-nil, rest-placed, rest-fault}
-use mathlib.Core.Path.{refl, sym}
+use mathlib.Core.Path.{refl}
 use borrow.Author.Needs.{needs}
-use Rattle.spanreading.proofs.fetch.rest_of_group.Statement.{statement}
-use Rattle.spanreading.proofs.fetch.rest_of_group.Tie as tie
+use Rattle.spanreading.proofs.groups.rest_of_group.Statement.{statement}
+use Rattle.spanreading.proofs.groups.rest_of_group.Tie as tie
 
 returns : tie.Need-returns
 returns c = let q = c .before .before .before .before .pre in rest-nil _ _ _ _ _ (q .4 .1) (c .if1 .taken) _ (q .1) (q .2)
