@@ -16,7 +16,7 @@
 //! that apply the first is given, in this order: [`Kind::BadArea`]; but for `ream`, [`Kind::UnsoundChain`]; then those
 //! that stand under "Errors" of the call, as they stand there.
 //!
-//! [`Card::check`] and [`Card::write_at`] use at most @@72 KB of stack, any other call at most @@5 KB, and a caller that
+//! [`Card::check`] and [`Card::write_at`] use at most 72 KB of stack, any other call at most 5 KB, and a caller that
 //! is not optimised its own frames besides. Only [`Card::list`] allocates, for its records.
 //!
 //! ```
