@@ -293,6 +293,7 @@ span-cell-claim A put g o bytes none =
           let k = j / 512 - o / 512 in
           let e : spanBlock o k ≡ j / 512 = omega arith in
           rw e at (then-here A keep cells o bytes none (touched o n) k (byte-among o n j a b) (omega arith));
+      others = (refl, refl, refl);
       kept = λ l h. then-other A keep cells o bytes none (touched o n) l (λ k b e.
           let s = touched-claim o n l .0 (k, b, e) in
           h (s .0) (s .1) (s .2) (s .3));

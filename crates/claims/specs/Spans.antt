@@ -28,7 +28,7 @@ TouchedClaim =
     (o n l : ℕ) → ((i : ℕ) × (i < touched o n) × (l ≡ spanBlock o i)) ↔ ((j : ℕ) × (o ≤ j) × (j < o + n) × (j / 512 ≡ l))
 
 -- "Bytes of a block outside the span keep their value, or zero if it was nil": byte j of logical block l is byte 512 times l plus j of the volume. Inside the span it is
--- the span's; outside it is what the block had, whose bytes are zeros where the entry was nil.
+-- the span's; outside it is what the block had. (That this is zeros where the entry is nil is `blockFound`'s: SpanRun, `reads`.)
 unfoldable pub MergedClaim : Type 0
 MergedClaim =
     (block : List ℕ) (o : ℕ) (bytes : List ℕ) (l : ℕ) → length block ≡ 512 → 512 * l < o + length bytes → o < 512 * l + 512
@@ -189,6 +189,9 @@ pub record SpanKeeps (A : Type 0) (put : ℕ → (List ℕ → List ℕ) → A �
   pub same-count : length (changeBy put (WritesSpan o bytes) g .active .cells) ≡ length (g .active .cells)
   pub changed : (j : ℕ) → o ≤ j → j < o + length bytes → j / 512 < length (g .active .cells)
       → getD (changeBy put (WritesSpan o bytes) g .active .cells) (j / 512) none ≡ put (length (g .snapshots)) (λ old. merged old o bytes (j / 512)) (getD (g .active .cells) (j / 512) none)
+  -- snapshots, name and revision stay
+  pub others : (changeBy put (WritesSpan o bytes) g .snapshots ≡ g .snapshots) × (changeBy put (WritesSpan o bytes) g .active .name ≡ g .active .name)
+      × (changeBy put (WritesSpan o bytes) g .revision ≡ g .revision)
   pub kept : (l : ℕ) → ((j : ℕ) → o ≤ j → j < o + length bytes → j / 512 ≡ l → ⊥) → getD (changeBy put (WritesSpan o bytes) g .active .cells) l none ≡ getD (g .active .cells) l none
 
 unfoldable pub SpanCellClaim : Type 1
