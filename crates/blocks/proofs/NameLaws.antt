@@ -1,5 +1,5 @@
 -- Laws of names and of texts.
-use mathlib.Core.Path.{◌≡◌, refl, sym, ap, ◌∙◌}
+use mathlib.Core.Path.{◌≡◌, refl, sym, ap, ◌∙◌, subst}
 use mathlib.Core.Bool.{Bool, true, false, not, ◌&&◌, ◌||◌}
 use mathlib.Core.List.{List, [], ◌∷◌, ◌++◌}
 use Prim.Native.Nat.{ℕ, zero, suc, ◌-◌, ◌≤◌, ◌<◌}
@@ -33,7 +33,7 @@ after_zero [] = refl
 after_zero (b ∷ l) = by (eqb b 0) refl (after_zero l)
   where
     by : (z : Bool) → eqb b 0 ≡ z → all_zero l ≡ (name_or_zero l && zeros_last (0 ∷ l)) → (z && all_zero l) ≡ (((name_byte b || z) && name_or_zero l) && (z && zeros_last (b ∷ l)))
-    by true e more = rw (eqb-true b 0 e, or_true (name_byte 0)) more
+    by true e more = subst (λ (x : ℕ). (true && all_zero l) ≡ (((name_byte x || true) && name_or_zero l) && (true && zeros_last (x ∷ l)))) (sym (eqb-true b 0 e)) (rw (or_true (name_byte 0)) more)
     by false e more = sym (and_false ((name_byte b || false) && name_or_zero l))
 
 -- a byte that a name may have is not zero
@@ -58,7 +58,7 @@ name_after [] = refl
 name_after (b ∷ l) = by (name_byte b) refl (name_after l)
   where
     zero_or : (z : Bool) → eqb b 0 ≡ z → (z && all_zero l) ≡ ((z && name_or_zero l) && zeros_last (b ∷ l))
-    zero_or true e = rw (eqb-true b 0 e) (after_zero l)
+    zero_or true e = subst (λ (x : ℕ). (true && all_zero l) ≡ ((true && name_or_zero l) && zeros_last (x ∷ l))) (sym (eqb-true b 0 e)) (after_zero l)
     zero_or false e = refl
 
     by : (t : Bool) → name_byte b ≡ t → all_zero (drop (name_length l) l) ≡ (name_or_zero l && zeros_last l)

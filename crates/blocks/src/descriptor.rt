@@ -9,7 +9,7 @@ use crate::numbers::Physical;
 use crate::sizes::{BLOCK_SIZE, HEAD_SIZE, NAME_SIZE, NAME_START, REVISION_START, TABLE_SIZE};
 
 // What a format takes.
-#[derive(Drop)]
+#[derive(Clone, Copy)]
 pub struct Format {
     pub layout: u32,
     pub volume: u32,
@@ -18,7 +18,7 @@ pub struct Format {
 }
 
 // The fields of a descriptor block, the paper's SDB.
-#[derive(Drop)]
+#[derive(Clone, Copy)]
 pub struct Descriptor {
     pub layout: u32,
     pub volume: u32,

@@ -3,7 +3,7 @@ use blocks::numbers::Physical;
 use blocks::sizes::NAME_SIZE;
 
 // The number and the place of an answer: 0 and 0 where the call is accepted, else a refusal.
-#[derive(Drop)]
+#[derive(Clone, Copy)]
 pub struct Answer {
     pub number: u32,
     pub place: u32,
@@ -81,14 +81,14 @@ pub const BAD_REVISION: Answer = Answer {
 };
 
 // What a read reads, and what a visit is asked of: the active store, or the snapshot whose name stands beside.
-#[derive(Drop)]
+#[derive(Clone, Copy)]
 pub enum Target {
     Active,
     Snapshot,
 }
 
 // One descriptor of the chain as a listing gives it.
-#[derive(Drop)]
+#[derive(Clone, Copy)]
 pub struct Record {
     pub name: [u8; NAME_SIZE],
     pub alpha: Physical,
@@ -97,7 +97,7 @@ pub struct Record {
 }
 
 // What a visit gives: number and place, and the name of the region's descriptor, sixteen zeros for none.
-#[derive(Drop)]
+#[derive(Clone, Copy)]
 pub struct Visited {
     pub answer: Answer,
     pub name: [u8; NAME_SIZE],
@@ -105,7 +105,7 @@ pub struct Visited {
 
 // Where a write goes: its answer by the tests from that of the chain up to that of the entry, the block of the active descriptor, the table block and the block
 // that the entry names, each of these two 0 for nil, and the blocks that it takes. With a refusal all but the answer are 0.
-#[derive(Drop)]
+#[derive(Clone, Copy)]
 pub struct Aim {
     pub answer: Answer,
     pub alpha: Physical,
@@ -116,7 +116,7 @@ pub struct Aim {
 
 // Where a snapshot is taken: its answer by the tests from that of the chain up to that of the number of snapshots, and the block of the active descriptor, 0 with
 // a refusal.
-#[derive(Drop)]
+#[derive(Clone, Copy)]
 pub struct Site {
     pub answer: Answer,
     pub alpha: Physical,

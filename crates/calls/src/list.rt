@@ -6,14 +6,14 @@ use blocks::sizes::STARTS_SIZE;
 pub const SHEET_RECORDS: usize = 64;
 
 // What a listing answers, and how many records it fills: none where it is refused.
-#[derive(Drop)]
+#[derive(Clone, Copy)]
 pub struct Filling {
     pub answer: Answer,
     pub count: usize,
 }
 
 // The same, and the places as the walk leaves them: in the first of them where the regions start, if the chain is sound.
-#[derive(Drop)]
+#[derive(Clone, Copy)]
 pub struct Plan {
     pub answer: Answer,
     pub count: usize,

@@ -9,7 +9,7 @@ pub const SHEET_BLOCKS: u32 = 64;
 pub const MOST_LINE: usize = 127;
 
 // What a line asks for. The bytes of a name stand beside it.
-#[derive(Drop)]
+#[derive(Clone, Copy)]
 pub enum SheetCall {
     Malformed,
     Ream(u32, u32, u32), // layout, blocks, volume
@@ -22,14 +22,14 @@ pub enum SheetCall {
 }
 
 // A line of the sheet.
-#[derive(Drop)]
+#[derive(Clone, Copy)]
 pub struct Line {
     pub call: SheetCall,
     pub name: [u8; NAME_SIZE],
 }
 
 // A line cut from the sheet, and where the next one starts.
-#[derive(Drop)]
+#[derive(Clone, Copy)]
 pub struct Cut {
     pub line: Line,
     pub next: usize,

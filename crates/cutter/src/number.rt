@@ -8,7 +8,7 @@ use crate::word;
 const MOST_NUMBER: u32 = 65535;
 
 // What a text says as a number.
-#[derive(Drop)]
+#[derive(Clone, Copy)]
 pub enum Number {
     Not,
     Is(u32),

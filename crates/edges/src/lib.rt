@@ -1,1 +1,2 @@
 // Values at the edges of document 01's rules: definitions in specs/, theorems in proofs/. It has no code of its own.
+#![tactic(auto)]

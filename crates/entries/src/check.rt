@@ -2,7 +2,7 @@
 use blocks::numbers::Physical;
 
 // What a check finds: nothing, or the block that holds the first entry at fault.
-#[derive(Drop)]
+#[derive(Clone, Copy)]
 pub enum Verdict {
     Passed,
     Fault(Physical),

@@ -2,7 +2,7 @@
 use blocks::numbers::Physical;
 
 // What finding an entry gives.
-#[derive(Drop)]
+#[derive(Clone, Copy)]
 pub enum Found {
     // An entry on the way is not in place: the block that holds it.
     Misplaced(Physical),
@@ -12,7 +12,7 @@ pub enum Found {
 
 // What finding gives: the entry and, beside it, the descriptor of the region that contains the block, by its index in the chain. The index is 0 where the entry is nil
 // or not in place.
-#[derive(Drop)]
+#[derive(Clone, Copy)]
 pub struct Located {
     pub found: Found,
     pub owner: usize,

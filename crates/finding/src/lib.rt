@@ -1,2 +1,3 @@
 // Entry finding: the code that knows where table entries stand.
+#![tactic(auto)]
 pub mod find; // the entry of a logical block

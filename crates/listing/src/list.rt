@@ -97,7 +97,7 @@ pub fn list(card: &[u8], records: &mut [Record]) -> Answer
 }
 
 // What a listing into 64 records of one's own gives.
-#[derive(Drop)]
+#[derive(Clone, Copy)]
 pub struct List64 {
     pub answer: Answer,
     pub records: [Record; 64],

@@ -6,7 +6,7 @@ ghost use Rattle.pieces.specs.Span.{touched, piece_of};
 use blocks::sizes::BLOCK_SIZE;
 
 // The piece of a span in one block: its first byte in the block, where it stands among the span's bytes, and how many bytes it has.
-#[derive(Drop)]
+#[derive(Clone, Copy)]
 pub struct Piece {
     pub first: usize,
     pub stands: usize,

@@ -4,7 +4,7 @@ use calls::list::SHEET_RECORDS;
 
 // What a turn leaves: where the next line starts, how many bytes were printed, how many blocks are the card, the records,
 // and whether the sheet ends.
-#[derive(Drop)]
+#[derive(Clone, Copy)]
 pub struct Turn {
     pub next: usize,
     pub length: usize,

@@ -3,7 +3,7 @@ use calls::answer::{Answer, Record};
 use calls::list::SHEET_RECORDS;
 
 // What a line adds to its printed answer: nothing, a read's byte, or the first records of a listing.
-#[derive(Drop)]
+#[derive(Clone, Copy)]
 pub enum Addition {
     Nothing,
     Byte(u8),
@@ -11,7 +11,7 @@ pub enum Addition {
 }
 
 // What a line leaves: its answer, how many blocks are the card, what is added to it, the records, and whether the sheet ends.
-#[derive(Drop)]
+#[derive(Clone, Copy)]
 pub struct Ran {
     pub answer: Answer,
     pub blocks: u32,

@@ -1,4 +1,5 @@
 // The sheet program: it reads a work sheet on standard input and prints what each line answers.
+#![tactic(auto)]
 use answers::print;
 use cutter::line::SHEET_BLOCKS;
 use turns::next;
