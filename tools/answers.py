@@ -95,6 +95,60 @@ def convert(folder, key):
     own = clauses_of(fn)
     inv, ans, other = [], [], []
     used = set()
+    # lemmas of the file about a state of the old Tie become names within the answers that use them
+    local = {}
+    for b in blocks:
+        q = re.match(r"^([\w'-]+) : \(([\w']+) : tie\.[^)]*\) ?(.*)$", b[0])
+        if not q:
+            continue
+        name, x, rest = q.group(1), q.group(2), q.group(3)
+        sig, body, opens = [rest], [], []
+        for l in b[1:]:
+            if body:
+                body.append(l)
+            elif l.startswith('unfolding'):
+                opens.append(l)
+            elif l.startswith(name + ' '):
+                body.append(l)
+            else:
+                sig.append(l)
+        d = re.match(r"(?s)^%s %s((?: [\w'₀-₉_]+)*) =\s*(.*)$" % (re.escape(name), re.escape(x)), '\n'.join(body))
+        if not d or sum(l.startswith(name + ' ') for l in body) != 1:
+            print('look:', p, 'a lemma about a state:', name)
+            continue
+        kind = ' '.join(l.strip() for l in sig).strip()
+        kind = kind[1:].strip() if kind.startswith('→') else kind
+        at = lambda t: re.sub(r"(?<![\w.'-])%s(?![\w'-])" % re.escape(x), 'c', t)
+        args = d.group(1).split()
+        value = ('λ %s. ' % ' '.join(args) if args else '') + ' '.join(l.strip() for l in at(d.group(2)).split('\n'))
+        local[name] = ('let %s : %s = %s in' % (name, at(kind), value), opens)
+        b.clear()
+    blocks = [b for b in blocks if b]
+    order = list(local)
+    for i, b in enumerate(blocks):
+        if not re.match(r"^[^\s:]+ : tie\.Need", b[0]):
+            continue
+        text = '\n'.join(b[1:])
+        need = []
+        for name in reversed(order):
+            word = re.compile(r"(?<![\w.'-])%s(?![\w'-])" % re.escape(name))
+            if word.search(text) or any(word.search(local[n][0].split(' = ', 1)[1]) for n in need):
+                need.append(name)
+        if not need:
+            continue
+        for name in reversed(need):
+            pass
+        lets = ' '.join(local[n][0] for n in reversed(need))
+        opens = [o for n in reversed(need) for o in local[n][1]]
+        eq = text.index(' =')
+        text = text[:eq + 2] + ' ' + lets + text[eq + 2:]
+        text = inline(text)
+        text = re.sub(r"\.before(?![\w'-])", '', text)
+        text = inline(text)
+        for name in need:
+            text = re.sub(r"\((?<![\w.'-])%s c\)" % re.escape(name), name, text)
+            text = re.sub(r"(?<![\w.'-])%s c(?![\w'.-])" % re.escape(name), name, text)
+        blocks[i] = [b[0]] + opens + text.split('\n')
     for b in blocks:
         m = re.match(r"^(abbrev )?(pub )?([^\s:]+) : tie\.(Need|invariant|decreases)-(\S+)", b[0])
         if m and m.group(4) == 'Need':
@@ -177,6 +231,11 @@ def convert(folder, key):
                     got.append(n)
             if got:
                 out.append('use %s.{%s}' % (q.group(1), ', '.join(got)))
+        if 'ap not c.' in text:
+            have = ' '.join(out)
+            for n, home in (('ap', 'mathlib.Core.Path'), ('not', 'mathlib.Core.Bool')):
+                if not re.search(r"[{ ]%s[,}]" % n, have):
+                    out.append('use %s.{%s}' % (home, n))
         out.append('use Rattle.%s.proofs.%s.%s as goal' % (crate, fn, module))
         return out
 
@@ -219,6 +278,9 @@ def path(line, steps, clauses, kept):
     def one(m):
         k = norm(m.group(1))
         new = steps.get(k)
+        if new is None and k.endswith('_lem'):
+            k = k[:-4]
+            new = steps.get(k)
         if new is None:
             return m.group(0)
         tail = m.group(2) or ''
@@ -244,7 +306,9 @@ def path(line, steps, clauses, kept):
         return '.' + new + tail
     line = re.sub(r"\.([a-z_][\w'-]*)((?:\.[a-z_0-9]+)*)", one, line)
     # the test of `if !x` is x's now
-    return re.sub(r"not-(true|false) _ (c\.if-not-[\w-]+\.\1)(?![\w.-])", r"\2", line)
+    line = re.sub(r"not-(true|false) _ (c\.if-not-[\w-]+\.\1)(?![\w.-])", r"@\2", line)
+    line = re.sub(r"(?<!@)(c\.if-not-[\w-]+\.(?:true|false))(?![\w.-])", r"(ap not \1)", line)
+    return line.replace('@c.if-not', 'c.if-not')
 
 
 def record_of(out, new, own):
