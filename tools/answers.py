@@ -98,6 +98,13 @@ def convert(folder, key):
     # lemmas of the file about a state of the old Tie become names within the answers that use them
     local = {}
     for b in blocks:
+        said = []
+        while b and b[0].startswith('--'):
+            said.append(b.pop(0))
+        if not b or not re.match(r"^([\w'-]+) : \(([\w']+) : tie\.[^)]*\) ?(.*)$", b[0]):
+            b[:0] = said
+        if not b:
+            continue
         q = re.match(r"^([\w'-]+) : \(([\w']+) : tie\.[^)]*\) ?(.*)$", b[0])
         if not q:
             continue
@@ -320,8 +327,17 @@ def record_of(out, new, own):
     body = m.group(3).strip()
     start = opening(body)
     if start is None:
-        return out
+        if re.match(r"^(search|omega|grind|cc|simp|rw|refl|subst|λ|absurd|record)\b", body):
+            return out
+        if body.startswith('let '):
+            cut = body.rindex(' in ') + 4 if ' in ' in body else 0
+            if re.match(r"^\s*(search|omega|grind|cc|simp|rw|refl|subst|λ|absurd|record)\b", body[cut:]):
+                return out
+        ways = ['given' + '.1' * i + '.0' for i in range(len(own) - 1)] + ['given' + '.1' * (len(own) - 1)]
+        s = m.group(1) + m.group(2) + ' =\n    let given = ' + body + ' in\n    record { ' + '; '.join('%s = %s' % (a, b) for a, b in zip(own, ways)) + ' }'
+        return [out[0]] + s.split('\n')
     parts = top_parts(body[start:])
+    parts = flat(parts, len(own))
     if not parts or len(parts) != len(own):
         return out
     s = m.group(1) + m.group(2) + ' = ' + body[:start] + 'record { ' + '; '.join('%s = %s' % (a, b.strip()) for a, b in zip(own, parts)) + ' }'
@@ -342,6 +358,16 @@ def opening(body):
                 before = body[:i].rstrip()
                 return i if before == '' or before.endswith(' in') or before.endswith('\nin') else None
     return None
+
+
+def flat(parts, n):
+    """A tuple whose last part is a tuple, as one of n parts."""
+    while parts and len(parts) < n and parts[-1].strip().startswith('(') and opening(parts[-1].strip()) == 0:
+        last = top_parts(parts[-1].strip())
+        if not last or len(last) < 2:
+            break
+        parts = parts[:-1] + last
+    return parts
 
 
 def top_parts(body):

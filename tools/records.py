@@ -25,6 +25,7 @@ for m in re.finditer(r"(?m)^(\S+Answers\.antt):(\d+):(\d+): error: `([^`]+)`: a 
     body = q.group(1).rstrip()
     start = space['opening'](body)
     parts = space['top_parts'](body[start:]) if start is not None else None
+    parts = space['flat'](parts, len(own))
     if not parts:
         print('left:', f, name, body[:100])
         continue

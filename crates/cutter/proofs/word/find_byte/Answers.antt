@@ -11,7 +11,7 @@ pub bounds-text-i : goal.bounds-text-i
 bounds-text-i c = omega arith
 
 pub returns-then-text-i : goal.returns-then-text-i
-returns-then-text-i c = (sym (c.loop-i.invariant.2 ∙ found_stop _ _ _ (omega arith) c.if-text-i.true), (omega arith, omega arith))
+returns-then-text-i c = record { value = sym (c.loop-i.invariant.2 ∙ found_stop _ _ _ (omega arith) c.if-text-i.true); lower_bound = omega arith; upper_bound = omega arith }
 
 pub overflow_add-i : goal.overflow_add-i
 overflow_add-i c = omega arith
@@ -23,4 +23,4 @@ pub loop-i-preserved : goal.loop-i-preserved
 loop-i-preserved c = (omega arith, omega arith, c.loop-i.invariant.2 ∙ found_more _ _ _ (omega arith) c.if-text-i.false)
 
 pub returns : goal.returns
-returns c = (sym (c.loop-i.invariant.2 ∙ found_end _ _ _ (omega arith)), (omega arith, omega arith))
+returns c = record { value = sym (c.loop-i.invariant.2 ∙ found_end _ _ _ (omega arith)); lower_bound = omega arith; upper_bound = omega arith }
