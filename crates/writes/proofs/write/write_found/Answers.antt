@@ -1,0 +1,11 @@
+-- `write_found` meets its contract, by the test for room.
+use native.Mathlib.Omega.{arith}
+use Rattle.calls.proofs.WriteLaws.{put_11, put_0}
+use Rattle.writes.proofs.write.write_found.Goals as goal
+
+pub returns-then-card-beta : goal.returns-then-card-beta
+returns-then-card-beta c = put_11 _ _ _ _ _ _ c.requires.1 (omega (arith, c.if-card-beta.true))
+
+pub returns : goal.returns
+returns c =
+    put_0 _ _ _ _ _ _ c.requires.1 (omega (arith, c.if-card-beta.false)) _ c.put_block.ensures
