@@ -1,4 +1,4 @@
--- Names: sixteen bytes, 1 to 16 of `a_z`, `0-9`, `.`, `-`, then zero bytes; how a text becomes such sixteen bytes; and, for the code alone, two tests and a hash.
+-- Names: sixteen bytes, 1 to 16 of `a-z`, `0-9`, `.`, `-`, then zero bytes; how a text becomes such sixteen bytes; and, for the code alone, two tests and a hash.
 use Rattle.std.specs.Prelude.{Bool, true, not, ◌&&◌, ◌||◌, List, [], ◌∷◌, ◌++◌, ℕ, suc, ◌+◌, ◌-◌, ◌*◌, ◌/◌, ◌%◌, length, drop, replicate, eqb, ltb, leb}
 use Rattle.blocks.specs.Pick.{pick, all_zero}
 use Rattle.blocks.specs.Bytes.{u32_at}

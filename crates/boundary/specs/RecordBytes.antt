@@ -49,7 +49,7 @@ pub record ListedBytes : Type 0 where
   pub bytes : List ℕ
 
 -- where it is accepted, the records of the chain's descriptors in chain order, then the bytes that were there; else the bytes as they were.
--- It does not go through the records that `step` leaves: bytes read as records give the same bytes again only where each is below 256, and there the law `Listing-step` joins the two
+-- It does not go through the records that `step` leaves: bytes read as records give the same bytes again only where each is below 256, and there the law `listing_step` joins the two
 unfoldable pub listing_of : List ℕ → List ℕ → ListedBytes
 listing_of c bytes =
     let ds = descriptors_of c in

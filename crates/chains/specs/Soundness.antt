@@ -9,11 +9,11 @@ use Rattle.chains.specs.Chain.{sound}
 abbrev pub number_at : List ℕ → ℕ → ℕ → ℕ
 number_at c p k = get_or c (512 * p + k) 0 + 256 * (get_or c (512 * p + k + 1) 0 + 256 * (get_or c (512 * p + k + 2) 0 + 256 * get_or c (512 * p + k + 3) 0))
 
--- "`a_z`, `0-9`, `.`, `-`"
+-- "`a-z`, `0-9`, `.`, `-`"
 abbrev pub NameByte : ℕ → Type 0
 NameByte b = ((97 ≤ b) × (b ≤ 122)) ⊎ (((48 ≤ b) × (b ≤ 57)) ⊎ ((b ≡ 46) ⊎ (b ≡ 45)))
 
--- "a name is sixteen bytes, 1 to 16 of `a_z`, `0-9`, `.`, `-`, then zero bytes"
+-- "a name is sixteen bytes, 1 to 16 of `a-z`, `0-9`, `.`, `-`, then zero bytes"
 pub record NameRules (bytes : List ℕ) : Type 0 where
   pub sixteen : length bytes ≡ 16
   pub size : ℕ

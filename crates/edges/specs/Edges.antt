@@ -46,7 +46,7 @@ refused_edges =
 
 unfoldable pub name_edges : List Value
 name_edges =
-    -- a byte just outside `-`, `.`, `0-9`, `a_z`
+    -- a byte just outside `-`, `.`, `0-9`, `a-z`
     only (one 1 0) (Snap (one_byte 44)) 4 0
     ∷ only (one 1 0) (Snap (one_byte 47)) 4 0
     ∷ only (one 1 0) (Snap (one_byte 58)) 4 0
@@ -341,7 +341,7 @@ unfoldable pub allowed : (ℕ → Bool) → ℕ → List ℕ
 allowed test zero = []
 allowed test (suc n) = allowed test n ++ pick (test n) (n ∷ []) []
 
--- `-`, `.`, `0-9`, `a_z`
+-- `-`, `.`, `0-9`, `a-z`
 abbrev pub allowed_bytes : List ℕ
 allowed_bytes =
     45 ∷ 46
