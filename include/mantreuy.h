@@ -83,9 +83,10 @@
  *     change a buffer while a call uses it, nor read one that the call may
  *     change.
  *   - A check and a span write use at most 72 KB of stack, any other call at
- *     most 5 KB. Measured on x86-64, on cards of 4,096 blocks, a check and a
- *     span write on 2,048 too, in accepted and some refused calls: 67,072
- *     bytes in a check, 67,984 in a span write, 1,624 in any other call.
+ *     most 5 KB. Measured on x86-64, of the library as an older kit of Rattle
+ *     compiled it, on cards of 4,096 blocks, a check and a span write on 2,048
+ *     too, in accepted and some refused calls: 67,072 bytes in a check, 67,984
+ *     in a span write, 1,624 in any other call.
  *
  * SIZES
  *
@@ -301,8 +302,9 @@ uint32_t mantreuy_write(uint8_t *card, size_t card_length, uint32_t block,
  * that was not written to since the newest snapshot, one for the next.
  * Before its first store it makes the whole check of mantreuy_check, which visits
  * every entry of every descriptor. Its time therefore grows with L and with the
- * number of snapshots: measured on x86-64, the check takes 0.2 us at L 128
- * without a snapshot, 9 to 15 us at L 14,336, and 2 to 5 ms there with 255.
+ * number of snapshots: measured on x86-64, of the library as an older kit of
+ * Rattle compiled it, the check takes 0.2 us at L 128 without a snapshot, 9 to
+ * 15 us at L 14,336, and 2 to 5 ms there with 255.
  * mantreuy_write makes no check. Where the check takes too long, as it may on the
  * old board of a home machine, a caller can read each block that the span touches,
  * change the bytes and write the block. Where all these writes are accepted the
