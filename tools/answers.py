@@ -271,15 +271,27 @@ def subst(line, sub):
 
 
 def inline(text):
-    """Without names for paths from c, so that each fact is cited by its own path."""
+    """Without names for paths from c, so that each fact is cited by its own path: the last first, each as far as its parentheses go."""
     while True:
-        m = re.search(r"let ([\w'₀-₉]+) = (c(?:\.[\w'-]+)*) in[ \n]+(?=\S)", text)
-        if not m:
+        found = list(re.finditer(r"let ([\w'₀-₉]+) = (c(?:\.[\w'-]+)*) in[ \n]+(?=\S)", text))
+        if not found:
             return text
-        text = text[:m.start()] + re.sub(r"(?<![\w.'₀-₉-])%s(?![\w'₀-₉-])" % re.escape(m.group(1)), lambda _: m.group(2), text[m.end():])
+        m = found[-1]
+        end, depth = m.end(), 0
+        while end < len(text):
+            if text[end] in '([{':
+                depth += 1
+            elif text[end] in ')]}':
+                depth -= 1
+                if depth < 0:
+                    break
+            end += 1
+        rest = re.sub(r"(?<![\w.'₀-₉])%s(?![\w'₀-₉-])" % re.escape(m.group(1)), lambda _: m.group(2), text[m.end():end])
+        text = text[:m.start()] + rest + text[end:]
 
 
 def path(line, steps, clauses, kept):
+    calls = {steps[k] for k in kept} | {re.sub(r'-(then|else|in)-.*$', '', steps[k]) for k in kept}
     line = re.sub(r"\.before(?![\w'-])", '', line)
 
     def one(m):
@@ -313,8 +325,10 @@ def path(line, steps, clauses, kept):
         return '.' + new + tail
     line = re.sub(r"\.([a-z_][\w'-]*)((?:\.[a-z_0-9]+)*)", one, line)
     # the test of `if !x` is x's now
-    line = re.sub(r"not-(true|false) _ (c\.if-not-[\w-]+\.\1)(?![\w.-])", r"@\2", line)
-    line = re.sub(r"(?<!@)(c\.if-not-[\w-]+\.(?:true|false))(?![\w.-])", r"(ap not \1)", line)
+    # (where x is a call), and elsewhere it stays
+    called = lambda w: re.sub(r'^if-not-', '', w.split('.')[1]) in calls
+    line = re.sub(r"not-(true|false) _ (c\.if-not-[\w-]+\.\1)(?![\w.-])", lambda m: '@' + m.group(2) if called(m.group(2)) else m.group(0), line)
+    line = re.sub(r"(?<!@)(c\.if-not-[\w-]+\.(?:true|false))(?![\w.-])", lambda m: '(ap not %s)' % m.group(1) if called(m.group(1)) else m.group(1), line)
     return line.replace('@c.if-not', 'c.if-not')
 
 

@@ -1,7 +1,7 @@
 // The check of a card.
 ghost use Rattle.std.specs.Prelude.{◌≡◌, false, ℕ, ◌*◌, ◌≤◌, length, get_or};
 ghost use Rattle.blocks.specs.Descriptor.{cost_of};
-ghost use Rattle.chains.specs.Chain.{chain as chainOf, descriptors, active_of};
+ghost use Rattle.chains.specs.Chain.{chain as chain_of, descriptors, active_of};
 ghost use Rattle.chains.specs.Walk.{Enough, places_left};
 ghost use Rattle.entries.specs.Marks.{openings_flagged};
 ghost use Rattle.calls.specs.Call.{Check, None};
@@ -30,7 +30,7 @@ const MEDIUM_BLOCKS: usize = 16384;
 fn check_chain(card: &[u8], starts: &[u32], count: usize, seen: &mut [u8]) -> Verdict
     requires { SoundCard card.now count starts.now × ((v : ℕ) → get_or seen.old v 0 ≡ 0) × (length card.now ≤ block_size * length seen.old) }
     ensures value { result ≡ check_card card.now }
-    ensures seen_after { record { verdict = result; flags = seen.new } ≡ taking_chain card.now starts.now (cost_of (active_of (descriptors (chainOf card.now)))) count 0 (openings_flagged seen.old starts.now (cost_of (active_of (descriptors (chainOf card.now)))) count) (descriptors (chainOf card.now)) }
+    ensures seen_after { record { verdict = result; flags = seen.new } ≡ taking_chain card.now starts.now (cost_of (active_of (descriptors (chain_of card.now)))) count 0 (openings_flagged seen.old starts.now (cost_of (active_of (descriptors (chain_of card.now)))) count) (descriptors (chain_of card.now)) }
 {
     let last = starts[count - 1];
     let active = descriptor::read_descriptor(card, Physical(last));

@@ -1,7 +1,7 @@
 // The name of the region that contains the block of a logical number, through a descriptor of the chain.
 ghost use Rattle.std.specs.Prelude.{◌≡◌, ◌<◌};
 ghost use Rattle.blocks.specs.Name.{no_name};
-ghost use Rattle.chains.specs.Chain.{chain as chainOf, descriptors};
+ghost use Rattle.chains.specs.Chain.{chain as chain_of, descriptors};
 ghost use Rattle.entries.specs.Through.{Through};
 ghost use Rattle.entries.specs.Entry.{locate as locating};
 ghost use Rattle.calls.specs.Effect.{visited};
@@ -29,7 +29,7 @@ pub fn without_name(a: Answer) -> Visited
 // not in place.
 pub fn name_owner(card: &[u8], starts: &[u32], count: usize, d: Descriptor, l: Logical) -> Visited
     requires { Through card.now starts.now count d × (l.0 < d.volume) }
-    ensures { result ≡ visited (descriptors (chainOf card.now)) (locating card.now (descriptors (chainOf card.now)) d l.0) }
+    ensures { result ≡ visited (descriptors (chain_of card.now)) (locating card.now (descriptors (chain_of card.now)) d l.0) }
 {
     let at = find::locate(card, starts, count, d, l);
     let owner = at.owner;

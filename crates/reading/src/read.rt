@@ -3,7 +3,7 @@ ghost use Rattle.std.specs.Prelude.{◌≡◌, false, not, ◌&&◌, List, ℕ, 
 ghost use Rattle.blocks.specs.Pick.{pick};
 ghost use Rattle.blocks.specs.Bytes.{zero_block, block_at, block_size};
 ghost use Rattle.blocks.specs.Name.{is_name};
-ghost use Rattle.chains.specs.Chain.{chain as chainOf, descriptors, descriptors_at};
+ghost use Rattle.chains.specs.Chain.{chain as chain_of, descriptors, descriptors_at};
 ghost use Rattle.entries.specs.Through.{Through};
 ghost use Rattle.entries.specs.Entry.{find as finding};
 ghost use Rattle.calls.specs.Call.{Read, Block};
@@ -47,7 +47,7 @@ fn deliver(
     out: &mut [u8],
 ) -> Answer
     requires { Through card.now starts.now count d × (l.0 < d.volume) × (length out.old ≡ block_size) }
-    ensures { record { answer = result; block = out.new } ≡ delivered card.now (finding card.now (descriptors (chainOf card.now)) d l.0) out.old }
+    ensures { record { answer = result; block = out.new } ≡ delivered card.now (finding card.now (descriptors (chain_of card.now)) d l.0) out.old }
 {
     let at = find::locate(&*card, &*starts, count, d, l);
     let found = at.found;

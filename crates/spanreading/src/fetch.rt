@@ -3,7 +3,7 @@ ghost use Rattle.std.specs.Prelude.{◌≡◌, false, List, ℕ, ◌+◌, ◌*�
 ghost use Rattle.blocks.specs.Pick.{pick};
 ghost use Rattle.blocks.specs.Bytes.{zero_block, block_at, block_size, part, splice};
 ghost use Rattle.blocks.specs.Descriptor.{physical};
-ghost use Rattle.chains.specs.Chain.{chain as chainOf, descriptors};
+ghost use Rattle.chains.specs.Chain.{chain as chain_of, descriptors};
 ghost use Rattle.entries.specs.Through.{Through};
 ghost use Rattle.entries.specs.Entry.{found_block, find as finding};
 ghost use Rattle.calls.specs.Parts.{is_misplaced, block_found};
@@ -71,8 +71,8 @@ fn block_of(found: Found) -> Physical
 
 // The piece of the span in logical block `l`, put where it stands among the caller's bytes.
 fn fetch_piece(card: &[u8], d: Descriptor, l: usize, offset: usize, out: &mut [u8])
-    requires { ((starts : List ℕ) × (count : ℕ) × Through card.now starts count d) × (l < d.volume) × (is_misplaced (finding card.now (descriptors (chainOf card.now)) d l) ≡ false) × (block_size * l < offset + length out.old) × (offset < block_size * l + block_size) × (offset + length out.old < 2 ^ 64) }
-    ensures { out.new ≡ splice out.old (piece_of offset (length out.old) l).stands (piece_in (block_found card.now (finding card.now (descriptors (chainOf card.now)) d l)) offset (length out.old) l) }
+    requires { ((starts : List ℕ) × (count : ℕ) × Through card.now starts count d) × (l < d.volume) × (is_misplaced (finding card.now (descriptors (chain_of card.now)) d l) ≡ false) × (block_size * l < offset + length out.old) × (offset < block_size * l + block_size) × (offset + length out.old < 2 ^ 64) }
+    ensures { out.new ≡ splice out.old (piece_of offset (length out.old) l).stands (piece_in (block_found card.now (finding card.now (descriptors (chain_of card.now)) d l)) offset (length out.old) l) }
 {
     let number = l as u32;
     let found = find::entry_of(card, d, Logical(number));

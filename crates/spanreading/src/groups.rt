@@ -2,7 +2,7 @@
 ghost use Rattle.std.specs.Prelude.{◌≡◌, ◌+◌, ◌*◌, ◌-◌, ◌%◌, ◌≤◌, ◌<◌, min, length};
 ghost use Rattle.blocks.specs.Bytes.{block_size};
 ghost use Rattle.blocks.specs.Descriptor.{table_size};
-ghost use Rattle.chains.specs.Chain.{chain as chainOf, descriptors};
+ghost use Rattle.chains.specs.Chain.{chain as chain_of, descriptors};
 ghost use Rattle.entries.specs.Through.{Through};
 ghost use Rattle.entries.specs.Entry.{find as finding};
 ghost use Rattle.calls.specs.Spans.{misplaced_from};
@@ -70,7 +70,7 @@ fn rest_of_group(
     l: u32,
     k: u32,
 ) -> Verdict
-    requires { Through card.now starts.now count d × (0 < k) × (l % table_size + k ≤ table_size) × (l + k ≤ d.volume) × ((p : Physical) × (finding card.now (descriptors (chainOf card.now)) d l ≡ Found.Entry m p)) }
+    requires { Through card.now starts.now count d × (0 < k) × (l % table_size + k ≤ table_size) × (l + k ≤ d.volume) × ((p : Physical) × (finding card.now (descriptors (chain_of card.now)) d l ≡ Found.Entry m p)) }
     ensures { result ≡ misplaced_from card.now d l k }
 {
     if m.0 == 0 {

@@ -61,7 +61,7 @@ read_descriptor-active-requires c = let past_chain : Reached (Revert c.args.name
     card_inside _ _ past.walked past.area past.sound _ (omega (arith, card_some _ _ past.walked past.area past.sound))
 
 pub revision_at-requires : goal.revision_at-requires
-revision_at-requires c = let past_chain : Reached (Revert c.args.name) c.args.card.now (drop 2 (revert_rows c.args.card.now c.args.name)) (record { sound = true; place = physical 0; active = active_of (descriptors (chain c.args.card.now)); count = c.args.count; starts = c.args.starts.now }) = revert_reached _ _ c.requires.1 _ _ c.requires.0 in let inside_at : c.index_of-k.result < c.args.count - 1 = omega (arith, c.index_of-k.ensures.upper_bound) in let visit_inside : let c.args = c.args in 512 * get_or c.args.starts.now c.index_of-k.result 0 + 512 ≤ length c.args.card.now = let past = past_chain in card_inside _ _ past.walked past.area past.sound _ (omega (arith, inside_at, card_some _ _ past.walked past.area past.sound)) in omega (arith, visit_inside)
+revision_at-requires c = let past_chain : Reached (Revert c.args.name) c.args.card.now (drop 2 (revert_rows c.args.card.now c.args.name)) (record { sound = true; place = physical 0; active = active_of (descriptors (chain c.args.card.now)); count = c.args.count; starts = c.args.starts.now }) = revert_reached _ _ c.requires.1 _ _ c.requires.0 in let inside_at : c.index_of-k.result < c.args.count - 1 = omega (arith, c.index_of-k.ensures.upper_bound) in let visit_inside : 512 * get_or c.args.starts.now c.index_of-k.result 0 + 512 ≤ length c.args.card.now = let past = past_chain in card_inside _ _ past.walked past.area past.sound _ (omega (arith, inside_at, card_some _ _ past.walked past.area past.sound)) in omega (arith, visit_inside)
 
 pub open_active-requires : goal.open_active-requires
 open_active-requires c = let past_chain : Reached (Revert c.args.name) c.args.card.now (drop 2 (revert_rows c.args.card.now c.args.name)) (record { sound = true; place = physical 0; active = active_of (descriptors (chain c.args.card.now)); count = c.args.count; starts = c.args.starts.now }) = revert_reached _ _ c.requires.1 _ _ c.requires.0 in let inside_at : c.index_of-k.result < c.args.count - 1 = omega (arith, c.index_of-k.ensures.upper_bound) in
@@ -69,18 +69,18 @@ open_active-requires c = let past_chain : Reached (Revert c.args.name) c.args.ca
 
 pub returns-then-revision_at-eq1 : goal.returns-then-revision_at-eq1
 unfolding filled_of given_of
-returns-then-revision_at-eq1 c = let past_chain : Reached (Revert c.args.name) c.args.card.now (drop 2 (revert_rows c.args.card.now c.args.name)) (record { sound = true; place = physical 0; active = active_of (descriptors (chain c.args.card.now)); count = c.args.count; starts = c.args.starts.now }) = revert_reached _ _ c.requires.1 _ _ c.requires.0 in let active_named : (d : Descriptor) → let c.args = c.args in d ≡ descriptor_at c.args.card.now (get_or c.args.starts.now (c.args.count - 1) 0) → d.name ≡ (active_of (descriptors (chain c.args.card.now))).name = λ d e. let past = past_chain in ap (λ (x : Descriptor). x.name) (e ∙ sym (card_active _ _ past.walked past.area past.sound)) in let inside_at : c.index_of-k.result < c.args.count - 1 = omega (arith, c.index_of-k.ensures.upper_bound) in
+returns-then-revision_at-eq1 c = let past_chain : Reached (Revert c.args.name) c.args.card.now (drop 2 (revert_rows c.args.card.now c.args.name)) (record { sound = true; place = physical 0; active = active_of (descriptors (chain c.args.card.now)); count = c.args.count; starts = c.args.starts.now }) = revert_reached _ _ c.requires.1 _ _ c.requires.0 in let active_named : (d : Descriptor) → d ≡ descriptor_at c.args.card.now (get_or c.args.starts.now (c.args.count - 1) 0) → d.name ≡ (active_of (descriptors (chain c.args.card.now))).name = λ d e. let past = past_chain in ap (λ (x : Descriptor). x.name) (e ∙ sym (card_active _ _ past.walked past.area past.sound)) in let inside_at : c.index_of-k.result < c.args.count - 1 = omega (arith, c.index_of-k.ensures.upper_bound) in
     let past = past_chain in
     step_accepted _ _ (revert_0 _ _ _ past _ c.index_of-k.ensures.value inside_at) _ refl _
     (reopened _ _ _ past _ c.index_of-k.ensures.value inside_at _ c.read_descriptor-d.ensures _ (active_named _ c.read_descriptor-active.ensures) _ c.revision_at.ensures c.if-revision_at-eq1.true _ c.open_active.ensures)
     refl
 
 pub make_active-requires : goal.make_active-requires
-make_active-requires c = let past_chain : Reached (Revert c.args.name) c.args.card.now (drop 2 (revert_rows c.args.card.now c.args.name)) (record { sound = true; place = physical 0; active = active_of (descriptors (chain c.args.card.now)); count = c.args.count; starts = c.args.starts.now }) = revert_reached _ _ c.requires.1 _ _ c.requires.0 in let inside_at : c.index_of-k.result < c.args.count - 1 = omega (arith, c.index_of-k.ensures.upper_bound) in let visit_inside : let c.args = c.args in 512 * get_or c.args.starts.now c.index_of-k.result 0 + 512 ≤ length c.args.card.now = let past = past_chain in card_inside _ _ past.walked past.area past.sound _ (omega (arith, inside_at, card_some _ _ past.walked past.area past.sound)) in visit_inside
+make_active-requires c = let past_chain : Reached (Revert c.args.name) c.args.card.now (drop 2 (revert_rows c.args.card.now c.args.name)) (record { sound = true; place = physical 0; active = active_of (descriptors (chain c.args.card.now)); count = c.args.count; starts = c.args.starts.now }) = revert_reached _ _ c.requires.1 _ _ c.requires.0 in let inside_at : c.index_of-k.result < c.args.count - 1 = omega (arith, c.index_of-k.ensures.upper_bound) in let visit_inside : 512 * get_or c.args.starts.now c.index_of-k.result 0 + 512 ≤ length c.args.card.now = let past = past_chain in card_inside _ _ past.walked past.area past.sound _ (omega (arith, inside_at, card_some _ _ past.walked past.area past.sound)) in visit_inside
 
 pub returns : goal.returns
 unfolding filled_of given_of
-returns c = let past_chain : Reached (Revert c.args.name) c.args.card.now (drop 2 (revert_rows c.args.card.now c.args.name)) (record { sound = true; place = physical 0; active = active_of (descriptors (chain c.args.card.now)); count = c.args.count; starts = c.args.starts.now }) = revert_reached _ _ c.requires.1 _ _ c.requires.0 in let active_named : (d : Descriptor) → let c.args = c.args in d ≡ descriptor_at c.args.card.now (get_or c.args.starts.now (c.args.count - 1) 0) → d.name ≡ (active_of (descriptors (chain c.args.card.now))).name = λ d e. let past = past_chain in ap (λ (x : Descriptor). x.name) (e ∙ sym (card_active _ _ past.walked past.area past.sound)) in let inside_at : c.index_of-k.result < c.args.count - 1 = omega (arith, c.index_of-k.ensures.upper_bound) in
+returns c = let past_chain : Reached (Revert c.args.name) c.args.card.now (drop 2 (revert_rows c.args.card.now c.args.name)) (record { sound = true; place = physical 0; active = active_of (descriptors (chain c.args.card.now)); count = c.args.count; starts = c.args.starts.now }) = revert_reached _ _ c.requires.1 _ _ c.requires.0 in let active_named : (d : Descriptor) → d ≡ descriptor_at c.args.card.now (get_or c.args.starts.now (c.args.count - 1) 0) → d.name ≡ (active_of (descriptors (chain c.args.card.now))).name = λ d e. let past = past_chain in ap (λ (x : Descriptor). x.name) (e ∙ sym (card_active _ _ past.walked past.area past.sound)) in let inside_at : c.index_of-k.result < c.args.count - 1 = omega (arith, c.index_of-k.ensures.upper_bound) in
     let past = past_chain in
     step_accepted _ _ (revert_0 _ _ _ past _ c.index_of-k.ensures.value inside_at) _ refl _
     (reverted _ _ _ past _ c.index_of-k.ensures.value inside_at _ c.read_descriptor-d.ensures _ (active_named _ c.read_descriptor-active.ensures) _ c.revision_at.ensures c.if-revision_at-eq1.false _ c.make_active.ensures)
