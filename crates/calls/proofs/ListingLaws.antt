@@ -22,7 +22,7 @@ use Rattle.calls.specs.declared.answer.Answer.{Answer}
 use Rattle.calls.specs.declared.answer.Record.{Record}
 use Rattle.calls.specs.declared.list.Filling.{Filling}
 use Rattle.calls.specs.declared.list.Plan.{Plan}
-use Rattle.calls.specs.Call.{Listing, Records, answer}
+use Rattle.calls.specs.Call.{Listing, Records}
 use Rattle.calls.specs.Parts.{descriptors_of}
 use Rattle.calls.specs.Ladder.{admission, first_row, list_rows}
 use Rattle.calls.specs.Effect.{record_of, listed}

@@ -1,9 +1,9 @@
 -- What the code of a call gives or does once its tests are passed: the records of a listing; what a read and a visit give once the entry is found; where a write goes and what it does there; where a snapshot is taken.
-use Rattle.std.specs.Prelude.{List, [], ◌∷◌, ℕ, suc, ◌+◌, get_or, eqb, ltb}
+use Rattle.std.specs.Prelude.{List, [], ◌∷◌, ℕ, ◌+◌, get_or, eqb, ltb}
 use Rattle.blocks.specs.Pick.{pick}
-use Rattle.blocks.specs.Bytes.{Store, store, block_count, store_all}
+use Rattle.blocks.specs.Bytes.{block_count, store_all}
 use Rattle.blocks.specs.Name.{no_name}
-use Rattle.blocks.specs.Descriptor.{physical, no_descriptor, revision_of, tail_at, descriptor_block, renamed_of, linked_of, reopening}
+use Rattle.blocks.specs.Descriptor.{physical, no_descriptor}
 use Rattle.blocks.specs.declared.descriptor.Descriptor.{Descriptor}
 use Rattle.chains.specs.Chain.{active_of}
 use Rattle.entries.specs.Entry.{need, writing, found_block, locate}
@@ -17,7 +17,7 @@ use Rattle.calls.specs.declared.answer.Target.{Target}
 use Rattle.calls.specs.declared.answer.Visited.{Visited}
 use Rattle.calls.specs.Call.{Outcome, Given, NoneGiven, NameGiven, answer, accepted}
 use Rattle.calls.specs.Ladder.{first_row, aim_rows, site_rows}
-use Rattle.calls.specs.Parts.{descriptors_of, snapshots_of, with_name, target_of, found_through, is_misplaced, holder_of, block_found}
+use Rattle.calls.specs.Parts.{descriptors_of, target_of, found_through, is_misplaced, holder_of, block_found}
 
 -- a record of zeros
 abbrev pub no_record : Record

@@ -1,7 +1,7 @@
 -- A span piece by piece: which blocks it touches, and what one piece more adds to what was read and to what was written.
 use mathlib.Core.Path.{◌≡◌, refl, sym, ap, ◌∙◌}
 use mathlib.Core.Bool.{Bool, true, false}
-use mathlib.Core.List.{List, [], ◌++◌}
+use mathlib.Core.List.{List, ◌++◌}
 use Prim.Native.Nat.{ℕ, zero, suc, ◌+◌, ◌*◌, ◌-◌, ◌/◌, ◌≤◌, ◌<◌, min}
 use native.Mathlib.Omega.{arith}
 use native.Mathlib.Nat.{zero-add}
@@ -11,7 +11,7 @@ use lib.Dec.{ltb, leb}
 use borrow.Author.Tests.{leb-true, leb-false, ltb-true, ltb-false, lt-ltb, le-ltb}
 use Rattle.blocks.specs.Bytes.{splice, part}
 use Rattle.blocks.proofs.ByteLaws.{length_part, length_splice, splice_join}
-use Rattle.pieces.specs.Span.{touched, piece_of, piece_in, merged, span_block}
+use Rattle.pieces.specs.Span.{touched, merged, span_block}
 use Rattle.pieces.proofs.RunLaws.{splice_inside, parts_join}
 
 -- how many blocks a span touches

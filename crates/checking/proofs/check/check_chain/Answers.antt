@@ -60,7 +60,7 @@ pub returns-in-Fault : goal.returns-in-Fault
 returns-in-Fault c =
     let given = let active_is : (d : Descriptor) → d ≡ descriptor_at c.args.card.now (get_or c.args.starts.now (c.args.count - 1) 0) → d ≡ active_of (descriptors (chain c.args.card.now)) = λ d e. e ∙ sym (card_active _ _ (sym c.requires.0.regions) c.requires.0.area refl) in
     chain_told _ _ _ _ c.requires.0.area c.requires.0.regions _ (c.opening_cost-cost.ensures ∙ ap cost_of (active_is _ c.read_descriptor-active.ensures)) _ c.requires.2 c.requires.1 _ c.mark_openings.ensures _
-    (chain_stop _ _ _ _ c.requires.0.area c.requires.0.regions _ _ _ _ _ c.loop-k.invariant.2 (omega arith) _ _ c.next_turn-turn.ensures _ c.read_descriptor-d.ensures _ _ c.check_one-v.ensures _ c.v-1.given.1) in
+    (chain_stop _ _ _ _ c.requires.0.area c.requires.0.regions _ _ _ _ _ c.loop-k.invariant.2 (omega arith) _ _ c.next_turn-turn.ensures _ c.read_descriptor-d.ensures _ _ c.check_one-v.ensures _ c.in-Fault.is) in
     record { value = given.0; seen_after = given.1 }
 
 pub overflow_add-k : goal.overflow_add-k
@@ -74,7 +74,7 @@ pub loop-k-preserved : goal.loop-k-preserved
 loop-k-preserved c = (
   omega arith,
   c.check_one-v.auto.seen ∙ c.next_turn-turn.auto.seen ∙ c.loop-k.invariant.1,
-  chain_more _ _ _ _ c.requires.0.area c.requires.0.regions _ _ _ _ _ c.loop-k.invariant.2 (omega arith) _ _ c.next_turn-turn.ensures _ c.read_descriptor-d.ensures _ _ c.check_one-v.ensures c.enum_told-1.given.1,
+  chain_more _ _ _ _ c.requires.0.area c.requires.0.regions _ _ _ _ _ c.loop-k.invariant.2 (omega arith) _ _ c.next_turn-turn.ensures _ c.read_descriptor-d.ensures _ _ c.check_one-v.ensures (let h = c.in_default in ?),
 )
 
 pub shape_of-seen : goal.shape_of-seen

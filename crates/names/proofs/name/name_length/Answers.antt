@@ -1,7 +1,6 @@
 -- `name_length` meets its contract: i bytes have passed, all such as a name may have.
 use mathlib.Core.Path.{sym, ◌∙◌}
 use native.Mathlib.Omega.{arith}
-use borrow.Author.Tests.{not-true, not-false}
 use Rattle.blocks.proofs.ListLaws.{name_start_lem, name_more, name_stop, name_end}
 use Rattle.names.proofs.name.name_length.Goals as goal
 

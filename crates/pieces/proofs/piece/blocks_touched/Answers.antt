@@ -1,8 +1,6 @@
 -- `pieces::piece::blocks_touched` meets its contract.
 use native.Mathlib.Omega.{arith}
 use Rattle.pieces.proofs.SpanLaws.{touched_none, touched_some}
-use Rattle.pieces.proofs.piece.blocks_touched.Reads as reads
-use Rattle.pieces.proofs.piece.blocks_touched.Lts as lts
 use Rattle.pieces.proofs.piece.blocks_touched.Goals as goal
 
 pub returns-then-n-eq0 : goal.returns-then-n-eq0

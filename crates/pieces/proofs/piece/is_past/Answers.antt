@@ -1,7 +1,5 @@
 -- `pieces::piece::is_past` meets its contract.
 use Rattle.pieces.proofs.SpanLaws.{past_given, past_tested}
-use Rattle.pieces.proofs.piece.is_past.Reads as reads
-use Rattle.pieces.proofs.piece.is_past.Lts as lts
 use Rattle.pieces.proofs.piece.is_past.Goals as goal
 
 pub returns-then-end-offset : goal.returns-then-end-offset

@@ -1,5 +1,6 @@
 -- `open_active` meets its contract, by what its calls ensure.
 use mathlib.Core.Path.{◌≡◌, ap, ◌∙◌}
+use mathlib.Core.List.{[]}
 use native.Mathlib.Omega.{arith}
 use Rattle.blocks.specs.Bytes.{store_all}
 use Rattle.blocks.specs.Descriptor.{physical, linked_of, reopening}
