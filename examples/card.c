@@ -2,7 +2,7 @@
  * A card in memory: format, write, snapshot, write again, read both, with the visits that they date from, go back, read.
  * Ends with status 1 where an answer is not the expected one.
  *
- *     gcc -O2 -Iinclude examples/card.c target/staticlib/libmantreuy.a -o card
+ *     gcc -O2 -Iinclude examples/card.c crates/mantreuy/out/libmantreuy.a -o card
  */
 #include <stdio.h>
 #include <stdlib.h>

@@ -3,7 +3,7 @@
  * of them, the machine at home adds two, and two more that it tries are refused. The desk reads the records as of the visit, rolls
  * the card back to it and writes one anew. Ends with status 1 where a call is refused that must not be, or a record is not whole.
  *
- *     gcc -O2 -Iinclude examples/records.c target/staticlib/libmantreuy.a -o records
+ *     gcc -O2 -Iinclude examples/records.c crates/mantreuy/out/libmantreuy.a -o records
  */
 #include <stdio.h>
 #include <stdlib.h>

@@ -4,7 +4,7 @@
  * sessions. On Friday the desk rolls the card back to Tuesday's visit, tries another setting, and rolls back to the same visit again.
  * Ends with status 1 where an answer is not the expected one.
  *
- *     gcc -O2 -Iinclude examples/week.c target/staticlib/libmantreuy.a -o week
+ *     gcc -O2 -Iinclude examples/week.c crates/mantreuy/out/libmantreuy.a -o week
  */
 #include <stdio.h>
 #include <stdlib.h>

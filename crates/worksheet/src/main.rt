@@ -1,7 +1,11 @@
 // The sheet program: it reads a work sheet on standard input and prints what each line answers.
 #![tactic(auto)]
+
+ghost use Rattle.std.specs.Prelude.{◌≤◌, length};
+
 use answers::print;
 use cutter::line::SHEET_BLOCKS;
+use std::io::{Read, Write};
 use turns::next;
 
 // The most bytes of a sheet; one more is read, which tells a longer one.
@@ -14,13 +18,29 @@ const AREA_SIZE: usize = 32768;
 
 const OUT_SIZE: usize = 8192;
 
-fn main() {
+// Reads until `buf` is full, the input ends or a read fails, and returns how many bytes it put at the start of `buf`.
+fn read_full<R: Read>(from: &mut R, buf: &mut [u8]) -> usize
+    ensures { result ≤ length buf.new }
+{
+    let mut done = 0;
+    while done < buf.len() {
+        match from.read(&mut buf[done..]) {
+            Ok(0) => break,
+            Ok(n) => done += n,
+            Err(_) => break,
+        }
+    }
+    done
+}
+
+fn main(rt: HostRuntime) {
+    let mut stdout = rt.stdout();
     let mut input = [0u8; INPUT_SIZE];
     let mut out = [0u8; OUT_SIZE];
-    let got = io::read_full(0, &mut input);
+    let got = read_full(&mut rt.stdin(), &mut input);
     if MOST_SHEET < got {
         let n = print::print_too_long(&mut out);
-        io::write_all(1, &out[..n]);
+        let _ = stdout.write_all(&out[..n]);
         return;
     }
     let mut area = [0u8; AREA_SIZE];
@@ -39,7 +59,8 @@ fn main() {
             &mut out,
         );
         let n = turn.length;
-        if !io::write_all(1, &out[..n]) {
+        // nothing is kept back: what a line prints is written before the next line runs
+        if stdout.write_all(&out[..n]).is_err() {
             return;
         }
         if turn.ended {
