@@ -15,7 +15,6 @@ use Rattle.blocks.specs.Name.{is_name}
 use Rattle.blocks.specs.Descriptor.{cost_of, no_descriptor, descriptor_at, revision_of, tail_at, descriptor_block, reopened_of, reopening}
 use Rattle.chains.specs.Chain.{named, sound, Sound, chain, active_of, index_of}
 use Rattle.blocks.specs.declared.descriptor.Descriptor.{Descriptor}
-use Rattle.blocks.proofs.BoolLaws.{no}
 use Rattle.blocks.proofs.DescriptorLaws.{Fits, tail_length, fits_of}
 use Rattle.blocks.proofs.NameLaws.{name_size_lem}
 use Rattle.blocks.proofs.RegionLaws.{reopening_above, reopening_covers, reopening_kept, reopening_block}

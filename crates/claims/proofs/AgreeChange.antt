@@ -7,7 +7,7 @@ use Prim.Native.Nat.{ℕ, zero, suc, ◌+◌, ◌*◌, ◌≤◌, ◌<◌}
 use native.Mathlib.Omega.{arith}
 use lib.ListN.{length, take}
 use lib.Dec.{ltb}
-use borrow.Author.Tests.{ltb-true, ltb-false, le-ltb, lt-ltb}
+use borrow.Author.Tests.{ltb-true, ltb-false}
 use Rattle.blocks.specs.Bytes.{block_at, block_count, Store, store_all}
 use Rattle.blocks.specs.Descriptor.{revision_of, renamed_of, linked_of, extended_of, reopened_of}
 use Rattle.chains.specs.Chain.{Chain, Sound, chain, chain_sound, descriptors, index_of, active_of}
@@ -34,7 +34,7 @@ use Rattle.links.proofs.LinkedLaws.{active_append}
 use Rattle.pieces.specs.Span.{span_block, merged}
 use Rattle.calls.specs.declared.answer.Target.TheVariants.{Active}
 use Rattle.calls.proofs.ActiveLaws.{active_target}
-use Rattle.changes.proofs.SpanSteps.{SpanPassed, card_next, need_next, need_upto, span_at, span_write, passed_at, passed_write}
+use Rattle.changes.proofs.SpanSteps.{card_next, need_next, span_write}
 use Rattle.changes.proofs.WholeLaws.{write_whole, snap_whole, revert_whole}
 use Rattle.links.proofs.SharedLaws.{below_revision}
 use Rattle.changes.proofs.RevertedChain.{returned_of, reverted_chain, returned}

@@ -32,7 +32,7 @@ use Rattle.claims.proofs.Steps.{step_cases}
 use Rattle.calls.proofs.CardLaws.{active_split, snapshots_snoc, snapshots_are, active_is}
 use Rattle.links.proofs.MemberLaws.{member_from, member_fresh}
 use Rattle.changes.proofs.WholeLaws.{write_whole, snap_whole, revert_whole}
-use Rattle.calls.proofs.VisitLaws.{before, behind}
+use Rattle.calls.proofs.VisitLaws.{behind}
 use Rattle.changes.proofs.RevertedChain.{returned_of, revert_split, visit_below, reverted_chain, returned, revert_above}
 use Rattle.changes.proofs.SpanSteps.{span_keeps}
 use Rattle.calls.specs.Spans.{merged_on, span_count, write_span_stores}

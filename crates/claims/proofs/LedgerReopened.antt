@@ -11,7 +11,7 @@ use Rattle.blocks.specs.Pick.{pick}
 use Rattle.blocks.specs.Bytes.{store_all}
 use Rattle.blocks.specs.Descriptor.{no_descriptor, revision_of, reopened_of}
 use Rattle.blocks.specs.declared.descriptor.Descriptor.{Descriptor}
-use Rattle.chains.specs.Chain.{active_of, chain, index_of}
+use Rattle.chains.specs.Chain.{active_of, index_of}
 use Rattle.chains.proofs.NamedLaws.{index_below}
 use Rattle.entries.specs.Entry.{find}
 use Rattle.calls.specs.Parts.{descriptors_of, snapshots_of, with_name, found_through, block_found}

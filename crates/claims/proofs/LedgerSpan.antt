@@ -1,23 +1,22 @@
 -- A volume as one run of bytes: a span read gives a part of it, and the ledger of the card after an accepted span write is the ledger's own step, which patches it.
 use mathlib.Core.Path.{◌≡◌, refl, sym, ap, ◌∙◌}
-use mathlib.Core.List.{List, [], ◌∷◌, ◌++◌}
+use mathlib.Core.List.{List, []}
 use Prim.Native.Nat.{ℕ, zero, suc, ◌+◌, ◌*◌, ◌-◌, ◌≤◌, ◌<◌, min}
 use native.Mathlib.Omega.{arith}
 use lib.ListN.{length, take, get_or, set, length-set}
 use lib.Seq.{take-length}
-use Rattle.blocks.specs.Bytes.{block_count, part, splice, store_all}
+use Rattle.blocks.specs.Bytes.{part, splice, store_all}
 use Rattle.blocks.specs.declared.descriptor.Descriptor.{Descriptor}
-use Rattle.blocks.proofs.ByteLaws.{length_part}
 use Rattle.pieces.specs.Span.{run_of, span_block, touched, piece_in, merged}
 use Rattle.pieces.proofs.RunLaws.{Whole, splice_none, run_length, part_block, block_part, run_set, whole_set}
-use Rattle.pieces.proofs.SpanLaws.{begins, ends, inside, reached, reached_none, reached_all, in_block, in_bytes, read_next, write_next, merged_length}
+use Rattle.pieces.proofs.SpanLaws.{begins, ends, inside, reached, reached_none, reached_all, in_block, read_next, write_next, merged_length}
 use Rattle.chains.specs.Chain.{active_of}
 use Rattle.calls.specs.Parts.{descriptors_of, found_through, block_found}
 use Rattle.calls.specs.Spans.{gathered, span_bytes, merged_on, span_stores, span_card, span_count, write_span_stores}
 use Rattle.calls.proofs.CellLaws.{found_long}
 use Rattle.changes.proofs.SpanSteps.{SpanPassed, card_next, passed_at, passed_write}
 use Rattle.claims.specs.Kinds.{Writes, WritesSpan}
-use Rattle.claims.specs.Ledger.{Ledger, changed_at, span_cells, with_cells, ledger_change, cells_from, volume_of, ledger_of}
+use Rattle.claims.specs.Ledger.{Ledger, changed_at, span_cells, with_cells, ledger_change, volume_of, ledger_of}
 use Rattle.claims.proofs.LedgerLaws.{changed_set, changed_is, cells_length, cell_of}
 use Rattle.claims.proofs.LedgerWrite.{ledger_write}
 

@@ -16,7 +16,6 @@ use Rattle.blocks.proofs.ByteLaws.{length_part, part_at, splice_in, splice_other
 use Rattle.pieces.specs.Span.{span_block, touched, merged}
 use Rattle.pieces.proofs.SpanLaws.{begins, in_block, in_bytes, merged_long}
 use Rattle.chains.specs.Chain.{chain, active_of}
-use Rattle.entries.specs.Entry.{need}
 use Rattle.calls.specs.declared.answer.Answer.{Answer}
 use Rattle.calls.specs.declared.answer.Target.TheVariants.{Active}
 use Rattle.calls.specs.Call.{Call, Read, Write, SpanWrite, Block, answer, accepted}

@@ -25,7 +25,7 @@ use Rattle.calls.specs.Meaning.{answer_of, filled_of}
 use Rattle.calls.specs.Step.{step, after, is_accepted}
 use Rattle.calls.proofs.Passed.{ReadPassed, read_passed, visit_passed}
 use Rattle.claims.specs.Kinds.{kind_of}
-use Rattle.claims.specs.History.{Position, Nowhere, At, Standing, none, more, formats, is_ream, is_format, formatted}
+use Rattle.claims.specs.History.{Position, Nowhere, At, Standing, more, formats, is_ream, is_format, formatted}
 use Rattle.claims.specs.Ledger.{Ledger, run_read, volume_named, volume_read, names_from, ledger_names}
 use Rattle.claims.proofs.Runs.{standing_length, step_length}
 use Rattle.claims.proofs.Visits.{given_is}

@@ -9,15 +9,15 @@ use lib.Dec.{ltb}
 use borrow.Author.Tests.{ltb-true, ltb-false}
 use Rattle.blocks.specs.Bytes.{block_count, store_all}
 use Rattle.blocks.specs.declared.descriptor.Descriptor.{Descriptor}
-use Rattle.pieces.specs.Span.{span_block, touched, merged}
+use Rattle.pieces.specs.Span.{span_block, merged}
 use Rattle.pieces.proofs.SpanLaws.{inside}
 use Rattle.chains.specs.Chain.{active_of}
-use Rattle.calls.specs.Parts.{descriptors_of, found_through, block_found}
+use Rattle.calls.specs.Parts.{descriptors_of, found_through}
 use Rattle.calls.specs.Check.{Passes}
 use Rattle.calls.specs.Stores.{write_need}
 use Rattle.calls.specs.Spans.{merged_on, span_stores, span_card, span_need, span_count, write_span_stores, write_span_need}
 use Rattle.calls.proofs.CellLaws.{active_placed}
-use Rattle.changes.proofs.SpanSteps.{SpanPassed, card_next, need_next, span_at, span_write, active_then}
+use Rattle.changes.proofs.SpanSteps.{card_next, need_next, span_at, span_write, active_then}
 use Rattle.claims.specs.Kinds.{WritesSpan}
 use Rattle.claims.specs.Claims.{blocks_needed}
 use Rattle.claims.proofs.CheckClaims.{span_allowed}

@@ -74,7 +74,7 @@ pub loop-k-preserved : goal.loop-k-preserved
 loop-k-preserved c = (
   omega arith,
   c.check_one-v.auto.seen ∙ c.next_turn-turn.auto.seen ∙ c.loop-k.invariant.1,
-  chain_more _ _ _ _ c.requires.0.area c.requires.0.regions _ _ _ _ _ c.loop-k.invariant.2 (omega arith) _ _ c.next_turn-turn.ensures _ c.read_descriptor-d.ensures _ _ c.check_one-v.ensures (let h = c.in_default in ?),
+  chain_more _ _ _ _ c.requires.0.area c.requires.0.regions _ _ _ _ _ c.loop-k.invariant.2 (omega arith) _ _ c.next_turn-turn.ensures _ c.read_descriptor-d.ensures _ _ c.check_one-v.ensures c.in_default.is,
 )
 
 pub shape_of-seen : goal.shape_of-seen

@@ -1,7 +1,6 @@
 -- `walk_chain` meets its contract: the first descriptor ends it, or after k turns k sound descriptors have passed, the next one is at hand, and the hashes of
 -- their names have their flags.
 use mathlib.Core.Path.{◌≡◌, refl, sym, ◌∙◌}
-use mathlib.Core.Bool.{true}
 use Prim.Native.Nat.{suc, ◌+◌, ◌-◌}
 use native.Mathlib.Omega.{arith}
 use lib.ListN.{length, take, set, replicate, length-set}

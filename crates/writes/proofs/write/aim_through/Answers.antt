@@ -37,13 +37,13 @@ locate-at-requires c = let some : 0 < c.args.count = card_some _ _ (sym c.requir
 
 pub returns-in-Misplaced : goal.returns-in-Misplaced
 returns-in-Misplaced c = let active_is : (d : Descriptor) → d ≡ descriptor_at c.args.card.now (get_or c.args.starts.now (c.args.count - 1) 0) → d ≡ active_of (descriptors (chain c.args.card.now)) = λ d e. e ∙ sym (card_active _ _ (sym c.requires.regions) c.requires.area refl) in
-    c.no_aim-in-Misplaced.ensures ∙ aim_10 _ _ _ _ c.requires _ (active_is _ c.read_descriptor-d.ensures) c.if-d-l.false _ (located_found _ _ _ _ _ c.locate-at.ensures) c.found-1.given.0.0 cc
+    c.no_aim-in-Misplaced.ensures ∙ aim_10 _ _ _ _ c.requires _ (active_is _ c.read_descriptor-d.ensures) c.if-d-l.false _ (located_found _ _ _ _ _ c.locate-at.ensures) c.in-Misplaced.h cc
 
 pub returns-in-Entry : goal.returns-in-Entry
 returns-in-Entry c = let some : 0 < c.args.count = card_some _ _ (sym c.requires.regions) c.requires.area refl in let active_is : (d : Descriptor) → d ≡ descriptor_at c.args.card.now (get_or c.args.starts.now (c.args.count - 1) 0) → d ≡ active_of (descriptors (chain c.args.card.now)) = λ d e. e ∙ sym (card_active _ _ (sym c.requires.regions) c.requires.area refl) in let through : (d : Descriptor) → d ≡ descriptor_at c.args.card.now (get_or c.args.starts.now (c.args.count - 1) 0) → Through c.args.card.now c.args.starts.now c.args.count d = λ d e. card_through _ _ (sym c.requires.regions) c.requires.area refl _ (omega (arith, some)) d e in
     let active = active_is _ c.read_descriptor-d.ensures in
     let through_active = through _ c.read_descriptor-d.ensures in
     let found = located_found _ _ _ _ _ c.locate-at.ensures in
-    let is : c.locate-at.result.found ≡ Entry c.found-in-Entry-1.given.0.0 c.found-in-Entry-1.given.0.1.0 = cc in
-    aim_0 _ _ _ _ c.requires _ active c.if-d-l.false _ found c.found-in-Entry-1.given.0.0 c.found-in-Entry-1.given.0.1.0 is _
+    let is : c.locate-at.result.found ≡ Entry c.in-Entry.m c.in-Entry.p = cc in
+    aim_0 _ _ _ _ c.requires _ active c.if-d-l.false _ found c.in-Entry.m c.in-Entry.p is _
     (c.need-taken.ensures ∙ need_active _ _ (through_linked _ _ _ _ through_active) _ (through_count _ _ _ _ through_active) _ active _ _ c.locate-at.ensures ∙ ap (need _) (sym found ∙ is))
