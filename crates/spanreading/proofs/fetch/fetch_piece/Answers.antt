@@ -10,10 +10,10 @@ entry_of-found-requires c = (c.requires.0, c.requires.1, (_, _, entry_is _ c.req
 
 pub fill_piece-requires : goal.fill_piece-requires
 fill_piece-requires c =
-    let p = block_found_lem _ _ _ _ c.entry_of-found.ensures _ c.Block-of.ensures in
+    let p = block_found_lem _ _ _ _ c.entry_of-found.ensures _ c.block_of-p.ensures in
     fill_ready _ _ _ _ c.requires.0.2 _ _ _ c.requires.3 c.requires.4 _ c.piece_in-q.ensures.value _ p
 
 pub returns : goal.returns
 returns c =
-    let p = block_found_lem _ _ _ _ c.entry_of-found.ensures _ c.Block-of.ensures in
+    let p = block_found_lem _ _ _ _ c.entry_of-found.ensures _ c.block_of-p.ensures in
     piece_put _ _ _ _ _ _ _ p c.requires.3 c.requires.4 _ c.piece_in-q.ensures.value c.fill_piece.ensures (found_long _ _ _ (through_end _ _ _ _ c.requires.0.2) _)

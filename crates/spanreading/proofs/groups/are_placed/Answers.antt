@@ -13,7 +13,7 @@ pub locate_in-at-requires : goal.locate_in-at-requires
 locate_in-at-requires c = (c.requires.0, c.requires.1, omega (arith, c.requires.2))
 
 pub returns-in-Misplaced : goal.returns-in-Misplaced
-returns-in-Misplaced c = placed_stop _ _ _ _ _ _ (omega arith) c.loop-i.invariant.1 _ c.locate_in-at.ensures _ c.enum_told-1.given.1
+returns-in-Misplaced c = placed_stop _ _ _ _ _ _ (omega arith) c.loop-i.invariant.1 _ c.locate_in-at.ensures _ c.in-Misplaced.is
 
 pub overflow_add-i : goal.overflow_add-i
 overflow_add-i c = omega arith
@@ -22,7 +22,7 @@ pub loop-i-smaller : goal.loop-i-smaller
 loop-i-smaller c = omega arith
 
 pub loop-i-preserved : goal.loop-i-preserved
-loop-i-preserved c = (omega arith, placed_more _ _ _ _ _ _ (omega arith) c.loop-i.invariant.1 _ c.locate_in-at.ensures _ _ c.enum_told-in_default-1.given.1)
+loop-i-preserved c = (omega arith, placed_more _ _ _ _ _ _ (omega arith) c.loop-i.invariant.1 _ c.locate_in-at.ensures _ _ c.in_default.is)
 
 pub returns : goal.returns
 returns c = placed_end _ _ _ _ _ c.loop-i.i (omega arith) c.loop-i.invariant.1

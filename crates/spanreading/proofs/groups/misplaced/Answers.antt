@@ -14,7 +14,7 @@ pub misplaced_in_group-v-requires : goal.misplaced_in_group-v-requires
 misplaced_in_group-v-requires c = (c.requires.0, group_some _ _ (omega arith) _ c.group_left-k.ensures, group_shared _ _ (omega arith) _ c.group_left-k.ensures, omega (arith, group_within _ _ (omega arith) _ c.group_left-k.ensures, c.requires.2))
 
 pub returns-in-Fault : goal.returns-in-Fault
-returns-in-Fault c = groups_stop _ _ _ _ _ _ c.loop-l.invariant.2 (group_within _ _ (omega arith) _ c.group_left-k.ensures) _ c.misplaced_in_group-v.ensures _ c.v-1.given.1
+returns-in-Fault c = groups_stop _ _ _ _ _ _ c.loop-l.invariant.2 (group_within _ _ (omega arith) _ c.group_left-k.ensures) _ c.misplaced_in_group-v.ensures _ c.in-Fault.is
 
 pub overflow_add-l : goal.overflow_add-l
 overflow_add-l c = omega (arith, group_within _ _ (omega arith) _ c.group_left-k.ensures)
@@ -23,7 +23,7 @@ pub loop-l-smaller : goal.loop-l-smaller
 loop-l-smaller c = omega (arith, group_some _ _ (omega arith) _ c.group_left-k.ensures, group_within _ _ (omega arith) _ c.group_left-k.ensures)
 
 pub loop-l-preserved : goal.loop-l-preserved
-loop-l-preserved c = let g = group_within _ _ (omega arith) _ c.group_left-k.ensures in (omega (arith, g), omega (arith, g), groups_more _ _ _ _ _ _ c.loop-l.invariant.2 g _ c.misplaced_in_group-v.ensures c.enum_told-1.given.1)
+loop-l-preserved c = let g = group_within _ _ (omega arith) _ c.group_left-k.ensures in (omega (arith, g), omega (arith, g), groups_more _ _ _ _ _ _ c.loop-l.invariant.2 g _ c.misplaced_in_group-v.ensures c.in_default.is)
 
 pub returns : goal.returns
 returns c = groups_end _ _ _ _ c.loop-l.l (omega arith) c.loop-l.invariant.2
