@@ -1,5 +1,6 @@
 // A library for the tests alone: the pass that makes the block of a new descriptor, stopped after any number of bytes.
 #![tactic(auto)]
+
 ghost use Rattle.std.specs.Prelude.{◌≡◌};
 ghost use Rattle.prefixes.specs.Prefix.{prefix_of};
 
