@@ -1,3 +1,4 @@
 // The line of a work sheet that formats the card.
 #![tactic(auto)]
+
 pub mod format; // what such a line does

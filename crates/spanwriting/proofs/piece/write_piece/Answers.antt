@@ -11,10 +11,10 @@ pub locate-at-requires : goal.locate-at-requires
 locate-at-requires c = (active_ready _ _ _ _ c.requires.card, c.requires.below)
 
 pub put_piece-requires : goal.put_piece-requires
-put_piece-requires c = (piece_ready _ _ _ _ _ _ _ c.requires _ c.locate-at.ensures c.found-1.given.0.0 c.found-1.given.0.1.0 (cc) _ c.need-taken.ensures, piece_need _ _ _ _ _ _ _ c.requires _ c.locate-at.ensures c.found-1.given.0.0 c.found-1.given.0.1.0 (cc) _ c.need-taken.ensures, piece_room _ _ _ _ _ _ _ c.requires _ c.locate-at.ensures c.found-1.given.0.0 c.found-1.given.0.1.0 (cc) _ c.need-taken.ensures, c.requires.begins, c.requires.ends, c.requires.small)
+put_piece-requires c = (piece_ready _ _ _ _ _ _ _ c.requires _ c.locate-at.ensures c.in-Entry.m c.in-Entry.p (cc) _ c.need-taken.ensures, piece_need _ _ _ _ _ _ _ c.requires _ c.locate-at.ensures c.in-Entry.m c.in-Entry.p (cc) _ c.need-taken.ensures, piece_room _ _ _ _ _ _ _ c.requires _ c.locate-at.ensures c.in-Entry.m c.in-Entry.p (cc) _ c.need-taken.ensures, c.requires.begins, c.requires.ends, c.requires.small)
 
 pub extended-e-requires : goal.extended-e-requires
-extended-e-requires c = piece_small _ _ _ _ _ _ _ c.requires _ c.locate-at.ensures c.found-1.given.0.0 c.found-1.given.0.1.0 (cc) _ c.need-taken.ensures
+extended-e-requires c = piece_small _ _ _ _ _ _ _ c.requires _ c.locate-at.ensures c.in-Entry.m c.in-Entry.p (cc) _ c.need-taken.ensures
 
 pub offset_bounds-starts-count : goal.offset_bounds-starts-count
 offset_bounds-starts-count c = omega (arith, active_few _ _ _ _ c.requires.card)
@@ -23,9 +23,9 @@ pub bounds-starts-count : goal.bounds-starts-count
 bounds-starts-count c = active_room _ _ _ _ c.requires.card
 
 pub returns-in-Misplaced : goal.returns-in-Misplaced
-returns-in-Misplaced c = absurd (never_misplaced _ _ _ _ _ _ _ c.requires _ c.locate-at.ensures _ c.enum_told-1.given.1)
+returns-in-Misplaced c = absurd (never_misplaced _ _ _ _ _ _ _ c.requires _ c.locate-at.ensures _ c.in-Misplaced.is)
 
 pub returns-in-Entry : goal.returns-in-Entry
 returns-in-Entry c =
-    let given = piece_done _ _ _ _ _ _ _ c.requires _ c.locate-at.ensures c.found-1.given.0.0 c.found-1.given.0.1.0 (cc) _ c.need-taken.ensures _ c.extended-e.ensures _ c.put_piece.ensures in
+    let given = piece_done _ _ _ _ _ _ _ c.requires _ c.locate-at.ensures c.in-Entry.m c.in-Entry.p (cc) _ c.need-taken.ensures _ c.extended-e.ensures _ c.put_piece.ensures in
     record { card_after = given.0; active_card = given.1 }

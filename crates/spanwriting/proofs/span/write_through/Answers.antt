@@ -25,7 +25,7 @@ pub returns-then-is_past : goal.returns-then-is_past
 returns-then-is_past c = span_16 _ _ _ _ _ c.requires _ c.read_descriptor-d.ensures _ c.is_past.ensures c.if-is_past.true
 
 pub returns-in-Fault : goal.returns-in-Fault
-returns-in-Fault c = span_10 _ _ _ _ _ c.requires _ c.read_descriptor-d.ensures _ c.is_past.ensures c.if-is_past.false _ c.check_regions-v.ensures _ c.v-1.given.1
+returns-in-Fault c = span_10 _ _ _ _ _ c.requires _ c.read_descriptor-d.ensures _ c.is_past.ensures c.if-is_past.false _ c.check_regions-v.ensures _ c.in-Fault.is
 
 pub blocks_touched-blocks-requires : goal.blocks_touched-blocks-requires
 blocks_touched-blocks-requires c = small_upto _ _ _ _ c.is_past.ensures c.if-is_past.false (through_volume _ _ _ _ (active_ready _ _ _ _ (active_card _ _ _ c.requires _ c.read_descriptor-d.ensures)))
@@ -34,7 +34,7 @@ pub span_need-taken-requires : goal.span_need-taken-requires
 span_need-taken-requires c =
     let u = past_upto _ _ _ _ c.is_past.ensures c.if-is_past.false in (
       (_, _, active_card _ _ _ c.requires _ c.read_descriptor-d.ensures),
-      checked_passes _ _ _ c.requires _ c.check_regions-v.ensures c.enum_told-1.given.1,
+      checked_passes _ _ _ c.requires _ c.check_regions-v.ensures c.in_default.is,
       touched_upto _ _ _ _ u c.blocks_touched-blocks.ensures.value c.blocks_touched-blocks.ensures.result_bound,
     )
 
@@ -45,10 +45,10 @@ pub overflow_add-beta : goal.overflow_add-beta
 overflow_add-beta c = let t = active_ready _ _ _ _ (active_card _ _ _ c.requires _ c.read_descriptor-d.ensures) in record { fits = sum_small _ _ _ _ _ _ _ c.is_past.ensures c.if-is_past.false (through_volume _ _ _ _ t) c.span_need-taken.ensures.upper_bound c.blocks_touched-blocks.ensures.result_bound (omega (arith, through_end _ _ _ _ t, card_small _ c.requires.area)) }
 
 pub returns-then-card-beta : goal.returns-then-card-beta
-returns-then-card-beta c = span_11 _ _ _ _ _ c.requires _ c.read_descriptor-d.ensures _ c.is_past.ensures c.if-is_past.false _ c.check_regions-v.ensures c.enum_told-1.given.1 _ c.blocks_touched-blocks.ensures.value _ c.span_need-taken.ensures.value (omega (arith, c.if-card-beta.true))
+returns-then-card-beta c = span_11 _ _ _ _ _ c.requires _ c.read_descriptor-d.ensures _ c.is_past.ensures c.if-is_past.false _ c.check_regions-v.ensures c.in_default.is _ c.blocks_touched-blocks.ensures.value _ c.span_need-taken.ensures.value (omega (arith, c.if-card-beta.true))
 
 pub write_blocks-requires : goal.write_blocks-requires
-write_blocks-requires c = span_ready _ _ _ _ _ c.requires _ c.read_descriptor-d.ensures _ c.is_past.ensures c.if-is_past.false _ c.check_regions-v.ensures c.enum_told-1.given.1 _ c.blocks_touched-blocks.ensures.value _ c.span_need-taken.ensures.value (omega (arith, c.if-card-beta.false))
+write_blocks-requires c = span_ready _ _ _ _ _ c.requires _ c.read_descriptor-d.ensures _ c.is_past.ensures c.if-is_past.false _ c.check_regions-v.ensures c.in_default.is _ c.blocks_touched-blocks.ensures.value _ c.span_need-taken.ensures.value (omega (arith, c.if-card-beta.false))
 
 pub returns : goal.returns
-returns c = span_0 _ _ _ _ _ c.requires _ c.read_descriptor-d.ensures _ c.is_past.ensures c.if-is_past.false _ c.check_regions-v.ensures c.enum_told-1.given.1 _ c.blocks_touched-blocks.ensures.value _ c.span_need-taken.ensures.value (omega (arith, c.if-card-beta.false)) _ c.write_blocks.ensures
+returns c = span_0 _ _ _ _ _ c.requires _ c.read_descriptor-d.ensures _ c.is_past.ensures c.if-is_past.false _ c.check_regions-v.ensures c.in_default.is _ c.blocks_touched-blocks.ensures.value _ c.span_need-taken.ensures.value (omega (arith, c.if-card-beta.false)) _ c.write_blocks.ensures
