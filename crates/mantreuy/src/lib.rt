@@ -1,6 +1,7 @@
 // The static library that C and Rust programs link: the ten calls and the padding of a name, on numbers and lent bytes.
 // Each call returns the number of its answer and stores the place; its contract is one equation, by the calls' `step`, the listing's by `listing_of`. A visit stores its name too.
 #![tactic(auto)]
+
 ghost use Rattle.std.specs.Prelude.{◌≡◌};
 ghost use Rattle.calls.specs.Call.{Ream, Read, Write, Snap, Revert, Check, Visit, SpanRead, SpanWrite, None, Block, answer};
 ghost use Rattle.calls.specs.Effect.{as_visited};
