@@ -23,7 +23,7 @@ pub fn run_ream(
     name: [u8; NAME_SIZE],
 ) -> Ran
     requires { (length area.old ≡ block_size * sheet_blocks) × (blocks ≤ sheet_blocks) × (size ≤ sheet_blocks) }
-    ensures { record { ran = result; area = area.exit.now } ≡ after_call (record { area = area.entry.now; blocks = blocks; records = records }) (SheetCall.Ream layout size volume) name }
+    ensures { record { ran = result; area = area.new } ≡ after_call (record { area = area.old; blocks = blocks; records = records }) (SheetCall.Ream layout size volume) name }
 {
     let end = BLOCK_SIZE * (size as usize);
     let format = Format {

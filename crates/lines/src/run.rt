@@ -21,7 +21,7 @@ pub fn run_line(
     line: Line,
 ) -> Ran
     requires { (length area.old ≡ block_size * sheet_blocks) × (blocks ≤ sheet_blocks) × (size_of line.call ≤ sheet_blocks) }
-    ensures area_value { record { ran = result; area = area.exit.now } ≡ after_line (record { area = area.entry.now; blocks = blocks; records = records }) number line }
+    ensures area_value { record { ran = result; area = area.new } ≡ after_line (record { area = area.old; blocks = blocks; records = records }) number line }
     ensures blocks_le_sheet_blocks { (result.blocks ≤ sheet_blocks) × (count_of result.addition ≤ sheet_records) }
 {
     let call = line.call;

@@ -27,7 +27,7 @@ pub fn run_write(
     fill: u8,
 ) -> Ran
     requires { (length area.old ≡ block_size * sheet_blocks) × (blocks ≤ sheet_blocks) }
-    ensures { record { ran = result; area = area.exit.now } ≡ after_call (record { area = area.entry.now; blocks = blocks; records = records }) (SheetCall.Write l fill) no_name }
+    ensures { record { ran = result; area = area.new } ≡ after_call (record { area = area.old; blocks = blocks; records = records }) (SheetCall.Write l fill) no_name }
 {
     let end = BLOCK_SIZE * (blocks as usize);
     let block = [fill; BLOCK_SIZE];
@@ -51,7 +51,7 @@ pub fn run_read(
     name: [u8; NAME_SIZE],
 ) -> Ran
     requires { (length area.now ≡ block_size * sheet_blocks) × (blocks ≤ sheet_blocks) }
-    ensures { record { ran = result; area = area.entry.now } ≡ after_call (record { area = area.entry.now; blocks = blocks; records = records }) (SheetCall.Read target l) name }
+    ensures { record { ran = result; area = area.now } ≡ after_call (record { area = area.now; blocks = blocks; records = records }) (SheetCall.Read target l) name }
 {
     let end = BLOCK_SIZE * (blocks as usize);
     let mut block = [0u8; BLOCK_SIZE];
@@ -84,7 +84,7 @@ pub fn run_snap(
     name: [u8; NAME_SIZE],
 ) -> Ran
     requires { (length area.old ≡ block_size * sheet_blocks) × (blocks ≤ sheet_blocks) }
-    ensures { record { ran = result; area = area.exit.now } ≡ after_call (record { area = area.entry.now; blocks = blocks; records = records }) (SheetCall.Snap) name }
+    ensures { record { ran = result; area = area.new } ≡ after_call (record { area = area.old; blocks = blocks; records = records }) (SheetCall.Snap) name }
 {
     let end = BLOCK_SIZE * (blocks as usize);
     let answer = snap::snap(&mut area[..end], name);
@@ -105,7 +105,7 @@ pub fn run_revert(
     name: [u8; NAME_SIZE],
 ) -> Ran
     requires { (length area.old ≡ block_size * sheet_blocks) × (blocks ≤ sheet_blocks) }
-    ensures { record { ran = result; area = area.exit.now } ≡ after_call (record { area = area.entry.now; blocks = blocks; records = records }) (SheetCall.Revert) name }
+    ensures { record { ran = result; area = area.new } ≡ after_call (record { area = area.old; blocks = blocks; records = records }) (SheetCall.Revert) name }
 {
     let end = BLOCK_SIZE * (blocks as usize);
     let answer = revert::revert(&mut area[..end], name);
@@ -121,7 +121,7 @@ pub fn run_revert(
 // A listing, which adds a record for each descriptor.
 pub fn run_list(area: &[u8], blocks: u32, records: [Record; SHEET_RECORDS]) -> Ran
     requires { (length area.now ≡ block_size * sheet_blocks) × (blocks ≤ sheet_blocks) }
-    ensures { record { ran = result; area = area.entry.now } ≡ after_call (record { area = area.entry.now; blocks = blocks; records = records }) (SheetCall.List) no_name }
+    ensures { record { ran = result; area = area.now } ≡ after_call (record { area = area.now; blocks = blocks; records = records }) (SheetCall.List) no_name }
 {
     let end = BLOCK_SIZE * (blocks as usize);
     let found = list::list_64(&area[..end], records);
@@ -150,7 +150,7 @@ pub fn run_list(area: &[u8], blocks: u32, records: [Record; SHEET_RECORDS]) -> R
 // A check.
 pub fn run_check(area: &[u8], blocks: u32, records: [Record; SHEET_RECORDS]) -> Ran
     requires { (length area.now ≡ block_size * sheet_blocks) × (blocks ≤ sheet_blocks) }
-    ensures { record { ran = result; area = area.entry.now } ≡ after_call (record { area = area.entry.now; blocks = blocks; records = records }) (SheetCall.Check) no_name }
+    ensures { record { ran = result; area = area.now } ≡ after_call (record { area = area.now; blocks = blocks; records = records }) (SheetCall.Check) no_name }
 {
     let end = BLOCK_SIZE * (blocks as usize);
     let answer = check::check(&area[..end]);

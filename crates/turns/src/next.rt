@@ -39,7 +39,7 @@ pub fn run_next(
     out: &mut [u8],
 ) -> Turn
     requires { (at < length sheet.now) × (length area.old ≡ block_size * sheet_blocks) × (blocks ≤ sheet_blocks) × (line_room ≤ length out.old) }
-    ensures value { (result ≡ (turn_of (record { area = area.entry.now; blocks = blocks; records = records }) number sheet.now at).turn) × (area.exit.now ≡ (turn_of (record { area = area.entry.now; blocks = blocks; records = records }) number sheet.now at).area) × (out.new ≡ splice out.old 0 (turn_of (record { area = area.entry.now; blocks = blocks; records = records }) number sheet.now at).text) }
+    ensures value { (result ≡ (turn_of (record { area = area.old; blocks = blocks; records = records }) number sheet.now at).turn) × (area.new ≡ (turn_of (record { area = area.old; blocks = blocks; records = records }) number sheet.now at).area) × (out.new ≡ splice out.old 0 (turn_of (record { area = area.old; blocks = blocks; records = records }) number sheet.now at).text) }
     ensures at_lt_next { (at < result.next) × (result.next ≤ length sheet.now) × (result.length ≤ line_room) × (result.blocks ≤ sheet_blocks) }
 {
     let cut = line::cut_next(sheet, at);
