@@ -15,7 +15,7 @@ use Rattle.blocks.specs.declared.descriptor.Descriptor.{Descriptor}
 use Rattle.blocks.proofs.ByteLaws.{put_next, splice_join, splice_start, length_le32, length_part}
 use Rattle.calls.specs.declared.answer.Record.{Record}
 use Rattle.calls.specs.declared.list.Filling.{Filling}
-use Rattle.calls.specs.Call.{Listing, answer}
+use Rattle.calls.specs.Call.{Listing}
 use Rattle.calls.specs.Parts.{descriptors_of}
 use Rattle.calls.specs.Meaning.{answer_of}
 use Rattle.calls.specs.Effect.{no_record, record_of, listed}

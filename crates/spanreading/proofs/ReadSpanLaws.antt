@@ -15,7 +15,7 @@ use Rattle.chains.specs.declared.chain.Walk.{Walk}
 use Rattle.calls.specs.declared.answer.Answer.{Answer}
 use Rattle.calls.specs.declared.answer.Target.{Target}
 use Rattle.calls.specs.Call.{Call, SpanRead, Block, answer, accepted}
-use Rattle.calls.specs.Parts.{snapshots_of, is_snapshot, target_of, target_index, SoundCard}
+use Rattle.calls.specs.Parts.{snapshots_of, is_snapshot, target_index, SoundCard}
 use Rattle.calls.specs.Check.{is_fault, fault_holder}
 use Rattle.calls.specs.Ladder.{first_row, admission, row, span_row, span_read_rows}
 use Rattle.calls.specs.Spans.{span_verdict, span_bytes}

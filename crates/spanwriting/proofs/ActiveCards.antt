@@ -9,11 +9,11 @@ use Rattle.blocks.specs.Bytes.{store_all}
 use Rattle.blocks.specs.Descriptor.{physical, extended_of}
 use Rattle.blocks.specs.declared.descriptor.Descriptor.{Descriptor}
 use Rattle.blocks.proofs.StoreLists.{stored_length}
-use Rattle.chains.specs.Chain.{Chain, Sound, chain, chain_sound, descriptors, active_of, ends, starts_of, Regions, regions_of}
+use Rattle.chains.specs.Chain.{Sound, chain, chain_sound, active_of, ends, starts_of, Regions, regions_of}
 use Rattle.links.proofs.ChainLaws.{active_snoc, descriptors_are}
 use Rattle.entries.specs.Through.{Through}
 use Rattle.entries.proofs.RegionLaws.{through_rising, through_starts, through_count}
-use Rattle.calls.specs.Parts.{area_bad, descriptors_of, snapshots_of, SoundCard}
+use Rattle.calls.specs.Parts.{descriptors_of, snapshots_of}
 use Rattle.calls.specs.Stores.{write_stores, write_need}
 use Rattle.calls.proofs.Passed.{WritePassed}
 use Rattle.calls.proofs.CardLaws.{chain_is, area_kept, card_sound, card_some, card_few, card_active_through}

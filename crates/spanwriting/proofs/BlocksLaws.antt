@@ -10,9 +10,8 @@ use Rattle.blocks.specs.Bytes.{block_count, store_all}
 use Rattle.blocks.specs.declared.descriptor.Descriptor.{Descriptor}
 use Rattle.pieces.specs.Span.{span_block, touched}
 use Rattle.pieces.proofs.SpanLaws.{begins, ends, past_upto}
-use Rattle.chains.specs.Chain.{chain, active_of}
 use Rattle.entries.proofs.EntryLaws.{through_volume}
-use Rattle.calls.specs.Parts.{descriptors_of, found_through, is_misplaced}
+use Rattle.calls.specs.Parts.{found_through, is_misplaced}
 use Rattle.calls.specs.Stores.{write_stores, write_need}
 use Rattle.calls.specs.Spans.{merged_on, span_stores, span_card, write_span_stores, write_span_need}
 use Rattle.calls.proofs.Passed.{WritePassed}

@@ -1,8 +1,8 @@
 -- The write of one block of a span: the block with the span's bytes laid over, and the write through the entry that was found.
 use mathlib.Core.Path.{◌≡◌, refl, sym, ap, ◌∙◌, subst}
 use mathlib.Core.Bool.{Bool, true, false}
-use mathlib.Core.List.{List, [], ◌∷◌, ◌++◌}
-use Prim.Native.Nat.{ℕ, ◌+◌, ◌*◌, ◌-◌, ◌/◌, ◌≤◌, ◌<◌, ◌^◌, min}
+use mathlib.Core.List.{List}
+use Prim.Native.Nat.{ℕ, ◌+◌, ◌*◌, ◌-◌, ◌/◌, ◌≤◌, ◌<◌, min}
 use native.Mathlib.Omega.{arith}
 use lib.ListN.{length, set, length-replicate}
 use lib.Dec.{eqb}
@@ -17,10 +17,8 @@ use Rattle.blocks.proofs.ByteLaws.{length_part, length_block_at, splice_whole}
 use Rattle.pieces.specs.declared.piece.Piece.{Piece}
 use Rattle.pieces.specs.Span.{piece_of, merged}
 use Rattle.pieces.proofs.SpanLaws.{in_block, in_bytes, merged_long}
-use Rattle.chains.specs.Chain.{chain, descriptors, active_of}
 use Rattle.entries.specs.Through.{Through, WriteReady}
-use Rattle.entries.specs.Entry.{find, locate, need, need_by, writing}
-use Rattle.entries.specs.declared.find.Found.{Found}
+use Rattle.entries.specs.Entry.{locate, need, need_by, writing}
 use Rattle.entries.specs.declared.find.Found.TheVariants.{Misplaced, Entry}
 use Rattle.entries.specs.declared.find.Located.{Located}
 use Rattle.entries.proofs.EntryLaws.{through_end}

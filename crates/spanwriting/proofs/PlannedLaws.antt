@@ -4,7 +4,7 @@ use mathlib.Core.Bool.{Bool, true, false, ◌||◌}
 use mathlib.Core.List.{List}
 use Prim.Native.Nat.{ℕ, zero, suc, ◌+◌, ◌*◌, ◌/◌, ◌%◌, ◌≤◌, ◌<◌, min}
 use native.Mathlib.Omega.{arith}
-use lib.ListN.{length, get_or, set, length-set}
+use lib.ListN.{length, get_or, length-set}
 use lib.Seq.{get_or-set_same, get_or-set_other}
 use lib.Dec.{eqb, ltb}
 use borrow.Author.Tests.{eq-eqb, ne_eqb, eqb-true, eqb-false}
@@ -18,10 +18,9 @@ use Rattle.chains.specs.Chain.{active_of}
 use Rattle.entries.proofs.TableLaws.{group_below}
 use Rattle.calls.specs.Parts.{descriptors_of}
 use Rattle.calls.specs.Check.{Passes}
-use Rattle.calls.specs.Stores.{write_need}
 use Rattle.calls.specs.Spans.{write_span_need}
 use Rattle.claims.specs.History.{Position, Nowhere, At}
-use Rattle.places.specs.Placed.{Cell, Nil, home_of, is_at, PlacedVolume, Placed, placed_need, placed_write, span_placed, span_need_placed, table_place, placed_volume, placed_of}
+use Rattle.places.specs.Placed.{Nil, home_of, is_at, Placed, placed_need, placed_write, span_placed, span_need_placed, table_place, placed_volume, placed_of}
 use Rattle.places.proofs.PlacedLaws.{values_length}
 use Rattle.places.proofs.PlacedSpan.{needs_placed, span_room}
 use Rattle.spanwriting.specs.Planned.{counted_at, planned_need}

@@ -3,7 +3,6 @@ use mathlib.Core.Path.{◌≡◌, refl, sym, ap, ◌∙◌, subst}
 use mathlib.Core.Bool.{Bool, true, false, not}
 use mathlib.Core.List.{List, ◌∷◌}
 use Prim.Native.Nat.{ℕ, ◌+◌, ◌*◌, ◌-◌, ◌/◌, ◌≤◌, ◌<◌}
-use native.Mathlib.Omega.{arith}
 use lib.ListN.{length, drop, get_or}
 use lib.Dec.{ltb}
 use borrow.Author.Tests.{ltb-false, lt-ltb, le-ltb}
@@ -13,20 +12,19 @@ use Rattle.blocks.specs.declared.numbers.Physical.{Physical}
 use Rattle.blocks.specs.declared.descriptor.Descriptor.{Descriptor}
 use Rattle.pieces.specs.Span.{touched}
 use Rattle.pieces.proofs.SpanLaws.{past_upto}
-use Rattle.chains.specs.Chain.{chain, chain_sound, descriptors, active_of, Regions, regions_of, walk_of}
+use Rattle.chains.specs.Chain.{chain, chain_sound, active_of, Regions, regions_of, walk_of}
 use Rattle.chains.specs.declared.chain.Walk.{Walk}
 use Rattle.entries.specs.declared.check.Verdict.{Verdict}
 use Rattle.entries.specs.declared.check.Verdict.TheVariants.{Passed, Fault}
-use Rattle.calls.specs.declared.answer.Answer.{Answer}
 use Rattle.calls.specs.Call.{Call, SpanWrite, Block, answer, accepted}
 use Rattle.calls.specs.Parts.{area_bad, descriptors_of, SoundCard}
 use Rattle.calls.specs.Check.{check_card, is_fault, fault_holder, Passes}
-use Rattle.calls.specs.Ladder.{first_row, admission, chain_row, span_row, fault_row, row, span_write_rows}
+use Rattle.calls.specs.Ladder.{first_row, span_row, fault_row, row, span_write_rows}
 use Rattle.calls.specs.Spans.{write_span_stores, write_span_need}
 use Rattle.calls.specs.Meaning.{rows_of, answer_of, lent_of, filled_of, stores_of, given_of}
-use Rattle.calls.specs.Step.{Done, step, done}
+use Rattle.calls.specs.Step.{step, done}
 use Rattle.calls.proofs.StepLaws.{step_refused, step_accepted}
-use Rattle.calls.proofs.RowLaws.{admitted, row_given, row_passed, last_passed, chain_given, chain_passed, card_admitted}
+use Rattle.calls.proofs.RowLaws.{row_given, row_passed, last_passed, chain_given, chain_passed, card_admitted}
 use Rattle.calls.proofs.CardLaws.{card_sound, card_active}
 use Rattle.claims.proofs.CheckClaims.{faultless_passes}
 use Rattle.spanwriting.specs.Planned.{planned_need, ActiveCard, SpanReady}

@@ -1,15 +1,15 @@
 -- What the code of a span write counts before it stores anything, and what it knows of the card and of the block that it comes to.
-use Rattle.std.specs.Prelude.{◌≡◌, Bool, true, false, ◌||◌, List, ℕ, zero, suc, ◌+◌, ◌*◌, ◌%◌, ◌≤◌, ◌<◌, ◌^◌, min, length, eqb, ltb}
+use Rattle.std.specs.Prelude.{◌≡◌, false, ◌||◌, List, ℕ, zero, suc, ◌+◌, ◌*◌, ◌%◌, ◌≤◌, ◌<◌, ◌^◌, min, length, eqb}
 use Rattle.blocks.specs.Pick.{pick}
 use Rattle.blocks.specs.Bytes.{block_size, block_count}
 use Rattle.blocks.specs.Descriptor.{table_size}
 use Rattle.blocks.specs.declared.descriptor.Descriptor.{Descriptor}
-use Rattle.pieces.specs.Span.{span_block, touched}
+use Rattle.pieces.specs.Span.{span_block}
 use Rattle.chains.specs.Chain.{active_of}
 use Rattle.calls.specs.Parts.{descriptors_of, found_through, is_misplaced, SoundCard}
 use Rattle.calls.specs.Stores.{write_need}
 use Rattle.calls.specs.Check.{Passes}
-use Rattle.calls.specs.Spans.{span_need, write_span_need}
+use Rattle.calls.specs.Spans.{write_span_need}
 
 -- what block i of a span takes, counted on the card at entry: that of a write, but at most one block where the block before it is of the same group and of the span, since
 -- the table block is then one of the active region (on a card that passes: where the block before takes nothing, by the rule `table_above`)
