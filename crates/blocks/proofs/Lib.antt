@@ -4,6 +4,7 @@ pub mod BoolLaws
 pub mod ByteLaws
 pub mod ListLaws
 pub mod NameLaws
+pub mod ZeroLaws
 pub mod DescriptorLaws
 pub mod StoreLists
 pub mod RegionLaws

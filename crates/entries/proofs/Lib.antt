@@ -4,6 +4,7 @@ pub mod PlaceLaws
 pub mod RegionLaws
 pub mod OwnerLaws
 pub mod EntryLaws
+pub mod BlankLaws
 pub mod SetLaws
 pub mod PutLaws
 pub mod MarkLaws

@@ -1,6 +1,6 @@
 -- Finding the entry of a logical block in both layouts, need, and setting an entry.
-use Rattle.std.specs.Prelude.{Bool, not, ◌&&◌, ◌||◌, List, [], ◌∷◌, ℕ, ◌+◌, ◌*◌, ◌-◌, ◌/◌, ◌%◌, eqb, ltb, leb}
-use Rattle.blocks.specs.Pick.{pick}
+use Rattle.std.specs.Prelude.{Bool, false, not, ◌&&◌, ◌||◌, List, [], ◌∷◌, ℕ, ◌+◌, ◌*◌, ◌-◌, ◌/◌, ◌%◌, eqb, ltb, leb}
+use Rattle.blocks.specs.Pick.{pick, same}
 use Rattle.blocks.specs.Bytes.{block_size, u32_at, le32, splice, block_at, zero_block, Store, store}
 use Rattle.blocks.specs.Descriptor.{physical, table_size, phi_start, head_size, extended_of, tail_at, descriptor_block}
 use Rattle.blocks.specs.declared.descriptor.Descriptor.{Descriptor}
@@ -64,6 +64,20 @@ unfoldable pub need_by : ℕ → ℕ → Found → ℕ → ℕ
 need_by k alpha (Misplaced h) owner = 0
 need_by k alpha (Entry m p) owner = pick (not (eqb p.0 0) && eqb owner k) 0 (pick (table_is_new alpha m.0) 2 1)
 
+-- Blank pages (02, W4). No call goes by these yet: what follows up to page_stores is what the request's calls are to go by.
+-- whether what was found names no block: the entry is nil, or the table block that would hold it is
+unfoldable pub names_none : Found → Bool
+names_none (Misplaced h) = false
+names_none (Entry m p) = eqb p.0 0
+
+-- a blank page: "512 zeros to a block whose entry is nil, or whose table block is nil"
+unfoldable pub is_blank : Found → List ℕ → Bool
+is_blank found bytes = names_none found && same bytes zero_block
+
+-- the blocks that a write of these bytes is to take: none where they are a blank page
+unfoldable pub page_need : ℕ → Found → List ℕ → ℕ
+page_need alpha found bytes = pick (is_blank found bytes) 0 (need alpha found)
+
 -- a table block with entry j set to q
 unfoldable pub table_with : List ℕ → ℕ → ℕ → List ℕ
 table_with table j q = splice table (4 * j) (le32 q)
@@ -95,3 +109,7 @@ writing c d (Entry m p) l bytes =
     (pick (table_is_new d.alpha.0 m.0)
     (store (d.beta.0 + 1) bytes ∷ set_in_new_table c d m.0 l)
     (store d.beta.0 bytes ∷ set_in_table c d m.0 l))
+
+-- the stores that such a write is to make: none where its bytes are a blank page
+unfoldable pub page_stores : List ℕ → Descriptor → Found → ℕ → List ℕ → List Store
+page_stores c d found l bytes = pick (is_blank found bytes) [] (writing c d found l bytes)
