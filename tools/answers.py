@@ -10,7 +10,6 @@ import json, os, re, sys
 names = json.load(open(sys.argv[1]))
 crate = sys.argv[2]
 only = set(sys.argv[3:])
-KEEP_OLD = False
 
 
 def norm(s):
@@ -94,7 +93,6 @@ def convert(folder, key):
         steps[norm(pair[0])] = pair[1]
     own = clauses_of(fn)
     inv, ans, other = [], [], []
-    used = set()
     # lemmas of the file about a state of the old Tie become names within the answers that use them
     local = {}
     for b in blocks:
@@ -143,8 +141,6 @@ def convert(folder, key):
                 need.append(name)
         if not need:
             continue
-        for name in reversed(need):
-            pass
         lets = ' '.join(local[n][0] for n in reversed(need))
         opens = [o for n in reversed(need) for o in local[n][1]]
         eq = text.index(' =')
@@ -165,7 +161,7 @@ def convert(folder, key):
                     new = by_old[k]
                     break
             body = b[1:]
-            local = m.group(3)
+            own_name = m.group(3)
             plain = [l for l in body if not l.startswith('unfolding')]
             trivial = len(plain) == 1 and re.match(r"^\S+ c( κs)? = search rules$", plain[0]) and not any(l.startswith('unfolding') for l in body)
             if trivial:
@@ -173,12 +169,9 @@ def convert(folder, key):
             if new is None:
                 print('look:', p, 'no goal for', m.group(5), '::', ' '.join(body)[:160])
                 continue
-            if re.match(r"^(enum_told|enum_known|array_share)", norm(m.group(5))):
-                pass
-            used.add(new)
             out = ['pub %s : goal.%s' % (new, new)]
             for l in body:
-                l = re.sub(r"^%s c( κs)? =" % re.escape(local), lambda q: '%s c =' % new, l)
+                l = re.sub(r"^%s c( κs)? =" % re.escape(own_name), lambda q: '%s c =' % new, l)
                 out.append(l)
             text = inline('\n'.join(out[1:]))
             out = [out[0]] + path(text, steps, clauses, kept).split('\n')
