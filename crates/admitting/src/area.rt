@@ -1,11 +1,11 @@
 // What is asked before the tests of any call.
 ghost use Rattle.std.specs.Prelude.{◌≡◌};
 ghost use Rattle.calls.specs.Parts.{area_bad};
+ghost use Rattle.calls.specs.Call.{answered};
 ghost use Rattle.calls.specs.Ladder.{first_row, admission};
 
 use blocks::sizes::{BLOCK_SIZE, FEWEST_BLOCKS, MOST_BLOCKS};
-use calls::answer;
-use calls::answer::Answer;
+use calls::answer::Refusal;
 
 // Whether the area is no card, by its length alone.
 fn is_bad(card: &[u8]) -> bool
@@ -21,12 +21,12 @@ fn is_bad(card: &[u8]) -> bool
     MOST_BLOCKS < n
 }
 
-// The answer to what is asked before the tests of any call: that the area is a card.
-pub fn admit(card: &[u8]) -> Answer
-    ensures { result ≡ first_row (admission card.now) }
+// What is asked before the tests of any call: that the area is a card.
+pub fn admit(card: &[u8]) -> Result<(), Refusal>
+    ensures { answered result ≡ first_row (admission card.now) }
 {
     if is_bad(card) {
-        return answer::NO_CARD;
+        return Err(Refusal::NoCard);
     }
-    answer::ACCEPTED
+    Ok(())
 }

@@ -1,72 +1,61 @@
 // What a line prints.
-ghost use Rattle.std.specs.Prelude.{◌≡◌, ◌*◌, ◌+◌, ◌≤◌, length};
-ghost use Rattle.blocks.specs.Bytes.{splice};
+ghost use Rattle.std.specs.Prelude.{◌≡◌, ◌*◌, ◌+◌, ◌≤◌, ◌++◌, length};
+ghost use Rattle.calls.specs.Call.{answered};
 ghost use Rattle.calls.specs.Listing.{sheet_records};
-ghost use Rattle.printing.specs.Text.{byte_room, record_room};
-ghost use Rattle.sheet.specs.Sheet.{line_room, count_of, added_byte, added_records, printed, too_long};
+ghost use Rattle.printing.specs.Text.{line_room, byte_room, record_room};
+ghost use Rattle.sheet.specs.Sheet.{added, count_of, added_byte, added_records, line_text, too_long};
 
-use calls::answer::{Answer, Record};
-use calls::list::SHEET_RECORDS;
-use printing::text;
+use calls::answer::{Answer, Record, Refusal};
+use printing::text::FixedText;
 use reporting::report;
-use sheet::run::{Addition, Ran};
+use sheet::run::Addition;
 
 // A read's byte.
-fn put_added_byte(out: &mut [u8], at: usize, addition: Addition) -> usize
-    requires { at + byte_room ≤ length out.old }
-    ensures value { (result ≡ at + length (added_byte addition)) × (out.new ≡ splice out.old at (added_byte addition)) }
-    ensures upper_bound { result ≤ at + byte_room }
+fn put_added_byte<const N: usize>(out: &mut FixedText<N>, addition: Addition)
+    requires { length out.old + byte_room ≤ N }
+    ensures value { out.new ≡ out.old ++ added_byte addition }
+    ensures upper_bound { length out.new ≤ length out.old + byte_room }
 {
-    match addition {
-        Addition::Byte(b) => report::put_byte(out, at, b),
-        Addition::Nothing => text::put_text(out, at, b""),
-        Addition::FirstRecords(_) => text::put_text(out, at, b""),
+    if let Addition::Byte(b) = addition {
+        report::put_byte(out, b);
     }
 }
 
 // The records of a listing.
-fn put_added_records(
-    out: &mut [u8],
-    at: usize,
-    addition: Addition,
-    records: [Record; SHEET_RECORDS],
-) -> usize
-    requires { (at + record_room * sheet_records ≤ length out.old) × (count_of addition ≤ sheet_records) }
-    ensures value { (result ≡ at + length (added_records addition records)) × (out.new ≡ splice out.old at (added_records addition records)) }
-    ensures upper_bound { result ≤ at + record_room * sheet_records }
+fn put_added_records<const N: usize>(out: &mut FixedText<N>, addition: Addition, records: &[Record])
+    requires { (length out.old + record_room * sheet_records ≤ N) × (count_of addition ≤ length records.now) × (length records.now ≤ sheet_records) }
+    ensures value { out.new ≡ out.old ++ added_records addition records.now }
+    ensures upper_bound { length out.new ≤ length out.old + record_room * sheet_records }
 {
-    match addition {
-        Addition::FirstRecords(n) => report::put_records_text(out, at, records, n),
-        Addition::Nothing => text::put_text(out, at, b""),
-        Addition::Byte(_) => text::put_text(out, at, b""),
+    if let Addition::FirstRecords(n) = addition {
+        report::put_records(out, &records[..n]);
     }
 }
 
-// All that a line prints, from the start of `out`.
-pub fn print_ran(out: &mut [u8], ran: Ran) -> usize
-    requires { (line_room ≤ length out.old) × (count_of ran.addition ≤ sheet_records) }
-    ensures value { (result ≡ length (printed ran)) × (out.new ≡ splice out.old 0 (printed ran)) }
-    ensures upper_bound { result ≤ line_room }
+// All that a line prints, by what it returned and the sheet's records after it.
+pub fn print_line<const N: usize>(
+    out: &mut FixedText<N>,
+    outcome: Result<Addition, Refusal>,
+    records: &[Record],
+)
+    requires { (line_room ≤ N) × (count_of (added outcome) ≤ length records.now) × (length records.now ≤ sheet_records) }
+    ensures value { out.new ≡ line_text (answered outcome) (added outcome) records.now }
+    ensures upper_bound { length out.new ≤ line_room }
 {
-    let answer = ran.answer;
-    let addition = ran.addition;
-    let records = ran.records;
-    let a = report::put_answer(out, 0, answer);
-    let b = put_added_byte(out, a, addition);
-    let c = text::put_text(out, b, b"\n");
-    put_added_records(out, c, addition, records)
+    let addition = outcome.unwrap_or(Addition::Nothing);
+    out.clear();
+    report::put_answer(out, Answer::from(outcome.map(|_| ())));
+    put_added_byte(out, addition);
+    out.put(b"\n");
+    put_added_records(out, addition, records);
 }
 
 // The one line that a sheet of more than 16,384 bytes prints.
-pub fn print_too_long(out: &mut [u8]) -> usize
-    requires { line_room ≤ length out.old }
-    ensures value { (result ≡ length too_long) × (out.new ≡ splice out.old 0 too_long) }
-    ensures upper_bound { result ≤ line_room }
+#[tactic(auto, unfolding(sheet::specs::Sheet::count_of))]
+pub fn print_too_long<const N: usize>(out: &mut FixedText<N>)
+    requires { line_room ≤ N }
+    ensures value { out.new ≡ too_long }
+    ensures upper_bound { length out.new ≤ line_room }
 {
-    let answer = Answer {
-        number: 15,
-        place: 0,
-    };
-    let at = report::put_answer(out, 0, answer);
-    text::put_text(out, at, b"\n")
+    print_line(out, Err(Refusal::BadLine(0)), &[]);
 }

@@ -11,7 +11,9 @@ use lib.Dec.{ltb}
 use borrow.Author.Tests.{ltb-true, ltb-false}
 use lib.ListN.{length, take, drop, get_or, set, length-append, length-take, length-drop, get_or-append, take-append-drop, replicate, length-replicate, get_or-replicate}
 use lib.Seq.{take-length, drop-length, paste, paste-zero, paste-suc, take_at, get_or-take, get_or-drop, get_or-append-add, ext_get_or, drop-drop, take-append-add, drop-append-add, take-append-le, drop-append-le, length-take-le, take-add, take-nil, drop-cons}
-use Rattle.blocks.specs.Bytes.{u32_at, le32, splice, part, block_at, store_block, store_upto, block_count}
+use borrow.Rule.Slice.PartMut.{put_mid}
+use Rattle.std.specs.Int.{w32, w64, from_le_bytes, to_le_bytes}
+use Rattle.blocks.specs.Bytes.{u32_at, u64_at, le32, splice, part, block_at, store_block, store_upto, block_count}
 
 -- area after the first n elements of s were copied in from index at. Shut, so that `_` and `rw` find its arguments
 unfoldable pub copied : List ℕ → ℕ → List ℕ → ℕ → List ℕ
@@ -42,12 +44,6 @@ splice_whole d s h = rw (zero-add, h, drop-length) (append-nil s)
 pub splice_start : (d s : List ℕ) → splice d 0 s ≡ s ++ drop (length s) d
 unfolding splice
 splice_start d s = rw zero-add
-
--- a copy of a part of c over the whole of d
-pub part_copied : (c d : List ℕ) (at : ℕ) → at + length d ≤ length c → splice d 0 (part c at (at + length d - at)) ≡ part c at (length d)
-part_copied c d at h =
-    let e : at + length d - at ≡ length d = omega arith in
-    rw e (splice_whole d (part c at (length d)) (simp (length-take, length-drop) (omega arith)))
 
 pub length_part : (c : List ℕ) (at n : ℕ) → at + n ≤ length c → length (part c at n) ≡ n
 length_part c at n h = simp (length-take, length-drop) (omega arith)
@@ -190,6 +186,33 @@ unfolding u32_at
 u32_part c at n k h =
     rw (part_at c at n k (omega arith), part_at c at n (k + 1) (omega arith), part_at c at n (k + 2) (omega arith), part_at c at n (k + 3) (omega arith), add_assoc at k 1, add_assoc at k 2, add_assoc at k 3)
 
+-- what the library reads from the bytes of a number, and what it writes
+pub u32_read : (c : List ℕ) (at : ℕ) → from_le_bytes w32 (part c at 4) ≡ u32_at c at
+unfolding u32_at
+u32_read c at = rw (part_at c at 4 0 (omega arith), part_at c at 4 1 (omega arith), part_at c at 4 2 (omega arith), part_at c at 4 3 (omega arith), add-zero at) (omega arith)
+
+pub u64_read : (c : List ℕ) (at : ℕ) → from_le_bytes w64 (part c at 8) ≡ u64_at c at
+unfolding u64_at u32_at
+u64_read c at =
+    rw (
+      part_at c at 8 0 (omega arith),
+      part_at c at 8 1 (omega arith),
+      part_at c at 8 2 (omega arith),
+      part_at c at 8 3 (omega arith),
+      part_at c at 8 4 (omega arith),
+      part_at c at 8 5 (omega arith),
+      part_at c at 8 6 (omega arith),
+      part_at c at 8 7 (omega arith),
+      add-zero at,
+      add_assoc at 4 1,
+      add_assoc at 4 2,
+      add_assoc at 4 3,
+    ) (omega arith)
+
+pub le32_written : (v : ℕ) → to_le_bytes w32 v ≡ le32 v
+unfolding le32
+le32_written v = refl
+
 -- parts that follow each other are one
 pub part_join : (c : List ℕ) (at n m k : ℕ) (x y : List ℕ) → n + m ≡ k → x ≡ part c at n → y ≡ part c (at + n) m → x ++ y ≡ part c at k
 part_join c at n m k x y e p q =
@@ -284,6 +307,10 @@ part_put c at e y x l h q =
     let n : e - at ≡ length x = omega arith in
     let w : y ≡ x = q ∙ splice_whole (part c at (e - at)) x (sym (length_part c at (e - at) (omega arith) ∙ n)) in
     rw (w, n, drop-drop (length x) at c) (sym (splice_parts c at x (length x) refl))
+
+-- what a write to the n elements from at leaves
+pub part_written : (c : List ℕ) (at n : ℕ) (y x : List ℕ) → y ≡ x → length x ≡ n → put_mid at n c y ≡ splice c at x
+part_written c at n y x e l = rw (e, ← l, drop-drop (length x) at c) (sym (splice_parts c at x (length x) refl))
 
 -- blocks: the length of a block of the card, and what a store of a block changes
 pub length_block_at : (c : List ℕ) (p : ℕ) → 512 * p + 512 ≤ length c → length (block_at c p) ≡ 512

@@ -15,7 +15,7 @@ use Rattle.blocks.specs.Descriptor.{mark, descriptor_at, revision_at, revision_o
 use Rattle.blocks.specs.declared.descriptor.Descriptor.{Descriptor}
 use Rattle.blocks.proofs.Tests.{and_left, and_right}
 use Rattle.blocks.proofs.BoolLaws.{no, and_false}
-use Rattle.blocks.proofs.ListLaws.{same_equal, zero_from, zero_four}
+use Rattle.blocks.proofs.ListLaws.{same_equal, zero_four}
 use Rattle.blocks.proofs.ByteLaws.{put_next, u32_part, u32_within, part_within, digits, splice_start, length_part, part_part, store_length, store_other, put_block, part_join, number_back, zero_number}
 use Rattle.blocks.proofs.NameLaws.{name_size_lem}
 use Rattle.blocks.specs.Name.{is_name}
@@ -248,7 +248,6 @@ module _ (r : ℕ) (b : List ℕ) where
 
   module _ (small : r ≤ 1) (long : 8 ≤ length b) where
     rest_is : all_zero (drop 4 b) ≡ (eqb (u32_at b 4) 0 && all_zero (drop 8 b))
-    unfolding zero_from
     rest_is = zero_four b 4 long
 
     pub reserved_other : (u64_at b 0 ≡ r → ⊥) → false ≡ reserved_ok r b

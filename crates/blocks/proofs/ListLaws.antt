@@ -1,41 +1,31 @@
--- Laws of `same`, `all_zero`, `name_length` and `name_or_zero` with i of the elements passed, as a loop over a slice asks them.
+-- Laws of `same` and `all_zero`, as `==` and folds give them.
 use mathlib.Core.Path.{◌≡◌, refl, sym, ap, ◌∙◌}
-use mathlib.Core.Bool.{Bool, true, false, ◌&&◌, ◌||◌}
+use mathlib.Core.Bool.{Bool, true, false, ◌&&◌, and_assoc}
 use mathlib.Core.List.{List, [], ◌∷◌}
-use Prim.Native.Nat.{ℕ, suc, ◌+◌, ◌*◌, ◌≤◌, ◌<◌}
+use Prim.Native.Nat.{ℕ, zero, suc, ◌+◌, ◌*◌, ◌/◌, ◌≤◌, ◌<◌}
 use native.Mathlib.Numerals.{add-one}
 use native.Mathlib.Omega.{arith}
-use lib.ListN.{length, drop, get_or, drop_of_length-le}
-use lib.Seq.{drop-cons}
+use lib.ListN.{length, take, drop, get_or, length-drop}
+use lib.Seq.{drop-cons, drop-drop}
 use lib.Dec.{eqb}
 use borrow.Author.Tests.{eq-eqb, ne_eqb, eqb-true, eqb-false}
+use Rattle.std.specs.Str.{bytes_eq}
+use Rattle.std.specs.Int.{w64, from_le_bytes}
+use Rattle.std.specs.List.{fold}
+use Rattle.std.specs.Simd.{first_chunks}
 use Rattle.blocks.specs.Pick.{same, all_zero}
 use Rattle.blocks.specs.Bytes.{u32_at, u64_at, part}
-use Rattle.blocks.specs.Name.{name_byte, name_length, name_or_zero}
 use Rattle.blocks.proofs.Tests.{and_left, and_right}
+use Rattle.blocks.proofs.BoolLaws.{and_true}
+use Rattle.blocks.proofs.ByteLaws.{u64_read}
 
--- what is left to compare from index i
-unfoldable pub same_from : List ℕ → List ℕ → ℕ → Bool
-same_from a b i = same (drop i a) (drop i b)
-
-module _ (a b : List ℕ) where
-  pub same_start : same a b ≡ same_from a b 0
-  unfolding same_from
-  same_start = refl
-
-  same_step : (i : ℕ) → i < length a → i < length b → same_from a b i ≡ (eqb (get_or a i 0) (get_or b i 0) && same_from a b (i + 1))
-  unfolding same same_from
-  same_step i h k = rw (add-one, drop-cons a i 0, drop-cons b i 0)
-
-  pub same_more : (i : ℕ) → i < length a → i < length b → get_or a i 0 ≡ get_or b i 0 → same_from a b i ≡ same_from a b (i + 1)
-  same_more i h k e = same_step i h k ∙ rw (eq-eqb (get_or a i 0) (get_or b i 0) e)
-
-  pub same_stop : (i : ℕ) → i < length a → i < length b → (get_or a i 0 ≡ get_or b i 0 → ⊥) → same_from a b i ≡ false
-  same_stop i h k e = same_step i h k ∙ rw (ne_eqb (get_or a i 0) (get_or b i 0) e)
-
-  pub same_end : (i : ℕ) → length a ≤ i → length b ≤ i → same_from a b i ≡ true
-  unfolding same same_from
-  same_end i h k = rw (drop_of_length-le a h, drop_of_length-le b k)
+-- what `==` of slices and arrays gives
+pub bytes_same : (a b : List ℕ) → bytes_eq a b ≡ same a b
+unfolding same
+bytes_same [] [] = refl
+bytes_same [] (y ∷ ys) = refl
+bytes_same (x ∷ xs) [] = refl
+bytes_same (x ∷ xs) (y ∷ ys) = ap (λ (t : Bool). eqb x y && t) (bytes_same xs ys)
 
 -- four elements of a list, compared all at once
 pub same_four : (c : List ℕ) (at w x y z : ℕ) → at + 4 ≤ length c
@@ -68,13 +58,6 @@ unfolding same
 same_self [] = refl
 same_self (x ∷ xs) = rw (eq-eqb x x refl) (same_self xs)
 
-pub same_lengths : (a b : List ℕ) → (length a ≡ length b → ⊥) → same a b ≡ false
-same_lengths a b n = by (same a b) refl
-  where
-    by : (t : Bool) → same a b ≡ t → same a b ≡ false
-    by true e = absurd (n (ap length (same_equal a b e)))
-    by false e = e
-
 -- a sum is zero where both its parts are
 sum_zero : (x y s : ℕ) → (s ≡ 0 → x ≡ 0) → (s ≡ 0 → y ≡ 0) → (x ≡ 0 → y ≡ 0 → s ≡ 0) → eqb s 0 ≡ (eqb x 0 && eqb y 0)
 sum_zero x y s f g h = by (eqb x 0) (eqb y 0) refl refl
@@ -105,95 +88,50 @@ four_zero b c d e z =
     by true false r s = refl
     by false q r s = refl
 
--- what is left to be zero from index i
-unfoldable pub zero_from : List ℕ → ℕ → Bool
-zero_from a i = all_zero (drop i a)
-
+-- what is left to be zero from index i: one element at a time, four and eight
 module _ (a : List ℕ) where
-  pub zero_start : all_zero a ≡ zero_from a 0
-  unfolding zero_from
-  zero_start = refl
-
-  zero_step : (i : ℕ) → i < length a → zero_from a i ≡ (eqb (get_or a i 0) 0 && zero_from a (i + 1))
-  unfolding all_zero zero_from
+  zero_step : (i : ℕ) → i < length a → all_zero (drop i a) ≡ (eqb (get_or a i 0) 0 && all_zero (drop (i + 1) a))
+  unfolding all_zero
   zero_step i h = rw (add-one, drop-cons a i 0)
 
-  pub zero_end : (i : ℕ) → length a ≤ i → zero_from a i ≡ true
-  unfolding all_zero zero_from
-  zero_end i h = rw (drop_of_length-le a h)
-
-  -- eight elements at a time: their number is zero where all are
-  pub zero_four : (i : ℕ) → i + 4 ≤ length a → zero_from a i ≡ (eqb (u32_at a i) 0 && zero_from a (i + 4))
+  pub zero_four : (i : ℕ) → i + 4 ≤ length a → all_zero (drop i a) ≡ (eqb (u32_at a i) 0 && all_zero (drop (i + 4) a))
   unfolding u32_at
   zero_four i h =
       let e : i + 1 + 1 ≡ i + 2 = omega arith in
       let f : i + 2 + 1 ≡ i + 3 = omega arith in
       let g : i + 3 + 1 ≡ i + 4 = omega arith in
-      let third : zero_from a (i + 3) ≡ (eqb (get_or a (i + 3) 0) 0 && zero_from a (i + 4)) = rw (← g) (zero_step (i + 3) (omega arith)) in
-      let second : zero_from a (i + 2) ≡ (eqb (get_or a (i + 2) 0) 0 && zero_from a (i + 3)) = rw (← f) (zero_step (i + 2) (omega arith)) in
-      let first : zero_from a (i + 1) ≡ (eqb (get_or a (i + 1) 0) 0 && zero_from a (i + 2)) = rw (← e) (zero_step (i + 1) (omega arith)) in
-      zero_step i (omega arith) ∙ rw (first, second, third) (four_zero (get_or a i 0) (get_or a (i + 1) 0) (get_or a (i + 2) 0) (get_or a (i + 3) 0) (zero_from a (i + 4)))
+      let third : all_zero (drop (i + 3) a) ≡ (eqb (get_or a (i + 3) 0) 0 && all_zero (drop (i + 4) a)) = rw (← g) (zero_step (i + 3) (omega arith)) in
+      let second : all_zero (drop (i + 2) a) ≡ (eqb (get_or a (i + 2) 0) 0 && all_zero (drop (i + 3) a)) = rw (← f) (zero_step (i + 2) (omega arith)) in
+      let first : all_zero (drop (i + 1) a) ≡ (eqb (get_or a (i + 1) 0) 0 && all_zero (drop (i + 2) a)) = rw (← e) (zero_step (i + 1) (omega arith)) in
+      zero_step i (omega arith) ∙ rw (first, second, third) (four_zero (get_or a i 0) (get_or a (i + 1) 0) (get_or a (i + 2) 0) (get_or a (i + 3) 0) (all_zero (drop (i + 4) a)))
 
-  zero_word : (i : ℕ) → i + 8 ≤ length a → zero_from a i ≡ (eqb (u64_at a i) 0 && zero_from a (i + 8))
+  zero_eight : 8 ≤ length a → all_zero a ≡ (eqb (from_le_bytes w64 (take 8 a)) 0 && all_zero (drop 8 a))
   unfolding u64_at
-  zero_word i h =
-      let e : i + 4 + 4 ≡ i + 8 = omega arith in
-      let second : zero_from a (i + 4) ≡ (eqb (u32_at a (i + 4)) 0 && zero_from a (i + 8)) = rw (← e) (zero_four (i + 4) (omega arith)) in
-      zero_four i (omega arith) ∙ rw second (two_zero (u32_at a i) (u32_at a (i + 4)) (zero_from a (i + 8)))
+  zero_eight h =
+      zero_four 0 (omega arith)
+      ∙ ap (λ (t : Bool). eqb (u32_at a 0) 0 && t) (zero_four 4 (omega arith))
+      ∙ two_zero (u32_at a 0) (u32_at a 4) (all_zero (drop 8 a))
+      ∙ ap (λ (n : ℕ). eqb n 0 && all_zero (drop 8 a)) (sym (u64_read a 0))
 
-  pub zero_next_word : (i : ℕ) (z r : Bool) (v : ℕ) → i + 8 ≤ length a → v ≡ u64_at a i → r ≡ (z && eqb v 0) → all_zero a ≡ (z && zero_from a i) → all_zero a ≡ (r && zero_from a (i + 8))
-  zero_next_word i true r v h w e q = q ∙ zero_word i h ∙ rw (e, w)
-  zero_next_word i false r v h w e q = q ∙ rw e
+-- a test carried through the numbers of eight elements each, and through the elements after them
+abbrev pub zero_word : Bool → List ℕ → Bool
+zero_word t w = t && eqb (from_le_bytes w64 w) 0
 
-  -- with a test carried along: all before are zero, and what is left decides
-  pub zero_next : (i : ℕ) (z r : Bool) → i < length a → r ≡ (z && eqb (get_or a i 0) 0) → all_zero a ≡ (z && zero_from a i) → all_zero a ≡ (r && zero_from a (i + 1))
-  zero_next i true r h e q = q ∙ zero_step i h ∙ rw e
-  zero_next i false r h e q = q ∙ rw e
+abbrev pub zero_byte : Bool → ℕ → Bool
+zero_byte t b = t && eqb b 0
 
-  pub zero_last : (i : ℕ) (z : Bool) → length a ≤ i → all_zero a ≡ (z && zero_from a i) → z ≡ all_zero a
-  zero_last i true h q = sym (q ∙ zero_end i h)
-  zero_last i false h q = sym q
+zero_words : (k : ℕ) (t : Bool) (a : List ℕ) → k * 8 ≤ length a → (fold zero_word t (first_chunks 8 k a) && all_zero (drop (k * 8) a)) ≡ (t && all_zero a)
+zero_words zero t a h = refl
+zero_words (suc k) t a h =
+    let n : suc k * 8 ≡ 8 + k * 8 = omega arith in
+    let word = eqb (from_le_bytes w64 (take 8 a)) 0 in
+    rw (n, ← (drop-drop (k * 8) 8 a))
+    (zero_words k (t && word) (drop 8 a) (omega (arith, length-drop 8 a)) ∙ and_assoc t word (all_zero (drop 8 a)) ∙ ap (λ (u : Bool). t && u) (sym (zero_eight a (omega arith))))
 
--- i elements passed, all of them such as a name may have
-unfoldable pub name_from : List ℕ → ℕ → ℕ
-name_from a i = i + name_length (drop i a)
+zero_bytes : (t : Bool) (a : List ℕ) → fold zero_byte t a ≡ (t && all_zero a)
+unfolding all_zero
+zero_bytes t [] = sym (and_true t)
+zero_bytes t (b ∷ a) = zero_bytes (t && eqb b 0) a ∙ and_assoc t (eqb b 0) (all_zero a)
 
-module _ (a : List ℕ) where
-  pub name_start_lem : name_length a ≡ name_from a 0
-  unfolding name_from
-  name_start_lem = omega arith
-
-  pub name_more : (i : ℕ) → i < length a → name_byte (get_or a i 0) ≡ true → name_from a i ≡ name_from a (i + 1)
-  unfolding name_length name_from
-  name_more i h e = rw (add-one, drop-cons a i 0, e) (omega arith)
-
-  pub name_stop : (i : ℕ) → i < length a → name_byte (get_or a i 0) ≡ false → name_from a i ≡ i
-  unfolding name_length name_from
-  name_stop i h e = rw (drop-cons a i 0, e) (omega arith)
-
-  pub name_end : (i : ℕ) → length a ≤ i → name_from a i ≡ i
-  unfolding name_length name_from
-  name_end i h = rw (drop_of_length-le a h) (omega arith)
-
--- what is left to be of a name or zero from index i
-unfoldable pub name_or_zero_from : List ℕ → ℕ → Bool
-name_or_zero_from a i = name_or_zero (drop i a)
-
-module _ (a : List ℕ) where
-  pub name_or_zero_start : name_or_zero a ≡ name_or_zero_from a 0
-  unfolding name_or_zero_from
-  name_or_zero_start = refl
-
-  name_or_zero_step : (i : ℕ) → i < length a → name_or_zero_from a i ≡ ((name_byte (get_or a i 0) || eqb (get_or a i 0) 0) && name_or_zero_from a (i + 1))
-  unfolding name_or_zero name_or_zero_from
-  name_or_zero_step i h = rw (add-one, drop-cons a i 0)
-
-  -- with a test carried along: all before are, and what is left decides
-  pub name_or_zero_next : (i : ℕ) (z r : Bool) → i < length a → r ≡ (z && (name_byte (get_or a i 0) || eqb (get_or a i 0) 0)) → name_or_zero a ≡ (z && name_or_zero_from a i) → name_or_zero a ≡ (r && name_or_zero_from a (i + 1))
-  name_or_zero_next i true r h e q = q ∙ name_or_zero_step i h ∙ rw e
-  name_or_zero_next i false r h e q = q ∙ rw e
-
-  pub name_or_zero_last : (i : ℕ) (z : Bool) → length a ≤ i → name_or_zero a ≡ (z && name_or_zero_from a i) → z ≡ name_or_zero a
-  unfolding name_or_zero name_or_zero_from
-  name_or_zero_last i true h q = sym (q ∙ rw (drop_of_length-le a h))
-  name_or_zero_last i false h q = sym q
+pub zero_folds : (a : List ℕ) (x y : Bool) → x ≡ fold zero_word true (first_chunks 8 (length a / 8) a) → y ≡ fold zero_byte true (drop (length a / 8 * 8) a) → (x && y) ≡ all_zero a
+zero_folds a x y e f = rw (e, f, zero_bytes true (drop (length a / 8 * 8) a)) (zero_words (length a / 8) true a (omega arith))

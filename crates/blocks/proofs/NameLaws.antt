@@ -7,7 +7,7 @@ use native.Mathlib.Omega.{arith}
 use lib.ListN.{length, take, drop, get_or, replicate, length-append, length-replicate}
 use lib.Seq.{take_at, drop_at}
 use lib.Dec.{eqb, ltb, leb}
-use borrow.Author.Tests.{eq-eqb, ne_eqb, le-leb, lt-leb, lt-ltb, le-ltb, eqb-true, ltb-true, leb-true}
+use borrow.Author.Tests.{eq-eqb, ne_eqb, lt-ltb, eqb-true, ltb-true, leb-true}
 use Rattle.blocks.specs.Pick.{pick, all_zero}
 use Rattle.blocks.specs.Bytes.{splice}
 use Rattle.blocks.proofs.Tests.{and_left, and_right}
@@ -89,25 +89,6 @@ drop_replicate n zero = let e : n - 0 ≡ n = omega arith in rw e
 drop_replicate zero (suc k) = let e : 0 - suc k ≡ 0 = omega arith in rw e
 drop_replicate (suc n) (suc k) = let e : suc n - suc k ≡ n - k = omega arith in rw e (drop_replicate n k)
 
--- padded, by the tests of the code
-module _ (t : List ℕ) where
-  pub padded_empty : length t ≡ 0 → no_name ≡ padded t
-  unfolding padded is_text
-  padded_empty h = rw (le-ltb 0 (length t) (omega arith))
-
-  pub padded_long : 16 < length t → no_name ≡ padded t
-  unfolding padded is_text
-  padded_long h = rw (lt-ltb 0 (length t) (omega arith), lt-leb (length t) 16 h)
-
-  module _ (some : length t ≡ 0 → ⊥) (short : length t ≤ 16) (k : ℕ) (is : k ≡ name_length t) where
-    pub padded_other : (k ≡ length t → ⊥) → no_name ≡ padded t
-    unfolding padded is_text
-    padded_other h = rw (lt-ltb 0 (length t) (omega (arith, some)), le-leb (length t) 16 short, ← is, ne_eqb k (length t) h)
-
-    pub padded_text : k ≡ length t → (r : List ℕ) → r ≡ splice no_name 0 t → r ≡ padded t
-    unfolding padded is_text
-    padded_text h r e = rw (lt-ltb 0 (length t) (omega (arith, some)), le-leb (length t) 16 short, ← is, eq-eqb k (length t) h, e) (splice_start no_name t ∙ ap (λ (l : List ℕ). t ++ l) (drop_replicate 16 (length t)))
-
 -- a text of name bytes followed by zeros starts with just that many name bytes
 name_then_zeros : (t : List ℕ) (k : ℕ) → name_length t ≡ length t → name_length (t ++ replicate k 0) ≡ length t
 unfolding name_length name_byte
@@ -134,7 +115,7 @@ module _ (t : List ℕ) (is : is_text t ≡ true) where
   unfolding is_text
   text_some = ltb-true 0 (length t) (and_left (ltb 0 (length t)) (leb (length t) 16) (and_left short (eqb (name_length t) (length t)) is))
 
-  text_short : length t ≤ 16
+  pub text_short : length t ≤ 16
   unfolding is_text
   text_short = leb-true (length t) 16 (and_right (ltb 0 (length t)) (leb (length t) 16) (and_left short (eqb (name_length t) (length t)) is))
 
@@ -154,6 +135,15 @@ module _ (t : List ℕ) (is : is_text t ≡ true) where
   text_padded =
       let long : length (padded t) ≡ 16 = ap length padded_is ∙ length-append t (replicate (16 - length t) 0) ∙ omega (arith, length-replicate {A = ℕ} (16 - length t) 0, text_short) in
       rw (eq-eqb (length (padded t)) 16 long, padded_length, lt-ltb 0 (length t) text_some, padded_is, drop_at t (replicate (16 - length t) 0) (length t) refl) (zeros_zero (16 - length t))
+
+-- padded, as the code makes it: the text put over zeros, or zeros alone
+module _ (t : List ℕ) where
+  pub padded_put : is_text t ≡ true → (r : List ℕ) → r ≡ splice no_name 0 t → r ≡ padded t
+  padded_put is r e = rw (e, padded_is t is) (splice_start no_name t ∙ ap (λ (l : List ℕ). t ++ l) (drop_replicate 16 (length t)))
+
+  pub padded_none : is_text t ≡ false → no_name ≡ padded t
+  unfolding padded
+  padded_none no = rw no
 
 -- a padded text is a name exactly where the text is 1 to 16 name bytes
 pub padded_name : (t : List ℕ) → is_name (padded t) ≡ is_text t

@@ -6,7 +6,7 @@ ghost use Rattle.blocks.specs.Descriptor.{head_size, table_count, cost, cost_of,
 
 use crate::bytes;
 use crate::numbers::Physical;
-use crate::sizes::{BLOCK_SIZE, HEAD_SIZE, NAME_SIZE, NAME_START, REVISION_START, TABLE_SIZE};
+use crate::sizes::{HEAD_SIZE, NAME_SIZE, NAME_START, REVISION_START, TABLE_SIZE};
 
 // What a format takes.
 #[derive(Clone, Copy)]
@@ -29,40 +29,46 @@ pub struct Descriptor {
 }
 
 // n, the table blocks of a volume.
+#[tactic(auto, unfolding(crate::specs::Descriptor::table_count))]
 pub fn table_count(volume: u32) -> u32
     ensures value { result ≡ table_count volume }
     ensures upper_bound { result ≤ 33554432 }
 {
-    volume / TABLE_SIZE + (volume % TABLE_SIZE + (TABLE_SIZE - 1)) / TABLE_SIZE
+    volume.div_ceil(TABLE_SIZE)
 }
 
 // c, the blocks that opening a region takes.
+#[tactic(auto, using(crate::proofs::Tests::tests), unfolding(crate::specs::Descriptor::cost))]
 pub fn opening_cost(layout: u32, volume: u32) -> u32
     ensures { result ≡ cost layout volume }
 {
     if layout == 1 {
-        return 1 + table_count(volume);
+        1 + table_count(volume)
+    } else {
+        1
     }
-    1
 }
 
 impl Descriptor {
+    // c of the descriptor, the blocks that opening a region of its volume takes.
+    pub fn cost(self) -> u32
+        ensures { result ≡ cost_of self }
+    {
+        opening_cost(self.layout, self.volume)
+    }
+
     // The descriptor under another name.
     pub fn renamed(self, name: [u8; NAME_SIZE]) -> Descriptor
         ensures { result ≡ renamed_of self name }
     {
-        let mut d = self;
-        d.name = name;
-        d
+        Descriptor { name, ..self }
     }
 
     // The descriptor with another next.
     pub fn linked(self, next: Physical) -> Descriptor
         ensures { result ≡ linked_of self next }
     {
-        let mut d = self;
-        d.next = next;
-        d
+        Descriptor { next, ..self }
     }
 
     // The descriptor with `k` more blocks in its region.
@@ -70,66 +76,57 @@ impl Descriptor {
         requires { self.beta.0 + k < 2 ^ 32 }
         ensures { result ≡ extended_of self k }
     {
-        let mut d = self;
-        let end = Physical(self.beta.0 + k);
-        d.beta = end;
-        d
+        let beta = Physical(self.beta.0 + k);
+        Descriptor { beta, ..self }
     }
 
-    // The descriptor of a region that opens at this one's beta. It is made field by field: of a descriptor copied whole the compiled code reads layout and L as
-    // one number, which must wait for the two stores of a caller that has just made it.
+    // The descriptor of a region that opens at this one's beta.
     pub fn reopened(self) -> Descriptor
         requires { self.beta.0 + cost_of self < 2 ^ 32 }
         ensures { result ≡ reopened_of self }
     {
-        let start = self.beta;
-        let end = Physical(start.0 + opening_cost(self.layout, self.volume));
-        let next = self.next;
-        let name = self.name;
+        let beta = Physical(self.beta.0 + self.cost());
         Descriptor {
-            layout: self.layout,
-            volume: self.volume,
-            alpha: start,
-            beta: end,
-            next,
-            name,
+            alpha: self.beta,
+            beta,
+            ..self
         }
     }
 }
 
 // The sixteen bytes of the name in block `p`.
+#[tactic(auto, unfolding(crate::specs::Descriptor::descriptor_at))]
 pub fn name_at(card: &[u8], p: Physical) -> [u8; NAME_SIZE]
     requires { block_size * p.0 + block_size ≤ length card.now }
     ensures { result ≡ (descriptor_at card.now p.0).name }
 {
-    let mut name = [0u8; NAME_SIZE];
-    bytes::get_bytes(card, BLOCK_SIZE * (p.0 as usize) + NAME_START, &mut name);
-    name
+    bytes::array_at(card, p.start() + NAME_START)
 }
 
-// The descriptor in block `p`.
+// The descriptor in block `p`. Each field has its place on a line of its own: a loop over places would be no plainer, here and in `put_head`.
+#[tactic(auto, unfolding(crate::specs::Descriptor::descriptor_at))]
 pub fn read_descriptor(card: &[u8], p: Physical) -> Descriptor
     requires { block_size * p.0 + block_size ≤ length card.now }
     ensures { result ≡ descriptor_at card.now p.0 }
 {
-    let at = BLOCK_SIZE * (p.0 as usize);
-    let name = name_at(card, p);
+    let start = p.start();
     Descriptor {
-        layout: bytes::get_u32(card, at + 4),
-        volume: bytes::get_u32(card, at + 8),
-        alpha: Physical(bytes::get_u32(card, at + 12)),
-        beta: Physical(bytes::get_u32(card, at + 16)),
-        next: Physical(bytes::get_u32(card, at + 20)),
-        name,
+        layout: bytes::get_u32(card, start + 4),
+        volume: bytes::get_u32(card, start + 8),
+        alpha: Physical(bytes::get_u32(card, start + 12)),
+        beta: Physical(bytes::get_u32(card, start + 16)),
+        next: Physical(bytes::get_u32(card, start + 20)),
+        name: name_at(card, p),
     }
 }
 
 // The revision of the descriptor in block `p`.
+#[tactic(auto, unfolding(crate::specs::Descriptor::revision_at))]
 pub fn revision_at(card: &[u8], p: Physical) -> u32
     requires { block_size * p.0 + block_size ≤ length card.now }
     ensures { result ≡ revision_at card.now p.0 }
 {
-    bytes::get_u32(card, BLOCK_SIZE * (p.0 as usize) + REVISION_START)
+    bytes::get_u32(card, p.start() + REVISION_START)
 }
 
 // Stores sixteen bytes at `at`.
@@ -147,14 +144,13 @@ pub fn put_head(block: &mut [u8], d: Descriptor)
     ensures block_after { block.new ≡ splice block.old 0 (head_bytes d) }
     ensures d_len { length (head_bytes d) ≡ head_size }
 {
-    let name = d.name;
     bytes::put_bytes(block, 0, b"snap");
     bytes::put_u32(block, 4, d.layout);
     bytes::put_u32(block, 8, d.volume);
     bytes::put_u32(block, 12, d.alpha.0);
     bytes::put_u32(block, 16, d.beta.0);
     bytes::put_u32(block, 20, d.next.0);
-    put_name(block, NAME_START, name);
+    put_name(block, NAME_START, d.name);
 }
 
 // The first 40 bytes of block `p` are now the mark and the descriptor.
@@ -163,7 +159,6 @@ pub fn put_descriptor(card: &mut [u8], p: Physical, d: Descriptor)
     ensures card_after { card.new ≡ store_block card.old p.0 (descriptor_block d (tail_at card.old p.0)) }
     ensures d_len { length (head_bytes d) ≡ head_size }
 {
-    let at = BLOCK_SIZE * (p.0 as usize);
-    let end = at + HEAD_SIZE;
-    put_head(&mut card[at..end], d);
+    let start = p.start();
+    put_head(&mut card[start..start + HEAD_SIZE], d);
 }

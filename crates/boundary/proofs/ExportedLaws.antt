@@ -1,27 +1,26 @@
--- Laws of names and targets as a caller gives them, and of the padding of a name.
-use mathlib.Core.Path.{◌≡◌, sym, ◌∙◌}
-use mathlib.Core.Bool.{Bool, true, false, not}
+-- Laws of names as a caller gives them, of the padding of a name, and of the name that a visit stores.
+use mathlib.Core.Path.{◌≡◌, refl, ap}
+use mathlib.Core.Bool.{Bool, true, false}
 use mathlib.Core.List.{List}
 use Prim.Native.Nat.{ℕ}
-use native.Mathlib.Omega.{arith}
 use lib.ListN.{length}
-use lib.Seq.{take_all}
-use borrow.Author.Tests.{eq-eqb, ne_eqb, not-true, not-false}
-use Rattle.blocks.specs.Bytes.{part, splice}
+use borrow.Author.Tests.{eq-eqb, ne_eqb}
+use Rattle.std.specs.Prelude.{Option, Some, None, Result, Ok, Err, MatchResult, ⊤, ◌≢◌, is_ok, unwrap_or}
+use Rattle.std.specs.Option.{option_flatten}
+use Rattle.std.specs.Result.{result_ok, result_unwrap_or}
+use Rattle.std.specs.Array.{IsWholeChunk}
 use Rattle.blocks.specs.Name.{is_name, is_text, padded, no_name}
 use Rattle.blocks.proofs.NameLaws.{padded_name}
-use Rattle.blocks.proofs.ByteLaws.{splice_whole}
+use Rattle.calls.specs.declared.answer.Refusal.{Refusal}
+use Rattle.calls.specs.Call.{answered}
+use Rattle.calls.specs.Effect.{visited_as}
 use Rattle.boundary.specs.Exported.{name_in, Padding, padding_of}
 
--- the name in lent bytes, by the test of the code
-module _ (lent : List ℕ) where
-  pub name_other : (length lent ≡ 16 → ⊥) → no_name ≡ name_in lent
-  unfolding name_in
-  name_other h = rw (ne_eqb (length lent) 16 h)
-
-  pub name_whole : length lent ≡ 16 → (r : List ℕ) → r ≡ part lent 0 16 → r ≡ name_in lent
-  unfolding name_in
-  name_whole h r e = rw (eq-eqb (length lent) 16 h, e) (take_all 16 lent (omega arith))
+-- the name in lent bytes, by whether they are sixteen
+pub name_taken : {E : Type 0} (lent : List ℕ) (r : Result (List ℕ) E) → MatchResult r (λ name. IsWholeChunk lent name 16) (λ e. length lent ≢ 16) → result_unwrap_or r no_name ≡ name_in lent
+unfolding name_in
+name_taken lent (Ok name) h = rw (eq-eqb (length lent) 16 h.long, h.same)
+name_taken lent (Err e) h = rw (ne_eqb (length lent) 16 h)
 
 -- the padding of a name, by the tests of the code
 module _ (text name : List ℕ) where
@@ -36,10 +35,18 @@ module _ (text name : List ℕ) where
     text_tested : t ≡ is_text text
     text_tested = rw (← padded_name text, ← is) tested
 
-    pub padding_none : not t ≡ true → left ≡ padding_of text name
+    pub padding_none : t ≡ false → left ≡ padding_of text name
     unfolding padding_of
-    padding_none h = rw (eq-eqb (length name) 16 long, ← text_tested, not-true t h)
+    padding_none h = rw (eq-eqb (length name) 16 long, ← text_tested, h)
 
-    pub padding_made : not t ≡ false → (name' : List ℕ) → name' ≡ splice name 0 p → length p ≡ 16 → record { number = 0; name = name' } ≡ padding_of text name
+    pub padding_made : t ≡ true → record { number = 0; name = p } ≡ padding_of text name
     unfolding padding_of
-    padding_made h name' put size = rw (eq-eqb (length name) 16 long, ← text_tested, not-false t h, put, splice_whole name p (size ∙ sym long), is)
+    padding_made h = rw (eq-eqb (length name) 16 long, ← text_tested, h, is)
+
+-- the name that a visit stores, sixteen zeros for none
+pub visit_stored : (Q : Option (List ℕ) → Type 0) (r : Result (Option (List ℕ)) Refusal) (called : Result ⊤ Refusal) → is_ok called ≡ is_ok r → MatchResult r Q (λ e. called ≡ Err e)
+    → record { answer = answered called; name = unwrap_or (option_flatten (result_ok r)) no_name } ≡ visited_as r
+visit_stored Q (Ok (Some name)) (Ok u) v h = refl
+visit_stored Q (Ok None) (Ok u) v h = refl
+visit_stored Q (Ok name) (Err e) v h = cc
+visit_stored Q (Err e) called v h = ap (λ (x : Result ⊤ Refusal). record { answer = answered x; name = no_name }) h

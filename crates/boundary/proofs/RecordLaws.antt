@@ -1,29 +1,26 @@
 -- Laws of records as bytes: a record put field by field, the records of the regions, a listing into bytes.
 use mathlib.Core.Path.{◌≡◌, refl, sym, ap, ◌∙◌}
-use mathlib.Core.Bool.{Bool, true, false}
+use mathlib.Core.Bool.{false}
 use mathlib.Core.List.{List, [], ◌∷◌, ◌++◌, append_assoc, append-nil}
-use Prim.Native.Nat.{ℕ, zero, suc, ◌+◌, ◌*◌, ◌/◌, ◌≤◌, ◌<◌}
+use Prim.Native.Nat.{ℕ, zero, suc, ◌+◌, ◌*◌, ◌/◌, ◌≤◌}
 use native.Mathlib.Numerals.{add-one}
 use native.Mathlib.Omega.{arith}
 use lib.ListN.{length, take, drop, get_or, length-append, length-replicate}
 use lib.Seq.{take-suc, take-length}
-use Rattle.blocks.specs.Pick.{pick}
+use lib.Dec.{eqb}
 use Rattle.blocks.specs.Bytes.{le32, splice}
 use Rattle.blocks.specs.Descriptor.{no_descriptor, descriptor_at}
-use Rattle.chains.specs.Chain.{starts_of}
 use Rattle.blocks.specs.declared.descriptor.Descriptor.{Descriptor}
 use Rattle.blocks.proofs.ByteLaws.{put_next, splice_join, splice_start, length_le32, length_part}
 use Rattle.calls.specs.declared.answer.Record.{Record}
-use Rattle.calls.specs.declared.list.Filling.{Filling}
-use Rattle.calls.specs.Call.{Listing}
-use Rattle.calls.specs.Parts.{descriptors_of}
+use Rattle.calls.specs.Listing.{record_by}
+use Rattle.calls.specs.Call.{Listing, answer, accepted}
+use Rattle.calls.specs.Parts.{descriptors_of, SoundCard}
 use Rattle.calls.specs.Meaning.{answer_of}
 use Rattle.calls.specs.Effect.{no_record, record_of, listed}
-use Rattle.calls.specs.Step.{is_accepted}
-use Rattle.calls.specs.Listing.{filling_of, filling_by, record_by, ListReady}
 use Rattle.calls.proofs.StepLaws.{step_answer}
-use Rattle.calls.proofs.ListingLaws.{listing_told, starts_listed, list_room, list_inside, list_record, ready_by}
-use Rattle.boundary.specs.RecordBytes.{record_bytes, records_bytes, room_in, listing_of, filled_bytes_to, filled_bytes}
+use Rattle.calls.proofs.ListingLaws.{sound_count, sound_inside, sound_record}
+use Rattle.boundary.specs.RecordBytes.{record_bytes, records_bytes, room_in, listing_of, filled_bytes_to}
 
 pub record_length : (r : Record) → length r.name ≡ 16 → length (record_bytes r) ≡ 28
 unfolding record_bytes le32
@@ -46,7 +43,7 @@ record_put c₀ c₁ c₂ c₃ c₄ at r h n e₁ e₂ e₃ e₄ =
     let f₃ = put_next c₀ at x₂ (at + 20) (le32 r.beta.0) f₂ e₃ (omega (arith, l₂)) (omega (arith, length_le32 r.beta.0)) in
     put_next c₀ at x₃ (at + 24) (le32 r.next.0) f₃ e₄ (omega (arith, l₃)) (omega (arith, length_le32 r.next.0))
 
--- filling none, one more and all
+-- filling none and one more
 module _ (c starts b : List ℕ) (n : ℕ) where
   pub bytes_none : b ≡ filled_bytes_to c starts b n 0
   unfolding filled_bytes_to
@@ -55,10 +52,6 @@ module _ (c starts b : List ℕ) (n : ℕ) where
   pub bytes_more : (i : ℕ) (x y : List ℕ) (r : Record) → r ≡ record_by c starts n i → x ≡ filled_bytes_to c starts b n i → y ≡ splice x (28 * i) (record_bytes r) → y ≡ filled_bytes_to c starts b n (i + 1)
   unfolding filled_bytes_to
   bytes_more i x y r is e f = rw (add-one, f, e, is)
-
-  pub bytes_all : (i : ℕ) (x : List ℕ) → x ≡ filled_bytes_to c starts b n i → i ≤ n → n ≤ i → x ≡ filled_bytes c starts b n
-  unfolding filled_bytes
-  bytes_all i x e h k = let q : i ≡ n = omega arith in e ∙ rw q
 
 -- one more record after those of a list of descriptors
 records_more : (ds : List Descriptor) (d : Descriptor) → records_bytes (listed (ds ++ (d ∷ [])) []) ≡ records_bytes (listed ds []) ++ record_bytes (record_of d)
@@ -72,21 +65,24 @@ name_size_lem : (c : List ℕ) (p : ℕ) → 512 * p + 512 ≤ length c → leng
 unfolding descriptor_at
 name_size_lem c p h = length_part c (512 * p + 24) 16 (omega arith)
 
-module _ (c starts : List ℕ) (ds : List Descriptor) (same : (k : ℕ) → k < length ds → record_by c starts (length ds) k ≡ record_of (get_or ds k no_descriptor))
-    (inside : (k : ℕ) → k < length ds → 512 * get_or starts k 0 + 512 ≤ length c) (b : List ℕ) (room : 28 * length ds ≤ length b) where
+-- the records of the regions of a card with a sound chain
+module _ (c starts : List ℕ) (n : ℕ) (s : SoundCard c n starts) (b : List ℕ) (room : 28 * n ≤ length b) where
+  abbrev ds : List Descriptor
+  ds = descriptors_of c
+
   abbrev first : ℕ → List ℕ
   first i = records_bytes (listed (take i ds) [])
 
-  bytes_from : (i : ℕ) → i ≤ length ds → (filled_bytes_to c starts b (length ds) i ≡ splice b 0 (first i)) × (length (first i) ≡ 28 * i)
+  bytes_from : (i : ℕ) → i ≤ n → (filled_bytes_to c starts b n i ≡ splice b 0 (first i)) × (length (first i) ≡ 28 * i)
   unfolding record_by filled_bytes_to records_bytes listed
   bytes_from zero h = (sym (splice_start b []), refl)
   bytes_from (suc i) h =
       let d : Descriptor = get_or ds i no_descriptor in
-      let is = same i (omega arith) in
-      let size : length (record_bytes (record_of d)) ≡ 28 = record_length (record_of d) (ap (λ (x : Record). length x.name) (sym is) ∙ name_size_lem c (get_or starts i 0) (inside i (omega arith))) in
-      let e : first (suc i) ≡ first i ++ record_bytes (record_of d) = ap (λ (l : List Descriptor). records_bytes (listed l [])) (take-suc ds i no_descriptor (omega arith)) ∙ records_more (take i ds) d in
+      let is = sound_record c starts n s i (omega arith) in
+      let size : length (record_bytes (record_of d)) ≡ 28 = record_length (record_of d) (ap (λ (x : Record). length x.name) (sym is) ∙ name_size_lem c (get_or starts i 0) (sound_inside c starts n s i (omega arith)).1) in
+      let e : first (suc i) ≡ first i ++ record_bytes (record_of d) = ap (λ (l : List Descriptor). records_bytes (listed l [])) (take-suc ds i no_descriptor (omega (arith, sound_count c starts n s))) ∙ records_more (take i ds) d in
       let before = bytes_from i (omega arith) in (
-        ap (λ (x : Record). splice (filled_bytes_to c starts b (length ds) i) (28 * i) (record_bytes x)) is
+        ap (λ (x : Record). splice (filled_bytes_to c starts b n i) (28 * i) (record_bytes x)) is
             ∙ ap (λ (l : List ℕ). splice l (28 * i) (record_bytes (record_of d))) before.0
             ∙ splice_join b 0 (first i) (28 * i) (record_bytes (record_of d)) (omega (arith, before.1)) (omega (arith, size))
             ∙ ap (splice b 0) (sym e),
@@ -94,42 +90,26 @@ module _ (c starts : List ℕ) (ds : List Descriptor) (same : (k : ℕ) → k < 
       )
 
   -- all of them, and the bytes after them
-  bytes_listed : filled_bytes c starts b (length ds) ≡ records_bytes (listed ds []) ++ drop (28 * length ds) b
+  bytes_listed : filled_bytes_to c starts b n n ≡ records_bytes (listed ds []) ++ drop (28 * length ds) b
   bytes_listed =
-      let all = bytes_from (length ds) (omega arith) in
-      sym (bytes_all c starts b (length ds) (length ds) _ refl (omega arith) (omega arith))
-      ∙ all.0
-      ∙ splice_start b (first (length ds))
-      ∙ ap (λ (n : ℕ). first (length ds) ++ drop n b) all.1
-      ∙ ap (λ (l : List Descriptor). records_bytes (listed l []) ++ drop (28 * length ds) b) (take-length ds)
+      let all = bytes_from n (omega arith) in
+      let whole : take n ds ≡ ds = ap (λ (k : ℕ). take k ds) (sound_count c starts n s) ∙ take-length ds in
+      all.0
+      ∙ splice_start b (first n)
+      ∙ ap (λ (k : ℕ). first n ++ drop k b) (all.1 ∙ ap (λ (k : ℕ). 28 * k) (sound_count c starts n s))
+      ∙ ap (λ (l : List Descriptor). records_bytes (listed l []) ++ drop (28 * length ds) b) whole
 
 pub room_size : (b : List ℕ) → length (room_in b) ≡ length b / 28
 unfolding room_in
 room_size b = length-replicate (length b / 28) no_record
 
--- a listing into bytes that fills what the walk found room for is that of the definition
-listing_by : (c starts b : List ℕ) (t : Bool) → is_accepted (answer_of (Listing (room_in b)) c) ≡ t → (t ≡ true → starts ≡ starts_of (descriptors_of c))
-    → record { answer = answer_of (Listing (room_in b)) c; bytes = filled_bytes c starts b (pick t (length (descriptors_of c)) 0) } ≡ listing_of c b
-unfolding listing_of
-listing_by c starts b true e is =
-    let fits : 28 * length (descriptors_of c) ≤ length b = omega (arith, list_room c (room_in b) e, room_size b) in
-    rw (step_answer (Listing (room_in b)) c, e, is refl, bytes_listed c (starts_of (descriptors_of c)) (descriptors_of c) (list_record c (room_in b) e) (list_inside c (room_in b) e) b fits)
-listing_by c starts b false e is = rw (step_answer (Listing (room_in b)) c, e, ← (bytes_all c starts b 0 0 b (bytes_none c starts b 0) (omega arith) (omega arith)))
+-- a listing into bytes that is refused, and one that fills a record for each region
+module _ (c b : List ℕ) where
+  pub listing_barred : (n p : ℕ) → answer_of (Listing (room_in b)) c ≡ answer n p → eqb n 0 ≡ false → record { answer = answer n p; bytes = b } ≡ listing_of c b
+  unfolding listing_of
+  listing_barred n p e z = rw (step_answer (Listing (room_in b)) c, e, z)
 
-module _ (c : List ℕ) (sound : Bool) (place count : ℕ) (starts : List ℕ) (ready : ListReady c sound place count starts) (b : List ℕ) (f : Filling) (by : f ≡ filling_by c sound place count (length b / 28)) where
-  told : f ≡ filling_of c (room_in b)
-  told = listing_told c sound place count starts ready (room_in b) (length b / 28) (room_size b) f by
-
-  starts_are : is_accepted (answer_of (Listing (room_in b)) c) ≡ true → starts ≡ starts_of (descriptors_of c)
-  starts_are = starts_listed c sound place count starts ready (room_in b) (length b / 28) (room_size b) f by
-
-  -- what is planned to be filled is there
-  pub filling_fits : (28 * f.count ≤ length b) × (f.count < length starts) × ((j : ℕ) → j < f.count → 512 * get_or starts j 0 + 512 ≤ length c)
-  unfolding filling_of
-  filling_fits =
-      let there = ready_by c starts (room_in b) (is_accepted (answer_of (Listing (room_in b)) c)) refl starts_are (omega (arith, ready.long)) in
-      rw told (omega (arith, there.0, room_size b), there.1, there.2)
-
-  pub listing_done : (b' : List ℕ) → b' ≡ filled_bytes c starts b f.count → record { answer = f.answer; bytes = b' } ≡ listing_of c b
-  unfolding filling_of
-  listing_done b' e = rw (e, told) (listing_by c starts b (is_accepted (answer_of (Listing (room_in b)) c)) refl starts_are)
+  pub listing_filled : answer_of (Listing (room_in b)) c ≡ accepted → (starts : List ℕ) (n : ℕ) → SoundCard c n starts → 28 * n ≤ length b → (x : List ℕ) → x ≡ filled_bytes_to c starts b n n
+      → record { answer = accepted; bytes = x } ≡ listing_of c b
+  unfolding listing_of
+  listing_filled e starts n s room x is = rw (step_answer (Listing (room_in b)) c, e, is, bytes_listed c starts n s b room)

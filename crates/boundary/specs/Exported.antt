@@ -2,10 +2,8 @@
 use Rattle.std.specs.Prelude.{◌&&◌, List, ℕ, length, eqb}
 use Rattle.blocks.specs.Pick.{pick}
 use Rattle.blocks.specs.Name.{name_size, no_name, is_text, padded}
-use Rattle.calls.specs.declared.answer.Target.{Target}
-use Rattle.calls.specs.declared.answer.Target.TheVariants.{Active, Snapshot}
-use Rattle.calls.specs.declared.answer.Visited.{Visited}
-use Rattle.calls.specs.Call.{Lent, answer}
+use Rattle.calls.specs.Call.{Target, Active, Snapshot, Lent, answer}
+use Rattle.calls.specs.Effect.{Visited}
 use Rattle.calls.specs.Step.{Done, done}
 
 -- what a call does, given the number that is returned, the place that is stored, and what is lent and the card at exit

@@ -4,8 +4,7 @@ use Rattle.std.specs.Prelude.{◌≡◌, List, [], ◌∷◌, ◌++◌, ℕ, suc
 use Rattle.blocks.specs.Name.{no_name, padded}
 use Rattle.blocks.specs.Descriptor.{tail_size, physical, descriptor_block}
 use Rattle.calls.specs.declared.answer.Record.{Record}
-use Rattle.calls.specs.declared.answer.Target.TheVariants.{Active, Snapshot}
-use Rattle.calls.specs.Call.{answer, accepted}
+use Rattle.calls.specs.Call.{Active, Snapshot, answer, accepted}
 use Rattle.boundary.specs.Exported.{name_in, target_in, padding_of}
 use Rattle.boundary.specs.RecordBytes.{record_bytes, record_in, listing_of}
 

@@ -1,8 +1,8 @@
 // Names and targets as a caller of the exported functions gives them.
 ghost use Rattle.std.specs.Prelude.{◌≡◌};
+ghost use Rattle.calls.specs.Call.{Snapshot, target_as, name_as};
 ghost use Rattle.boundary.specs.Exported.{name_in, target_in};
 
-use blocks::bytes;
 use blocks::sizes::NAME_SIZE;
 use calls::answer::Target;
 
@@ -10,20 +10,18 @@ use calls::answer::Target;
 pub fn name_in(lent: &[u8]) -> [u8; NAME_SIZE]
     ensures { result ≡ name_in lent.now }
 {
-    let mut name = [0u8; NAME_SIZE];
-    if lent.len() != NAME_SIZE {
-        return name;
-    }
-    bytes::get_bytes(lent, 0, &mut name);
-    name
+    <[u8; NAME_SIZE]>::try_from(lent).unwrap_or([0; NAME_SIZE])
 }
 
-// The active store at 0, else a snapshot.
-pub fn target_in(snapshot: u32) -> Target
-    ensures { result ≡ target_in snapshot }
+// The active store at 0, else the snapshot of the name.
+#[tactic(auto, unfolding(crate::specs::Exported::target_in))]
+pub fn target_in(snapshot: u32, name: &[u8]) -> Target
+    ensures kind { target_as result ≡ target_in snapshot }
+    ensures name { target_as result ≡ Snapshot → name_as result ≡ name_in name.now }
 {
     if snapshot == 0 {
-        return Target::Active;
+        Target::Active
+    } else {
+        Target::Snapshot(name_in(name))
     }
-    Target::Snapshot
 }

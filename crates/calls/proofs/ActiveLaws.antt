@@ -21,8 +21,7 @@ use Rattle.links.proofs.RelinkedLaws.{linked_next}
 use Rattle.links.proofs.MemberLaws.{member_from, member_form, member_fresh, member_inside, member_long, member_rise, member_end, member_layout, member_volume, member_name, member_reserved, member_phi}
 use Rattle.entries.proofs.LocalLaws.{Region}
 use Rattle.entries.proofs.TableLaws.{own_inside, few_tables}
-use Rattle.calls.specs.declared.answer.Target.{Target}
-use Rattle.calls.specs.declared.answer.Target.TheVariants.{Active, Snapshot}
+use Rattle.calls.specs.Call.{Target, Active, Snapshot}
 use Rattle.calls.specs.Parts.{snapshots_of, is_snapshot, target_of, area_bad, descriptors_of}
 use Rattle.calls.proofs.CardLaws.{snapshots_at, active_split, card_found, card_active_through}
 use Rattle.entries.specs.Through.{Through}

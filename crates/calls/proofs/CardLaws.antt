@@ -4,7 +4,7 @@ use mathlib.Core.Bool.{Bool, true, false, not, ◌||◌}
 use mathlib.Core.List.{List, [], ◌∷◌, ◌++◌, append_assoc}
 use Prim.Native.Nat.{ℕ, suc, ◌+◌, ◌*◌, ◌-◌, ◌%◌, ◌≤◌, ◌<◌}
 use native.Mathlib.Omega.{arith}
-use lib.ListN.{length, take, get_or}
+use lib.ListN.{length, take, get_or, length-take}
 use lib.Seq.{length-take-le, get_or-take, take-length}
 use lib.Dec.{eqb, ltb}
 use borrow.Author.Tests.{eqb-true, ltb-false, not-false}
@@ -12,7 +12,7 @@ use Rattle.blocks.specs.Bytes.{block_count}
 use Rattle.blocks.specs.Descriptor.{physical, no_descriptor, descriptor_at}
 use Rattle.chains.specs.Chain.{Chain, Unsound, Sound, chain, chain_sound, chain_place, descriptors, descriptors_at, starts_of, Regions, regions_of, walk_of, active_of}
 use Rattle.blocks.specs.declared.descriptor.Descriptor.{Descriptor}
-use Rattle.chains.specs.declared.chain.Walk.{Walk}
+use Rattle.chains.specs.Chain.{Walk}
 use Rattle.links.proofs.LinkedLaws.{Linked, chain_linked, regions_sound, walk_regions, starts_take, linked_some, chain_few, at_alpha, active_at}
 use Rattle.entries.specs.Through.{Through}
 use Rattle.entries.proofs.RegionLaws.{through_at, through_rising}
@@ -181,6 +181,12 @@ module _ (c : List ℕ) (r : Regions) (is : r ≡ regions_of (chain c)) where
 -- what is asked to look up an index in the chain
 pub card_ready : (c : List ℕ) (count : ℕ) (starts : List ℕ) → SoundCard c count starts → (0 < count) × (count ≤ length starts) × ((j : ℕ) → j < count → 512 * get_or starts j 0 + 512 ≤ length c)
 card_ready c count starts s = let w = sym s.regions in (card_some c _ w s.area refl, card_long c _ w s.area refl, λ j h. card_inside c _ w s.area refl j h)
+
+-- and of some of them, from the first on
+pub card_first : (c : List ℕ) (count : ℕ) (starts : List ℕ) → SoundCard c count starts → (k : ℕ) → k ≤ count → (j : ℕ) → j < length (take k starts) → 512 * get_or (take k starts) j 0 + 512 ≤ length c
+card_first c count starts s k h j l =
+    let below : j < k = omega (arith, l, length-take k starts) in
+    rw (get_or-take k starts j 0 below) ((card_ready c count starts s).2 j (omega arith))
 
 -- places for the most descriptors are enough for a walk, and few where the links end within few descriptors
 pub enough_all : (c places : List ℕ) → length places ≡ 257 → Enough c places

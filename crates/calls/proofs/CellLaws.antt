@@ -19,8 +19,7 @@ use Rattle.links.proofs.SharedLaws.{Below}
 use Rattle.links.proofs.LinkedLaws.{active_at}
 use Rattle.entries.specs.Entry.{find}
 use Rattle.entries.specs.Rules.{entry_of, Rules}
-use Rattle.entries.specs.declared.find.Found.{Found}
-use Rattle.entries.specs.declared.find.Found.TheVariants.{Misplaced, Entry}
+use Rattle.entries.specs.Found.{Found, Misplaced, Entry}
 use Rattle.entries.proofs.EntryLaws.{find_placed, placed_below}
 use Rattle.entries.proofs.LocalLaws.{Region}
 use Rattle.entries.proofs.FoundLaws.{rules_find}

@@ -1,31 +1,33 @@
 -- Laws of the check of a card, as the code asks them.
 use mathlib.Core.Path.{◌≡◌, refl, sym, ap, ◌∙◌}
-use mathlib.Core.Bool.{true, false, not}
+use mathlib.Core.Bool.{true, not}
 use mathlib.Core.List.{List, [], ◌∷◌}
 use Prim.Native.Nat.{ℕ, zero, suc, ◌+◌, ◌*◌, ◌-◌, ◌≤◌, ◌<◌}
 use native.Mathlib.Numerals.{add-one}
 use native.Mathlib.Omega.{arith}
-use lib.ListN.{length, drop, get_or, drop_of_length-le}
+use lib.ListN.{length, drop, take, get_or, drop_of_length-le}
+use Rattle.std.proofs.lemmas.List.{length-take, get_or-take}
 use lib.Seq.{drop-cons}
 use Rattle.blocks.specs.Pick.{pick}
 use Rattle.blocks.specs.Descriptor.{physical, no_descriptor, cost_of, descriptor_at}
-use Rattle.chains.specs.Chain.{chain, descriptors, Regions, regions_of, walk_of, active_of}
+use Rattle.chains.specs.Chain.{chain, descriptors, Regions, walk_of, active_of}
 use Rattle.blocks.specs.declared.numbers.Physical.{Physical}
 use Rattle.blocks.specs.declared.descriptor.Descriptor.{Descriptor}
-use Rattle.chains.specs.declared.chain.Walk.{Walk}
-use Rattle.entries.specs.Through.{Through}
+use Rattle.chains.specs.Chain.{Walk}
+use Rattle.entries.specs.Through.{SoundChain, Through}
 use Rattle.entries.specs.Naming.{namings, check_one}
-use Rattle.entries.specs.declared.check.Verdict.{Verdict}
-use Rattle.entries.specs.declared.check.Verdict.TheVariants.{Passed, Fault}
+use Rattle.entries.specs.Found.{Verdict, Passed, Fault}
 use Rattle.entries.specs.Marks.{openings_flagged, next_turn, next_flags, Marks, Taken, taking_all, CheckReady}
 use Rattle.entries.proofs.CheckLaws.{taking_length}
 use Rattle.entries.proofs.OpeningLaws.{openings_length, turn_length, openings_ask, openings_marked, turn_marked, one_verdict, one_marked}
 use Rattle.calls.specs.Call.{Check, answer, accepted}
-use Rattle.calls.specs.Parts.{area_bad, SoundCard}
+use Rattle.calls.specs.Parts.{SoundCard}
 use Rattle.calls.specs.Check.{or_else, check_all, check_card, is_fault, fault_holder, taking_chain}
 use Rattle.calls.specs.Ladder.{admission, first_row, check_rows}
 use Rattle.calls.specs.Meaning.{rows_of, answer_of}
-use Rattle.calls.proofs.CardLaws.{card_few, card_some, card_count, card_at, card_active, card_through}
+use Rattle.entries.proofs.MarkLaws.{openings_taken, turn_taken}
+use Rattle.entries.proofs.RegionLaws.{through_count, through_at}
+use Rattle.calls.proofs.ChainLaws.{chain_some, chain_active, chain_through}
 use Rattle.calls.proofs.RowLaws.{admitted, row_given, last_passed, chain_given, Reached, reached, card_admitted}
 use Rattle.calls.specs.declared.answer.Answer.{Answer}
 
@@ -35,59 +37,64 @@ unfolding is_fault or_else
 settled one later Passed w q f = rw q (f q)
 settled one later (Fault h) w q f = rw q
 
-module _ (c starts : List ℕ) (count : ℕ) (active : Descriptor) (area : area_bad c ≡ false) (whole : regions_of (chain c) ≡ record { sound = true; place = physical 0; active = active; count = count; starts = starts }) where
+module _ (c starts : List ℕ) (s : SoundChain c starts) where
   abbrev ds : List Descriptor
   ds = descriptors (chain c)
 
-  abbrev regions : Regions
-  regions = record { sound = true; place = physical 0; active = active; count = count; starts = starts }
+  abbrev count : ℕ
+  count = length starts - 1
 
-  pub chain_few : count ≤ 256
-  chain_few = card_few c regions (sym whole) area refl
-
-  pub chain_through : (k : ℕ) → k < count → (d : Descriptor) → d ≡ descriptor_at c (get_or starts k 0) → Through c starts count d
-  chain_through k h d e = card_through c regions (sym whole) area refl k h d e
+  abbrev active : Descriptor
+  active = active_of ds
 
   -- the active descriptor, whose opening is as long as every other
   active_through : Through c starts count active
-  active_through = chain_through (count - 1) (omega (arith, card_some c regions (sym whole) area refl)) active (card_active c regions (sym whole) area refl)
+  active_through = chain_through c starts s (count - 1) (omega (arith, chain_some c starts s)) active (sym (chain_active c starts s))
 
   pub chain_ready : (k : ℕ) → k < count → (d : Descriptor) → d ≡ descriptor_at c (get_or starts k 0) → (seen : List ℕ) → length c ≤ 512 * length seen → CheckReady c d seen
-  chain_ready k h d e seen long = record { starts = starts; count = count; through = chain_through k h d e; flags = long }
+  chain_ready k h d e seen long = record { starts = starts; count = count; through = chain_through c starts s k h d e; flags = long }
 
   -- the descriptors from the k-th on
   chain_from_lem : (k : ℕ) → k < count → (d : Descriptor) → d ≡ descriptor_at c (get_or starts k 0) → drop k ds ≡ d ∷ drop (k + 1) ds
   chain_from_lem k h d is =
-      let n : k < length ds = omega (arith, card_count c regions (sym whole) area refl) in
-      let e : d ≡ get_or ds k no_descriptor = is ∙ sym (card_at c regions (sym whole) area refl k h) in
+      let n : k < length ds = omega (arith, through_count c starts count d (chain_through c starts s k h d is)) in
+      let e : d ≡ get_or ds k no_descriptor = is ∙ sym (through_at c starts count d (chain_through c starts s k h d is) k h).is in
       rw (add-one, e) (drop-cons ds k no_descriptor n)
 
   chain_none : (k : ℕ) → count ≤ k → drop k ds ≡ []
-  chain_none k h = drop_of_length-le ds {i = k} (omega (arith, card_count c regions (sym whole) area refl))
+  chain_none k h = drop_of_length-le ds {i = k} (omega (arith, through_count c starts count active active_through))
 
-  -- the walk of the code, with k descriptors passed
-  module _ (cost : ℕ) (w : Taken) (turn : ℕ) (seen : List ℕ) (k : ℕ) (walk : w ≡ taking_chain c starts cost count turn seen (drop k ds)) where
+  -- the walk of the code, with k descriptors passed; it is lent the starts of the n regions alone
+  module _ (n : ℕ) (n_is : n ≡ count) (cost : ℕ) (w : Taken) (turn : ℕ) (seen : List ℕ) (k : ℕ) (walk : w ≡ taking_chain c starts cost count turn seen (drop k ds)) where
     pub chain_end : count ≤ k → record { verdict = Passed; flags = seen } ≡ w
     unfolding taking_chain
     chain_end h = sym (rw (chain_none k h) at walk)
 
-    module _ (more : k < count) (turn' : ℕ) (seen' : List ℕ) (next : (turn' ≡ next_turn turn) × (seen' ≡ next_flags seen starts cost count turn)) (d : Descriptor) (is : d ≡ descriptor_at c (get_or starts k 0))
-        (v : Verdict) (seen'' : List ℕ) (one : record { verdict = v; flags = seen'' } ≡ taking_all d turn' seen' (namings c d)) where
-      step : w ≡ pick (is_fault v) (record { verdict = v; flags = seen'' }) (taking_chain c starts cost count turn' seen'' (drop (k + 1) ds))
+    module _ (more : k < count) (turn' : ℕ) (seen' : List ℕ) (next : (turn' ≡ next_turn turn) × (seen' ≡ next_flags seen (take n starts) cost (length (take n starts)) turn)) (d : Descriptor) (is : d ≡ descriptor_at c (get_or starts k 0)) (seen'' : List ℕ) where
+      step : (v : Verdict) → record { verdict = v; flags = seen'' } ≡ taking_all d turn' seen' (namings c d) → w ≡ pick (is_fault v) (record { verdict = v; flags = seen'' }) (taking_chain c starts cost count turn' seen'' (drop (k + 1) ds))
       unfolding taking_chain
-      step = walk ∙ rw (chain_from_lem k more d is, ← next.0, ← next.1, ← one)
+      step v one =
+          let flags_are : seen' ≡ next_flags seen starts cost count turn = next.1 ∙ turn_taken seen starts cost n turn (omega arith) ∙ rw n_is in
+          walk ∙ rw (chain_from_lem k more d is, ← next.0, ← flags_are, ← one)
 
-      pub chain_more : v ≡ Passed → w ≡ taking_chain c starts cost count turn' seen'' (drop (k + 1) ds)
+      pub chain_more : record { verdict = Passed; flags = seen'' } ≡ taking_all d turn' seen' (namings c d) → w ≡ taking_chain c starts cost count turn' seen'' (drop (k + 1) ds)
       unfolding is_fault
-      chain_more e = step ∙ rw e
+      chain_more one = step Passed one
 
-      pub chain_stop : (h : Physical) → v ≡ Fault h → record { verdict = Fault h; flags = seen'' } ≡ w
+      pub chain_stop : (h : Physical) → record { verdict = Fault h; flags = seen'' } ≡ taking_all d turn' seen' (namings c d) → record { verdict = Fault h; flags = seen'' } ≡ w
       unfolding is_fault
-      chain_stop h e = sym (step ∙ rw e)
+      chain_stop h one = sym (step (Fault h) one)
 
-  module _ (cost : ℕ) (cost_is : cost ≡ cost_of active) where
-    pub chain_ask : (n : ℕ) → length c ≤ 512 * n → (count ≤ length starts) × ((k : ℕ) → k < count → get_or starts k 0 + cost ≤ n)
-    chain_ask = openings_ask c starts count active active_through cost cost_is
+  -- a is the active descriptor, as the code reads it
+  module _ (a : Descriptor) (a_is : a ≡ active) (cost : ℕ) (a_cost : cost ≡ cost_of a) where
+    cost_is : cost ≡ cost_of active
+    cost_is = a_cost ∙ ap cost_of a_is
+
+    -- each opening is among the flags
+    pub chain_ask : (n : ℕ) → n ≡ count → (m : ℕ) → length c ≤ 512 * m → (k : ℕ) → k < length (take n starts) → get_or (take n starts) k 0 + cost ≤ m
+    chain_ask n n_is m long k h =
+        let inside : k < n = omega (arith, length-take n starts) in
+        omega (arith, get_or-take n starts k 0 inside, (openings_ask c starts count active active_through cost cost_is m long).1 k (omega arith))
 
     -- the verdict of the walk is the definition's, from flags that are ready for the next turn
     verdict_from : (n k : ℕ) → k + n ≡ count → (turn : ℕ) (seen : List ℕ) → length c ≤ 512 * length seen → (turn < 255 → Marks ds (turn + 1) seen [])
@@ -97,7 +104,7 @@ module _ (c starts : List ℕ) (count : ℕ) (active : Descriptor) (area : area_
     verdict_from (suc n) k e turn seen long marks =
         let d = descriptor_at c (get_or starts k 0) in
         let more : k < count = omega arith in
-        let t = chain_through k more d refl in
+        let t = chain_through c starts s k more d refl in
         let turn' = next_turn turn in
         let seen' = next_flags seen starts cost count turn in
         let long' : length c ≤ 512 * length seen' = omega (arith, turn_length seen starts cost count turn) in
@@ -108,13 +115,16 @@ module _ (c starts : List ℕ) (count : ℕ) (active : Descriptor) (area : area_
         (λ p. verdict_from n (k + 1) (omega arith) turn' one.flags (omega (arith, taking_length d turn' (namings c d) seen')) (one_marked c starts count d t turn' seen' long' marks' p)))
 
     -- the whole walk, from flags that are clear
-    module _ (seen : List ℕ) (long : length c ≤ 512 * length seen) (clear : (v : ℕ) → get_or seen v 0 ≡ 0) (seen' : List ℕ) (opened : seen' ≡ openings_flagged seen starts cost count) where
+    module _ (seen : List ℕ) (long : length c ≤ 512 * length seen) (clear : (v : ℕ) → get_or seen v 0 ≡ 0) (n : ℕ) (n_is : n ≡ count) (seen' : List ℕ) (opened : seen' ≡ openings_flagged seen (take n starts) cost (length (take n starts))) where
+      opened_all : seen' ≡ openings_flagged seen starts cost count
+      opened_all = opened ∙ openings_taken seen starts cost n (omega arith) ∙ rw n_is
+
       pub chain_told : (w : Taken) → w ≡ taking_chain c starts cost count 0 seen' ds → (w.verdict ≡ check_card c) × (w ≡ taking_chain c starts (cost_of active) count 0 (openings_flagged seen starts (cost_of active) count) ds)
       unfolding check_card
       chain_told w walk = (
         ap (λ (t : Taken). t.verdict) walk
-            ∙ verdict_from count 0 (omega arith) 0 seen' (omega (arith, ap length opened, openings_length seen starts cost count)) (λ h. openings_marked c starts count active active_through seen long clear cost cost_is seen' opened),
-        rw (← cost_is, ← opened) walk,
+            ∙ verdict_from count 0 (omega arith) 0 seen' (omega (arith, ap length opened_all, openings_length seen starts cost count)) (λ h. openings_marked c starts count active active_through seen long clear cost cost_is seen' opened_all),
+        rw (← cost_is, ← opened_all) walk,
       )
 
 -- the rows of a check that follow admission, in the order of the code

@@ -3,7 +3,9 @@ pub mod Stepping
 pub mod RowLaws
 pub mod Passed
 pub mod StepLaws
+pub mod ResultLaws
 pub mod CardLaws
+pub mod ChainLaws
 pub mod ActiveLaws
 pub mod VisitLaws
 pub mod ReamLaws
@@ -15,4 +17,5 @@ pub mod WriteLaws
 pub mod AimLaws
 pub mod SiteLaws
 pub mod ListingLaws
+pub mod PlanLaws
 pub mod CellLaws

@@ -1,301 +1,131 @@
--- Laws of a listing: its tests and its plan; the record of each region; what the filled records are, and how many.
+-- Laws of a listing: its rows, and how many records it fills; the record of each region; what the filled records are, and how many.
 use mathlib.Core.Path.{◌≡◌, refl, sym, ap, ◌∙◌}
-use mathlib.Core.Bool.{Bool, true, false, not}
+use mathlib.Core.Bool.{Bool, true, false, not, cond}
 use mathlib.Core.List.{List, [], ◌∷◌, ◌++◌}
-use Prim.Native.Nat.{ℕ, zero, suc, ◌+◌, ◌*◌, ◌≤◌, ◌<◌}
-use native.Mathlib.Numerals.{add-one}
+use Prim.Native.Nat.{ℕ, suc, ◌+◌, ◌*◌, ◌≤◌, ◌<◌, min}
 use native.Mathlib.Omega.{arith}
-use lib.ListN.{length, take, drop, get_or, set, replicate, length-set, length-take}
-use lib.Seq.{drop-cons, drop-length, take-suc, take-length, length-take-le, get_or-take}
-use lib.Dec.{ltb}
-use borrow.Author.Tests.{lt-ltb, le-ltb, not-true, not-false, eq-eqb, ne_eqb, eqb-true, eqb-false}
+use lib.ListN.{length, drop, get_or}
+use lib.Dec.{eqb, ltb}
+use borrow.Author.Tests.{lt-ltb, le-ltb, ltb-true, ltb-false, eq-eqb, ne_eqb}
+use Rattle.std.specs.Prelude.{Option, Some, None}
+use Rattle.std.specs.List.{position_or_len}
 use Rattle.blocks.specs.Pick.{pick}
-use Rattle.blocks.specs.Bytes.{store_all}
 use Rattle.blocks.specs.Descriptor.{physical, no_descriptor}
-use Rattle.chains.specs.Chain.{active_of, chain, starts_of, regions_of, walk_of}
-use Rattle.chains.specs.Walk.{places_left}
+use Rattle.chains.specs.Chain.{Walk, active_of, chain, starts_of, walk_of}
 use Rattle.blocks.specs.declared.descriptor.Descriptor.{Descriptor}
-use Rattle.chains.specs.declared.chain.Walk.{Walk}
-use Rattle.links.proofs.ChainLaws.{places_starts, length_places, suffice_all}
-use Rattle.links.proofs.LinkedLaws.{Linked, last, more, chain_linked, starts_long, region_of_lem, found_inside, found_descriptor}
+use Rattle.links.proofs.LinkedLaws.{Linked, last, more, chain_linked, regions_sound, found_inside, region_of_lem, found_descriptor}
+use Rattle.links.proofs.ChainLaws.{length_ends}
 use Rattle.calls.specs.declared.answer.Answer.{Answer}
+use Rattle.calls.specs.declared.answer.Refusal.{Refusal}
 use Rattle.calls.specs.declared.answer.Record.{Record}
-use Rattle.calls.specs.declared.list.Filling.{Filling}
-use Rattle.calls.specs.declared.list.Plan.{Plan}
-use Rattle.calls.specs.Call.{Listing, Records}
-use Rattle.calls.specs.Parts.{descriptors_of}
+use Rattle.calls.specs.Listing.{Filling, filling_with, filling_of, record_by, record_count}
+use Rattle.calls.specs.Call.{Call, Listing, Records, answer, accepted, refused}
+use Rattle.calls.specs.Parts.{area_bad, descriptors_of, SoundCard}
 use Rattle.calls.specs.Ladder.{admission, first_row, list_rows}
-use Rattle.calls.specs.Effect.{record_of, listed}
-use Rattle.calls.specs.Meaning.{rows_of, answer_of, stores_of, lent_of, filled_of, given_of}
+use Rattle.calls.specs.Effect.{no_record, record_of, listed}
+use Rattle.calls.specs.Meaning.{rows_of, answer_of, lent_of, filled_of}
 use Rattle.calls.specs.Step.{Done, step, is_accepted, done}
-use Rattle.calls.specs.Listing.{filling_with, filling_of, filling_by, record_by, filled_to, filled, record_count, plan_of, ListReady}
-use Rattle.calls.proofs.CardLaws.{walk_whole, walk_accords, walk_few, chain_is}
+use Rattle.calls.proofs.CardLaws.{card_count, chain_is}
 use Rattle.calls.proofs.Passed.{list_passed}
 use Rattle.calls.proofs.StepLaws.{step_answer, step_lent}
-use Rattle.calls.proofs.RowLaws.{row_given, last_passed, not_admitted, admitted, chain_given, chain_passed}
+use Rattle.calls.proofs.ResultLaws.{refused_set}
+use Rattle.calls.proofs.RowLaws.{row_given, last_passed, not_admitted, chain_given, Reached, reached, card_admitted}
 
--- a plan for the records: the listing's answer, how many it fills and, where it is accepted, where the regions start, in one place more than that; there is at least one place
-pub record PlanFor (c : List ℕ) (records : List Record) (plan : Plan) : Type 0 where
-  pub filling : record { answer = plan.answer; count = plan.count } ≡ filling_of c records
-  pub starts_are : is_accepted plan.answer ≡ true → take (plan.count + 1) plan.starts ≡ starts_of (descriptors_of c)
-  pub some : 0 < length plan.starts
-
--- what a listing answers and fills, by its tests
-module _ (c : List ℕ) (records : List Record) (r : Walk) (walked : r ≡ walk_of (chain c)) (room : ℕ) (long : length records ≡ room) where
-  abbrev a : Answer
-  a = first_row (admission c)
-
-  module _ (card : a.number ≡ 0) where
-    filling_6 : r.sound ≡ false → filling_with 6 r.place.0 0 ≡ filling_of c records
-    unfolding filling_of answer_of rows_of list_rows
-    filling_6 h = rw (admitted c a refl _ card, chain_given _ c r walked (rw h))
-
-    module _ (whole : r.sound ≡ true) where
-      count_is : length (descriptors_of c) ≡ r.count
-      count_is = sym (walk_whole (chain c) r walked whole).1
-
-      to_room : answer_of (Listing records) c ≡ first_row (drop 1 (list_rows c records))
-      unfolding answer_of rows_of list_rows
-      to_room = admitted c a refl _ card ∙ chain_passed _ c (walk_whole (chain c) r walked whole).0
-
-      filling_room : (t : Bool) → ltb room r.count ≡ t → pick t (filling_with 14 0 0) (filling_with 0 0 r.count) ≡ filling_of c records
-      unfolding filling_of list_rows
-      filling_room true h = rw (to_room ∙ row_given _ _ (rw (long, count_is) h))
-      filling_room false h = rw (to_room ∙ last_passed _ (rw (long, count_is) h), count_is)
-
-    filling_chain : (s : Bool) → r.sound ≡ s → pick s (pick (ltb room r.count) (filling_with 14 0 0) (filling_with 0 0 r.count)) (filling_with 6 r.place.0 0) ≡ filling_of c records
-    filling_chain true e = filling_room e (ltb room r.count) refl
-    filling_chain false e = filling_6 e
-
-  filling_none : is_accepted a ≡ false → filling_with a.number a.place 0 ≡ filling_of c records
-  unfolding filling_of answer_of rows_of list_rows
-  filling_none e = rw (not_admitted c a refl (list_rows c records) (eqb-false a.number 0 e), e)
-
-  filling_by_lem : (t : Bool) → is_accepted a ≡ t
-      → pick t (pick r.sound (pick (ltb room r.count) (filling_with 14 0 0) (filling_with 0 0 r.count)) (filling_with 6 r.place.0 0)) (filling_with a.number a.place 0) ≡ filling_of c records
-  filling_by_lem true e = filling_chain (eqb-true a.number 0 e) r.sound refl
-  filling_by_lem false e = filling_none e
-
-  pub filling_told : (f : Filling) → f ≡ filling_by c r.sound r.place.0 r.count room → f ≡ filling_of c records
-  unfolding filling_by
-  filling_told f e = e ∙ filling_by_lem (is_accepted a) refl
-
--- the tests of the code
-module _ (c : List ℕ) (sound : Bool) (place count room : ℕ) (a : Answer) (asked : a ≡ first_row (admission c)) where
-  pub found_1 : (a.number ≡ 0 → ⊥) → filling_with a.number a.place 0 ≡ filling_by c sound place count room
-  unfolding filling_by
-  found_1 e = rw (← asked, ne_eqb a.number 0 e)
-
-  module _ (card : a.number ≡ 0) where
-    pub found_6 : not sound ≡ true → filling_with 6 place 0 ≡ filling_by c sound place count room
-    unfolding filling_by
-    found_6 h = rw (← asked, eq-eqb a.number 0 card, not-true sound h)
-
-    module _ (whole : not sound ≡ false) where
-      pub found_14 : room < count → filling_with 14 0 0 ≡ filling_by c sound place count room
-      unfolding filling_by
-      found_14 h = rw (← asked, eq-eqb a.number 0 card, not-false sound whole, lt-ltb room count h)
-
-      pub found_0 : count ≤ room → filling_with 0 0 count ≡ filling_by c sound place count room
-      unfolding filling_by
-      found_0 h = rw (← asked, eq-eqb a.number 0 card, not-false sound whole, le-ltb room count h)
-
--- filling none, one more, and the length
-module _ (c starts : List ℕ) (records : List Record) (n : ℕ) where
-  pub filled_none : filled_to c starts records n 0 ≡ records
-  unfolding filled_to
-  filled_none = refl
-
-  pub filled_more : (i : ℕ) (r : Record) → r ≡ record_by c starts n i → set (filled_to c starts records n i) i r ≡ filled_to c starts records n (i + 1)
-  unfolding filled_to
-  filled_more i r e = rw (add-one, e)
-
-  pub filled_all : (i : ℕ) → i ≡ n → filled_to c starts records n i ≡ filled c starts records n
-  unfolding filled
-  filled_all i e = rw e
-
-  pub length_filled : (i : ℕ) → length (filled_to c starts records n i) ≡ length records
-  unfolding filled_to
-  length_filled zero = refl
-  length_filled (suc i) = length-set (filled_to c starts records n i) i (record_by c starts n i) ∙ length_filled i
-
--- one more record after those of a list of descriptors
-listed_more : (ds : List Descriptor) (r : Record) (rest : List Record) (d : Descriptor) (n : ℕ) → length ds ≡ n → set (listed ds (r ∷ rest)) n (record_of d) ≡ listed (ds ++ (d ∷ [])) rest
+-- records that are those of descriptors, one after the other
+listed_from : (ds : List Descriptor) (xs rest : List Record) → length xs ≡ length ds → ((k : ℕ) → k < length ds → get_or xs k no_record ≡ record_of (get_or ds k no_descriptor)) → xs ++ rest ≡ listed ds rest
 unfolding listed
-listed_more [] r rest d zero e = refl
-listed_more [] r rest d (suc n) e = absurd (omega arith)
-listed_more (x ∷ ds) r rest d zero e = absurd (omega arith)
-listed_more (x ∷ ds) r rest d (suc n) e = ap (λ (t : List Record). record_of x ∷ t) (listed_more ds r rest d n (omega arith))
+listed_from [] [] rest e same = refl
+listed_from [] (x ∷ xs) rest e same = absurd (omega arith)
+listed_from (d ∷ ds) [] rest e same = absurd (omega arith)
+listed_from (d ∷ ds) (x ∷ xs) rest e same =
+    let first : x ≡ record_of d = same 0 (omega arith) in
+    rw (first, listed_from ds xs rest (omega arith) (λ k h. same (suc k) (omega arith)))
 
-module _ (c starts : List ℕ) (ds : List Descriptor) (same : (k : ℕ) → k < length ds → record_by c starts (length ds) k ≡ record_of (get_or ds k no_descriptor))
-    (records : List Record) (room : length ds ≤ length records) where
-  filled_from : (i : ℕ) → i ≤ length ds → filled_to c starts records (length ds) i ≡ listed (take i ds) (drop i records)
-  unfolding filled_to listed
-  filled_from zero h = refl
-  filled_from (suc i) h =
-      let none : Record = record_of no_descriptor in
-      rw (filled_from i (omega arith), drop-cons records i none (omega arith), same i (omega arith), take-suc ds i no_descriptor (omega arith))
-      (listed_more (take i ds) (get_or records i none) (drop (suc i) records) (get_or ds i no_descriptor) i (length-take-le i ds (omega arith)))
-
-  filled_listed : filled c starts records (length ds) ≡ listed ds (drop (length ds) records)
-  filled_listed =
-      sym (filled_all c starts records (length ds) (length ds) refl)
-      ∙ filled_from (length ds) (omega arith)
-      ∙ ap (λ (es : List Descriptor). listed es (drop (length ds) records)) (take-length ds)
-
--- what an accepted listing shows
-module _ (c : List ℕ) (records : List Record) (ok : is_accepted (answer_of (Listing records) c) ≡ true) where
+-- on a card with a sound chain the record of each region is that of its descriptor, and so those of all of them
+module _ (c starts : List ℕ) (n : ℕ) (s : SoundCard c n starts) where
   abbrev ds : List Descriptor
   ds = descriptors_of c
 
-  list_whole : regions_of (chain c) ≡ record { sound = true; place = physical 0; active = active_of ds; count = length ds; starts = starts_of ds }
-  unfolding regions_of
-  list_whole = ap regions_of (chain_is (chain c) (list_passed c records ok).sound)
+  pub sound_count : n ≡ length ds
+  sound_count = card_count c _ (sym s.regions) s.area refl
 
-  pub list_room : length ds ≤ length records
-  list_room = (list_passed c records ok).room
+  pub sound_long : length starts ≡ n + 1
+  unfolding starts_of
+  sound_long = let r = regions_sound (chain c) (active_of ds) n starts s.regions in omega (arith, ap length r.2, length_ends ds, r.1)
 
-  -- the blocks of the descriptors are on the card
-  pub list_inside : (k : ℕ) → k < length ds → 512 * get_or (starts_of ds) k 0 + 512 ≤ length c
-  list_inside k h = (found_inside c (active_of ds) (length ds) (starts_of ds) list_whole k h).1
+  pub sound_inside : (k : ℕ) → k < n → (k + 1 < length starts) × (512 * get_or starts k 0 + 512 ≤ length c)
+  sound_inside = found_inside c (active_of ds) n starts s.regions
 
-  -- the record of each region is that of its descriptor
-  pub list_record : (k : ℕ) → k < length ds → record_by c (starts_of ds) (length ds) k ≡ record_of (get_or ds k no_descriptor)
+  pub sound_record : (k : ℕ) → k < n → record_by c starts n k ≡ record_of (get_or ds k no_descriptor)
   unfolding record_by
-  list_record k h =
-      ap record_of (found_descriptor c (active_of ds) (length ds) (starts_of ds) list_whole k h _ refl _ refl ∙ sym (region_of_lem c (active_of ds) (length ds) (starts_of ds) list_whole k h).is)
+  sound_record k h =
+      ap record_of (found_descriptor c (active_of ds) n starts s.regions k h _ refl _ refl ∙ sym (region_of_lem c (active_of ds) n starts s.regions k h).is)
 
--- what a listing needs to fill n records: that there are so many, that there is a start for each and one more, and that the blocks of their descriptors are on the card
-abbrev pub Ready : List ℕ → List ℕ → List Record → ℕ → Type 0
-Ready c starts records n = (n ≤ length records) × (n < length starts) × ((j : ℕ) → j < n → 512 * get_or starts j 0 + 512 ≤ length c)
+  pub sound_listed : (xs rest : List Record) → length xs ≡ n → ((k : ℕ) → k < n → get_or xs k no_record ≡ record_by c starts n k) → xs ++ rest ≡ listed ds rest
+  sound_listed xs rest long same = listed_from ds xs rest (omega (arith, long, sound_count)) (λ k h. let m : k < n = omega (arith, sound_count) in same k m ∙ sound_record k m)
 
--- with the starts of the chain, where it is accepted, it has it
-pub ready_by : (c starts : List ℕ) (records : List Record) (t : Bool) → is_accepted (answer_of (Listing records) c) ≡ t → (t ≡ true → starts ≡ starts_of (descriptors_of c)) → 0 < length starts
-    → Ready c starts records (pick t (length (descriptors_of c)) 0)
-ready_by c starts records true e is some = rw (is refl) (list_room c records e, starts_long (descriptors_of c), list_inside c records e)
-ready_by c starts records false e is some = (omega arith, some, λ j h. absurd (omega arith))
+-- what a listing answers, row by row, and so how many records it fills
+module _ (c : List ℕ) (records : List Record) where
+  abbrev call : Call
+  call = Listing records
 
--- a listing as planned and filled is that of the definition
-step_by : (c starts : List ℕ) (records : List Record) (t : Bool) → is_accepted (answer_of (Listing records) c) ≡ t → (t ≡ true → starts ≡ starts_of (descriptors_of c))
-    → done (answer_of (Listing records) c) (Records (filled c starts records (pick t (length (descriptors_of c)) 0))) c ≡ step (Listing records) c
-unfolding step stores_of store_all lent_of filled_of given_of
-step_by c starts records true e is = rw (e, is refl, filled_listed c (starts_of (descriptors_of c)) (descriptors_of c) (list_record c records e) records (list_room c records e))
-step_by c starts records false e is = rw (e, ← (filled_all c starts records 0 0 refl), filled_none c starts records 0)
+  pub list_1 : (r : Refusal) → refused r ≡ first_row (admission c) → answer_of call c ≡ refused r
+  unfolding answer_of rows_of
+  list_1 r asked = not_admitted c (refused r) asked (list_rows c records) (refused_set r)
 
--- by what the code knows after the walk
-module _ (c : List ℕ) (sound : Bool) (place count : ℕ) (starts : List ℕ) (ready : ListReady c sound place count starts) (records : List Record) (room : ℕ) (long : length records ≡ room) (f : Filling)
-    (planned : f ≡ filling_by c sound place count room) where
-  pub listing_told : f ≡ filling_of c records
-  listing_told = filling_told c records (walk_of (chain c)) refl room long f (planned ∙ rw (ready.sound_is, ready.place_is, ready.count_is))
+  pub list_6 : area_bad c ≡ false → (w : Walk) → w ≡ walk_of (chain c) → not w.sound ≡ true → answer_of call c ≡ answer 6 w.place.0
+  unfolding answer_of rows_of list_rows
+  list_6 area w walked h = card_admitted c area _ ∙ chain_given _ c w walked h
 
-  pub starts_listed : is_accepted (answer_of (Listing records) c) ≡ true → starts ≡ starts_of (descriptors_of c)
-  starts_listed ok = ready.starts_are (ready.sound_is ∙ walk_accords (chain c) (walk_of (chain c)) refl (list_passed c records ok).sound)
-
--- a plan, of which the first places alone are the starts
-fill_prefix : (c xs ys : List ℕ) (records : List Record) (n i : ℕ) → i ≤ n → take (n + 1) xs ≡ ys → filled_to c xs records n i ≡ filled_to c ys records n i
-unfolding filled_to record_by
-fill_prefix c xs ys records n zero h e = refl
-fill_prefix c xs ys records n (suc i) h e =
-    let one : get_or xs i 0 ≡ get_or ys i 0 = sym (get_or-take (n + 1) xs i 0 (omega arith)) ∙ ap (λ (l : List ℕ). get_or l i 0) e in
-    let two : get_or xs (i + 1) 0 ≡ get_or ys (i + 1) 0 = sym (get_or-take (n + 1) xs (i + 1) 0 (omega arith)) ∙ ap (λ (l : List ℕ). get_or l (i + 1) 0) e in
-    rw (fill_prefix c xs ys records n i (omega arith) e, one, two)
-
-module _ (c : List ℕ) (records : List Record) (r : Plan) (for : PlanFor c records r) where
-  accepted_is : is_accepted (answer_of (Listing records) c) ≡ is_accepted r.answer
+  pub filling_answer : (f : Filling) → f ≡ filling_of c records → answer_of call c ≡ f.answer
   unfolding filling_of
-  accepted_is = ap (λ (f : Filling). is_accepted f.answer) (sym for.filling)
+  filling_answer f e = rw e
 
-  planned_starts : is_accepted (answer_of (Listing records) c) ≡ true → take (length (descriptors_of c) + 1) r.starts ≡ starts_of (descriptors_of c)
+  pub filling_refused : (n p : ℕ) → answer_of call c ≡ answer n p → eqb n 0 ≡ false → filling_with n p 0 ≡ filling_of c records
   unfolding filling_of
-  planned_starts ok =
-      let n : r.count ≡ length (descriptors_of c) = ap (λ (f : Filling). f.count) for.filling ∙ rw ok in
-      ap (λ (x : ℕ). take (x + 1) r.starts) (sym n) ∙ for.starts_are (sym accepted_is ∙ ok)
+  filling_refused n p e z = rw (e, z)
 
-  planned_by : (t : Bool) → is_accepted (answer_of (Listing records) c) ≡ t → Ready c r.starts records (pick t (length (descriptors_of c)) 0)
-  planned_by true e =
-      let are = planned_starts e in
-      let long = starts_long (descriptors_of c) in
-      (list_room c records e, omega (arith, ap length are, long, length-take (length (descriptors_of c) + 1) r.starts), λ j h. rw (sym (get_or-take (length (descriptors_of c) + 1) r.starts j 0 (omega arith)) ∙ ap (λ (l : List ℕ). get_or l j 0) are) (list_inside c records e j h))
-  planned_by false e = (omega arith, for.some, λ j h. absurd (omega arith))
+  module _ (n : ℕ) (starts : List ℕ) (s : SoundCard c n starts) where
+    list_reached : Reached call c (drop 1 (list_rows c records)) (record { sound = true; place = physical 0; active = active_of (descriptors_of c); count = n; starts = starts })
+    unfolding answer_of rows_of list_rows
+    list_reached = reached call c _ n starts s (card_admitted c s.area _)
 
-  pub plan_ready : Ready c r.starts records r.count
-  unfolding filling_of
-  plan_ready = let n : r.count ≡ pick (is_accepted (answer_of (Listing records) c)) (length (descriptors_of c)) 0 = ap (λ (f : Filling). f.count) for.filling in rw n (planned_by (is_accepted (answer_of (Listing records) c)) refl)
+    pub list_14 : length records < n → answer_of call c ≡ answer 14 0
+    unfolding list_rows
+    list_14 h = list_reached.rest ∙ row_given _ _ (lt-ltb _ _ (omega (arith, sound_count c starts n s, h)))
 
-  done_by_lem : (t : Bool) → is_accepted (answer_of (Listing records) c) ≡ t → done (answer_of (Listing records) c) (Records (filled c r.starts records (pick t (length (descriptors_of c)) 0))) c ≡ step (Listing records) c
-  unfolding filled filled_to
-  done_by_lem true e = rw (fill_prefix c r.starts (starts_of (descriptors_of c)) records (length (descriptors_of c)) (length (descriptors_of c)) (omega arith) (planned_starts e)) (step_by c (starts_of (descriptors_of c)) records true e (λ t. refl))
-  done_by_lem false e = step_by c r.starts records false e (λ t. let z : ◌≡◌ {A = ℕ} 0 1 = cc in absurd (omega arith))
+    pub list_0 : n ≤ length records → answer_of call c ≡ accepted
+    unfolding list_rows
+    list_0 h = list_reached.rest ∙ last_passed _ (le-ltb _ _ (omega (arith, sound_count c starts n s, h)))
 
-  pub plan_done : (l : List Record) → l ≡ filled c r.starts records r.count → done r.answer (Records l) c ≡ step (Listing records) c
-  unfolding filling_of
-  plan_done l e =
-      let a : r.answer ≡ answer_of (Listing records) c = ap (λ (f : Filling). f.answer) for.filling in
-      let n : r.count ≡ pick (is_accepted (answer_of (Listing records) c)) (length (descriptors_of c)) 0 = ap (λ (f : Filling). f.count) for.filling in
-      rw (e, n, a) (done_by_lem (is_accepted (answer_of (Listing records) c)) refl)
+    pub filling_accepted : n ≤ length records → filling_with 0 0 n ≡ filling_of c records
+    unfolding filling_of
+    filling_accepted h = rw (list_0 h, ← sound_count c starts n s)
 
--- what the code knows after the walk
-pub walked_listed : (c : List ℕ) (w : Walk) → w ≡ walk_of (chain c) → (starts : List ℕ) → (w.sound ≡ true → starts ≡ starts_of (descriptors_of c)) → length starts ≡ w.count + 1
-    → ListReady c w.sound w.place.0 w.count starts
-walked_listed c w walked starts are long = record { sound_is = rw walked; place_is = rw walked; count_is = rw walked; starts_are = are; long = omega arith }
+-- what an accepted listing shows
+pub list_room : (c : List ℕ) (records : List Record) → is_accepted (answer_of (Listing records) c) ≡ true → length (descriptors_of c) ≤ length records
+list_room c records ok = (list_passed c records ok).room
 
--- the plan that the code makes
-plan_for : (c : List ℕ) (sound : Bool) (place count : ℕ) (starts : List ℕ) → ListReady c sound place count (take (count + 1) starts) → (records : List Record) (room : ℕ) → length records ≡ room → (f : Filling)
-    → f ≡ filling_by c sound place count room → 0 < length starts → PlanFor c records (record { answer = f.answer; count = f.count; starts = starts })
-unfolding filling_of
-plan_for c sound place count starts ready records room long f planned some = record { filling = told; starts_are = λ ok. are ok; some = some }
+-- how many records a listing has filled, by the place of the first whose next is nil
+abbrev pub is_last : Record → Bool
+is_last r = eqb r.next.0 0
+
+count_by : (rs : List Record) → record_count rs ≡ min (position_or_len is_last rs + 1) (length rs)
+unfolding record_count
+count_by [] = refl
+count_by (r ∷ rs) = by (is_last r) (record_count rs) (position_or_len is_last rs) (count_by rs)
   where
-    told : f ≡ filling_of c records
-    told = listing_told c sound place count (take (count + 1) starts) ready records room long f planned
+    by : (t : Bool) (n p : ℕ) → n ≡ min (p + 1) (length rs) → pick t 1 (suc n) ≡ min (cond (not t) (1 + p) 0 + 1) (suc (length rs))
+    by true n p e = omega arith
+    by false n p e = omega arith
 
-    are : is_accepted f.answer ≡ true → take (f.count + 1) starts ≡ starts_of (descriptors_of c)
-    are ok =
-        let yes : is_accepted (answer_of (Listing records) c) ≡ true = sym (ap (λ (x : Filling). is_accepted x.answer) told) ∙ ok in
-        let n : f.count ≡ length (descriptors_of c) = ap (λ (x : Filling). x.count) told ∙ rw yes in
-        let whole : (walk_of (chain c)).sound ≡ true = walk_accords (chain c) (walk_of (chain c)) refl (list_passed c records yes).sound in
-        let m : count ≡ length (descriptors_of c) = ready.count_is ∙ (walk_whole (chain c) (walk_of (chain c)) refl whole).1 in
-        ap (λ (x : ℕ). take (x + 1) starts) (n ∙ sym m) ∙ ready.starts_are (ready.sound_is ∙ whole)
-
-pub plan_is : (c : List ℕ) (w : Walk) → w ≡ walk_of (chain c) → (room : ℕ) (f : Filling) → f ≡ filling_by c w.sound w.place.0 w.count room → (starts : List ℕ) → starts ≡ places_left c (replicate 257 0)
-    → ◌≡◌ {A = Plan} (record { answer = f.answer; count = f.count; starts = starts }) (plan_of c room)
-unfolding plan_of
-plan_is c w walked room f planned starts left = rw (planned, walked, left)
-
--- so it is a plan for records of that number
-pub plan_told : (c : List ℕ) (records : List Record) (room : ℕ) → length records ≡ room → (r : Plan) → r ≡ plan_of c room → PlanFor c records r
-unfolding plan_of
-plan_told c records room long r e =
-    let w = walk_of (chain c) in
-    let starts = places_left c (replicate 257 0) in
-    let size : length starts ≡ 257 = length_places c (replicate 257 0) in
-    let few = walk_few c w refl in
-    rw e (plan_for c w.sound w.place.0 w.count starts (walked_listed c w refl (take (w.count + 1) starts) are (length-take-le (w.count + 1) starts (omega (arith, few, size)))) records room long (filling_by c w.sound w.place.0 w.count room) refl (omega (arith, size)))
+pub count_first : (rs : List Record) (r : Option ℕ) → r ≡ cond (ltb (position_or_len is_last rs) (length rs)) (Some (position_or_len is_last rs)) None
+    → ((i : ℕ) → r ≡ Some i → i + 1 ≡ record_count rs) × (r ≡ None → length rs ≡ record_count rs)
+count_first rs r e = by (ltb (position_or_len is_last rs) (length rs)) refl e
   where
-    are : (walk_of (chain c)).sound ≡ true → take ((walk_of (chain c)).count + 1) (places_left c (replicate 257 0)) ≡ starts_of (descriptors_of c)
-    are h =
-        let whole = walk_whole (chain c) (walk_of (chain c)) refl h in
-        rw whole.1 (places_starts c (replicate 257 0) (omega arith) (suffice_all c 257 refl) (descriptors_of c) (chain_is (chain c) whole.0))
-
--- counting the records that a listing has filled: i of them, and those after
-unfoldable pub count_from : List Record → ℕ → ℕ
-count_from rs i = i + record_count (drop i rs)
-
-module _ (rs : List Record) where
-  pub count_none : record_count rs ≡ count_from rs 0
-  unfolding count_from
-  count_none = omega arith
-
-  pub count_last : (i : ℕ) (d : Record) → i < length rs → (get_or rs i d).next.0 ≡ 0 → count_from rs i ≡ i + 1
-  unfolding count_from record_count
-  count_last i d h z = rw (drop-cons rs i d h, eq-eqb (get_or rs i d).next.0 0 z)
-
-  pub count_more : (i : ℕ) (d : Record) → i < length rs → ((get_or rs i d).next.0 ≡ 0 → ⊥) → count_from rs i ≡ count_from rs (i + 1)
-  unfolding count_from record_count
-  count_more i d h z = rw (add-one, drop-cons rs i d h, ne_eqb (get_or rs i d).next.0 0 z) (omega arith)
-
-  pub count_all : (i : ℕ) → i ≡ length rs → count_from rs i ≡ i
-  unfolding count_from record_count
-  count_all i e = rw (e, drop-length rs) (omega arith)
+    by : (t : Bool) → ltb (position_or_len is_last rs) (length rs) ≡ t → r ≡ cond t (Some (position_or_len is_last rs)) None → ((i : ℕ) → r ≡ Some i → i + 1 ≡ record_count rs) × (r ≡ None → length rs ≡ record_count rs)
+    by true h q = (λ i f. let same : i ≡ position_or_len is_last rs = cc in omega (arith, same, count_by rs, ltb-true _ _ h), λ f. cc)
+    by false h q = (λ i f. cc, λ f. omega (arith, count_by rs, ltb-false _ _ h))
 
 -- in a sound chain just the last descriptor has a nil next
 count_linked : {c : List ℕ} {es : List Descriptor} {p : ℕ} {ds : List Descriptor} → Linked c es p ds → (rest : List Record) → record_count (listed ds rest) ≡ length ds

@@ -11,9 +11,8 @@ use Rattle.blocks.specs.Name.{is_name}
 use Rattle.blocks.specs.Descriptor.{cost_of, revision_ok, cost_in}
 use Rattle.chains.specs.Chain.{chain, chain_sound, named, active_of}
 use Rattle.entries.specs.Entry.{need}
-use Rattle.calls.specs.declared.answer.Target.{Target}
+use Rattle.calls.specs.Call.{Target, Ream, Read, Write, Snap, Revert, Listing, Check, Visit, SpanRead, SpanWrite, accepted}
 use Rattle.calls.specs.declared.answer.Record.{Record}
-use Rattle.calls.specs.Call.{Ream, Read, Write, Snap, Revert, Listing, Check, Visit, SpanRead, SpanWrite, accepted}
 use Rattle.calls.specs.Parts.{area_bad, descriptors_of, snapshots_of, most_snapshots, is_snapshot, target_of, found_through, is_misplaced}
 use Rattle.calls.specs.Check.{check_card, is_fault}
 use Rattle.calls.specs.Spans.{span_verdict, write_span_need}

@@ -4,8 +4,11 @@ use mathlib.Core.Bool.{Bool, true, false, not, ◌&&◌}
 use mathlib.Core.List.{List, ◌∷◌}
 use Prim.Native.Nat.{ℕ, ◌+◌, ◌-◌, ◌≤◌, ◌<◌, ◌*◌}
 use native.Mathlib.Omega.{arith}
-use lib.ListN.{length, take, drop, get_or}
+use lib.ListN.{length, take, drop, get_or, replicate}
+use lib.Seq.{length-take-le}
 use lib.Dec.{eqb}
+use Rattle.std.specs.Prelude.{Option, Some, None, IfSome, unwrap_or, ok_or, Result, Ok, Err}
+use Rattle.std.proofs.Common.{take-take}
 use borrow.Author.Tests.{eq-eqb, ne_eqb, lt-ltb, le-ltb, eqb-true, eqb-false}
 use Rattle.blocks.specs.Pick.{pick}
 use Rattle.blocks.specs.Bytes.{block_count, part, block_at, zero_block, splice, store_all}
@@ -14,27 +17,24 @@ use Rattle.blocks.specs.Descriptor.{physical, descriptor_at, no_descriptor}
 use Rattle.chains.specs.Chain.{chain, descriptors, named, descriptors_at, Regions, regions_of, walk_of, index_of, active_of}
 use Rattle.blocks.specs.declared.numbers.Physical.{Physical}
 use Rattle.blocks.specs.declared.descriptor.Descriptor.{Descriptor}
-use Rattle.chains.specs.declared.chain.Walk.{Walk}
+use Rattle.chains.specs.Chain.{Walk}
 use Rattle.blocks.proofs.ByteLaws.{splice_whole, length_part}
 use Rattle.chains.proofs.NamedLaws.{index_le}
 use Rattle.links.proofs.ChainLaws.{region_volume}
 use Rattle.entries.specs.Entry.{find, found_block, located_in, locate}
 use Rattle.entries.proofs.RegionLaws.{through_region}
-use Rattle.entries.specs.declared.find.Found.{Found}
-use Rattle.entries.specs.declared.find.Located.{Located}
-use Rattle.entries.specs.declared.find.Found.TheVariants.{Misplaced, Entry}
+use Rattle.entries.specs.Found.{Found, Misplaced, Entry, Located}
 use Rattle.calls.specs.declared.answer.Answer.{Answer}
-use Rattle.calls.specs.declared.answer.Target.{Target}
-use Rattle.calls.specs.declared.answer.Target.TheVariants.{Active, Snapshot}
-use Rattle.calls.specs.declared.answer.Visited.{Visited}
-use Rattle.calls.specs.Call.{Call, Read, Visit, Block, answer, accepted}
+use Rattle.calls.specs.Call.{Target, Active, Snapshot, Call, Read, Visit, Block, answer, accepted, refused}
+use Rattle.calls.specs.declared.answer.Refusal.{Refusal}
+use Rattle.calls.specs.declared.answer.Refusal.TheVariants as why
+use Rattle.calls.specs.Effect.{Visited, Delivered, delivered, given_at, visit_given, given_bytes, as_visited, visited}
 use Rattle.calls.specs.Parts.{area_bad, snapshots_of, is_snapshot, target_of, target_index, is_misplaced, holder_of, block_found, SoundCard}
 use Rattle.calls.specs.Ladder.{Row, row, admission, first_row, block_row, entry_rows, read_rows, visit_rows}
-use Rattle.calls.specs.Effect.{Delivered, delivered, given_at, visit_given, given_bytes, as_visited, visited}
 use Rattle.calls.specs.Meaning.{rows_of, answer_of, lent_of, filled_of, stores_of, given_of}
 use Rattle.calls.specs.Step.{Done, step, done}
 use Rattle.calls.proofs.StepLaws.{step_refused, step_accepted, outcome_refused, outcome_barred, outcome_accepted}
-use Rattle.calls.proofs.CardLaws.{card_some, card_snapshots, card_snapshot_count, card_snapshot, card_found, card_active, card_through, card_active_through}
+use Rattle.calls.proofs.CardLaws.{card_ready, card_some, card_snapshots, card_snapshot_count, card_snapshot, card_found, card_active, card_through, card_active_through}
 use Rattle.calls.proofs.RowLaws.{admitted, row_given, row_passed, block_given, block_passed, chain_given, volume_given, volume_passed, Reached, reached, card_admitted}
 
 -- the index of what is read
@@ -43,13 +43,39 @@ module _ (ss : List Descriptor) (name : List ℕ) (n : ℕ) (counted : length ss
   unfolding target_index
   index_active = sym counted
 
-  pub index_none : (k : ℕ) → k ≡ index_of ss name → k ≡ n → n + 1 ≡ target_index ss Snapshot name
+  pub index_found : (m : ℕ) → m ≡ n + 1 → (k : Option ℕ) → unwrap_or k n ≡ index_of ss name → IfSome k (λ i. i < n) → unwrap_or k m ≡ target_index ss Snapshot name
   unfolding target_index
-  index_none k e h = rw (← e, counted, eq-eqb k n h)
+  index_found m e (Some i) is h = rw (← is, counted, ne_eqb i n (omega (arith, h)))
+  index_found m e None is h = rw (← is, counted, eq-eqb n n refl) e
 
-  pub index_some : (k : ℕ) → k ≡ index_of ss name → (k ≡ n → ⊥) → k ≡ target_index ss Snapshot name
-  unfolding target_index
-  index_some k e h = rw (← e, counted, ne_eqb k n h)
+-- the index as the code looks it up, among the first count places of a chain, and what it makes of none
+module _ (c starts : List ℕ) (count : ℕ) (s : SoundCard c count starts) (target : Target) (name : List ℕ) (o : Option ℕ)
+    (told : unwrap_or o (length (take count starts)) ≡ target_index (descriptors_at c (take (length (take count starts) - 1) (take count starts))) target name)
+    (bound : IfSome o (λ k. k < length (take count starts))) (r : Result ℕ Refusal) (tested : r ≡ ok_or o why.NoSnapshot) where
+  abbrev index : ℕ
+  index = target_index (descriptors_at c (take (count - 1) starts)) target name
+
+  counted : length (take count starts) ≡ count
+  counted = length-take-le count starts (omega (arith, (card_ready c count starts s).1))
+
+  told_index : unwrap_or o count ≡ index
+  told_index =
+      let first : take (count - 1) (take count starts) ≡ take (count - 1) starts = take-take (count - 1) count starts (omega arith) in
+      rw first at rw counted at told
+
+  pub index_missing : (e : Refusal) → r ≡ Err e → (count ≡ index) × (refused e ≡ answer 7 0)
+  index_missing e f = by o told_index tested
+    where
+      by : (x : Option ℕ) → unwrap_or x count ≡ index → r ≡ ok_or x why.NoSnapshot → (count ≡ index) × (refused e ≡ answer 7 0)
+      by None t q = let same : why.NoSnapshot ≡ e = cc in (t, ap refused (sym same))
+      by (Some k) t q = cc
+
+  pub index_there : (k : ℕ) → r ≡ Ok k → (k ≡ index) × (k < count) × (k ≡ count → ⊥)
+  index_there k f = by o told_index bound tested
+    where
+      by : (x : Option ℕ) → unwrap_or x count ≡ index → IfSome x (λ j. j < length (take count starts)) → r ≡ ok_or x why.NoSnapshot → (k ≡ index) × (k < count) × (k ≡ count → ⊥)
+      by None t b q = cc
+      by (Some j) t b q = let same : j ≡ k = cc in (sym same ∙ t, omega (arith, b, counted), λ e. omega (arith, b, counted, e))
 
 -- no snapshot has the name exactly where the index is past the chain
 module _ (ss : List Descriptor) (name : List ℕ) where
@@ -85,14 +111,14 @@ module _ (c : List ℕ) (f : Found) (out : List ℕ) where
   deliver_entry m p e out' g = rw (e, g)
 
 -- the caller's block filled
-pub filled_nil : (c out out' zeros : List ℕ) (p : ℕ) → p ≡ 0 → length out ≡ 512 → zeros ≡ zero_block → out' ≡ splice out 0 zeros → out' ≡ pick (eqb p 0) zero_block (block_at c p)
-filled_nil c out out' zeros p e l z s = s ∙ splice_whole out zeros (ap length z ∙ sym l) ∙ rw (eq-eqb p 0 e) z
+pub filled_nil : (c out out' : List ℕ) (p : ℕ) → eqb p 0 ≡ true → length out ≡ 512 → out' ≡ replicate (length out) 0 → out' ≡ pick (eqb p 0) zero_block (block_at c p)
+filled_nil c out out' p nil long zeros = rw nil (zeros ∙ ap (λ (n : ℕ). replicate n 0) long)
 
-pub filled_block_lem : (c out out' : List ℕ) (p : ℕ) → (p ≡ 0 → ⊥) → length out ≡ 512 → 512 * p + 512 ≤ length c → out' ≡ splice out 0 (part c (512 * p) (512 * p + 512 - 512 * p)) → out' ≡ pick (eqb p 0) zero_block (block_at c p)
+pub filled_block_lem : (c out out' : List ℕ) (p : ℕ) → eqb p 0 ≡ false → length out ≡ 512 → 512 * p + 512 ≤ length c → out' ≡ splice out 0 (part c (512 * p) (512 * p + 512 - 512 * p)) → out' ≡ pick (eqb p 0) zero_block (block_at c p)
 unfolding block_at
 filled_block_lem c out out' p some long fits e =
     let size : 512 * p + 512 - 512 * p ≡ 512 = omega arith in
-    e ∙ rw (size, ne_eqb p 0 some) (splice_whole out (part c (512 * p) 512) (length_part c (512 * p) 512 fits ∙ sym long))
+    e ∙ rw (size, some) (splice_whole out (part c (512 * p) 512) (length_part c (512 * p) 512 fits ∙ sym long))
 
 -- what a visit gives once its entry was looked for, case by case
 module _ (c : List ℕ) (d : Descriptor) (l : ℕ) where
@@ -275,6 +301,15 @@ module _ (c : List ℕ) (target : Target) (name : List ℕ) (l : ℕ) (block : L
       → ◌≡◌ {A = Done} (done a (Block out) c) (step (Read target name l block) c)
   unfolding delivered
   read_done a out h = done_by_lem (is_misplaced block_at_lem) refl a out h
+
+-- so it is after all tests before that of the entry
+pub read_through : (c : List ℕ) (target : Target) (name : List ℕ) (l : ℕ) (block : List ℕ) → (is_snapshot target && not (is_name name)) ≡ false → length block ≡ 512
+    → (count : ℕ) (starts : List ℕ) → SoundCard c count starts → (k : ℕ) → k ≡ target_index (descriptors_at c (take (count - 1) starts)) target name → (k ≡ count → ⊥)
+    → (d : Descriptor) → d ≡ descriptor_at c (get_or starts k 0) → l < d.volume → (a : Answer) (out : List ℕ)
+    → ◌≡◌ {A = Delivered} (record { answer = a; block = out }) (delivered c (find c (descriptors (chain c)) d l) block) → ◌≡◌ {A = Done} (done a (Block out) c) (step (Read target name l block) c)
+read_through c target name l block called long count starts s k index some d d_is below =
+    let past = read_reached c target name l block called long count starts s in
+    read_done c target name l block d (target_is _ c target name l _ past k index some d d_is below) (entry_rest _ c target name l _ past k index some d d_is below)
 
 -- and what a visit gives
 module _ (c : List ℕ) (target : Target) (name : List ℕ) (l : ℕ) (d : Descriptor) (target_is : target_of (descriptors (chain c)) target name ≡ d)

@@ -1,110 +1,133 @@
 -- Laws of the revert, as the code asks them.
 use mathlib.Core.Path.{◌≡◌, refl, sym, ap, ◌∙◌}
-use mathlib.Core.Bool.{true, false}
+use mathlib.Core.Bool.{true, false, not}
 use mathlib.Core.List.{List, [], ◌∷◌, ◌++◌}
 use Prim.Native.Nat.{ℕ, ◌+◌, ◌*◌, ◌-◌, ◌/◌, ◌≤◌, ◌<◌}
 use native.Mathlib.Omega.{arith}
-use lib.ListN.{length, take, drop, get_or}
-use lib.Dec.{eqb, ltb}
-use borrow.Author.Tests.{lt-ltb, le-ltb, eq-eqb, ne_eqb}
+use lib.ListN.{length, length-take, take, drop, get_or}
+use lib.Dec.{eqb}
+use borrow.Author.Tests.{eq-eqb, ne_eqb}
+use Rattle.std.specs.Prelude.{Option, Some, IfSome, is_some, unwrap_or, ok_or, Result, Ok, Err}
+use Rattle.std.specs.Prelude.{None as Nothing}
 use Rattle.blocks.specs.Pick.{pick}
 use Rattle.blocks.specs.Bytes.{block_count, store, store_block, store_all}
 use Rattle.blocks.specs.Name.{is_name}
-use Rattle.blocks.specs.Descriptor.{physical, cost_of, descriptor_at, revision_of, tail_at, descriptor_block, reopening}
-use Rattle.chains.specs.Chain.{Sound, chain, descriptors, index_of, named, descriptors_at, Regions, regions_of, active_of}
+use Rattle.blocks.specs.Descriptor.{cost_of, descriptor_at, revision_of, tail_at, descriptor_block, reopening}
 use Rattle.blocks.specs.declared.descriptor.Descriptor.{Descriptor}
-use Rattle.calls.specs.Call.{Revert, answer, accepted}
-use Rattle.calls.specs.Parts.{area_bad, snapshots_of, with_name, SoundCard}
-use Rattle.calls.specs.Ladder.{revert_rows}
-use Rattle.calls.specs.Stores.{activated_of, reverting, revert_stores}
-use Rattle.calls.specs.Meaning.{rows_of, answer_of, stores_of}
 use Rattle.blocks.proofs.StoreLists.{stored_one}
-use Rattle.calls.proofs.CardLaws.{chain_is, card_sound, card_most, card_snapshots, card_snapshot_count, card_snapshot, card_alpha, card_at, card_found}
-use Rattle.links.proofs.MemberLaws.{member_long}
+use Rattle.blocks.proofs.DescriptorLaws.{cost_least}
+use Rattle.chains.specs.Chain.{Sound, Walk, chain, descriptors, index_of, named, descriptors_at, walk_of, active_of}
+use Rattle.calls.specs.declared.answer.Refusal.{Refusal}
+use Rattle.calls.specs.declared.answer.Refusal.TheVariants as why
+use Rattle.calls.specs.Call.{Revert, None, answer, accepted, refused}
+use Rattle.calls.specs.Parts.{area_bad, snapshots_of, with_name, SoundCard}
+use Rattle.calls.specs.Ladder.{first_row, revert_rows}
+use Rattle.calls.specs.Stores.{activated, reverting, revert_stores}
+use Rattle.calls.specs.Meaning.{rows_of, answer_of, stores_of, filled_of, given_of}
+use Rattle.calls.specs.Step.{step, done, is_accepted}
+use Rattle.calls.proofs.CardLaws.{chain_is, card_sound, card_most, card_snapshots, card_snapshot}
+use Rattle.calls.proofs.RowLaws.{row_given, last_passed, card_admitted, name_passed, chain_given, chain_passed}
+use Rattle.calls.proofs.StepLaws.{step_accepted}
 use Rattle.calls.proofs.VisitLaws.{before, behind, visit_split, visit_end}
-use Rattle.calls.proofs.RowLaws.{row_given, last_passed, Reached, reached, card_admitted, name_passed}
+use Rattle.calls.proofs.Passed.{RevertPassed, revert_passed}
+use Rattle.chains.proofs.NamedLaws.{named_found}
+use Rattle.links.proofs.MemberLaws.{member_long, member_inside}
 
--- the row of a revert that follows the chain's, in the order of the code
-pub revert_reached : (c name : List ℕ) → is_name name ≡ true → (count : ℕ) (starts : List ℕ) → SoundCard c count starts
-    → Reached (Revert name) c (drop 2 (revert_rows c name)) (record { sound = true; place = physical 0; active = active_of (descriptors (chain c)); count = count; starts = starts })
-unfolding answer_of rows_of revert_rows
-revert_reached c name is_name_lem count starts s = reached (Revert name) c _ count starts s (card_admitted c s.area _ ∙ name_passed _ name (is_name name) refl (rw is_name_lem))
+-- the rows of a revert past that of its name, in the order of the code
+module _ (c name : List ℕ) (area : area_bad c ≡ false) (called : is_name name ≡ true) where
+  to_chain : answer_of (Revert name) c ≡ first_row (drop 1 (revert_rows c name))
+  unfolding answer_of rows_of revert_rows
+  to_chain = card_admitted c area _ ∙ name_passed _ name (is_name name) refl (rw called)
 
-module _ (c : List ℕ) (name : List ℕ) (r : Regions) (h : Reached (Revert name) c (drop 2 (revert_rows c name)) r) (k : ℕ) (index : k ≡ index_of (descriptors_at c (take (r.count - 1) r.starts)) name) where
-  walked : r ≡ regions_of (chain c)
-  walked = h.walked
-
-  good : area_bad c ≡ false
-  good = h.area
-
-  ok : r.sound ≡ true
-  ok = h.sound
-
-  index_is : k ≡ index_of (snapshots_of (descriptors (chain c))) name
-  index_is = index ∙ ap (λ (ds : List Descriptor). index_of ds name) (card_snapshots c r walked good ok)
-
-  found_is : named (snapshots_of (descriptors (chain c))) name ≡ ltb k (r.count - 1)
-  unfolding named
-  found_is = rw (← index_is, card_snapshot_count c r walked good ok)
-
-  pub revert_7 : k ≡ r.count - 1 → answer_of (Revert name) c ≡ answer 7 0
+  pub revert_6 : (w : Walk) → w ≡ walk_of (chain c) → not w.sound ≡ true → answer_of (Revert name) c ≡ answer 6 w.place.0
   unfolding revert_rows
-  revert_7 e = h.rest ∙ row_given _ _ (rw (found_is, le-ltb k (r.count - 1) (omega arith)))
+  revert_6 w walked h = to_chain ∙ chain_given _ c w walked h
 
-  module _ (inside : k < r.count - 1) where
-    pub revert_0 : answer_of (Revert name) c ≡ accepted
+  -- with the snapshot as the code looks it up
+  module _ (count : ℕ) (starts : List ℕ) (s : SoundCard c count starts) (o : Option ℕ) (told : unwrap_or o (length (take (count - 1) starts)) ≡ index_of (descriptors_at c (take (count - 1) starts)) name)
+      (bound : IfSome o (λ k. k < length (take (count - 1) starts))) (r : Result ℕ Refusal) (tested : r ≡ ok_or o why.NoSnapshot) where
+    abbrev ss : List Descriptor
+    ss = snapshots_of (descriptors (chain c))
+
+    are : descriptors_at c (take (count - 1) starts) ≡ ss
+    are = card_snapshots c _ (sym s.regions) s.area refl
+
+    found_is : named ss name ≡ is_some o
+    found_is = ap (λ (ds : List Descriptor). named ds name) (sym are) ∙ sym (named_found c (take (count - 1) starts) name o told bound)
+
+    to_found : answer_of (Revert name) c ≡ first_row (drop 2 (revert_rows c name))
     unfolding revert_rows
-    revert_0 = h.rest ∙ last_passed _ (rw (found_is, lt-ltb k (r.count - 1) inside))
+    to_found = to_chain ∙ chain_passed _ c (card_sound c _ (sym s.regions) refl)
 
-    -- the snapshot, and where it stands
-    snapshot_is : with_name (snapshots_of (descriptors (chain c))) name ≡ descriptor_at c (get_or r.starts k 0)
-    snapshot_is = rw (← index_is) (card_snapshot c r walked good ok k inside)
+    pub revert_7 : (e : Refusal) → r ≡ Err e → answer_of (Revert name) c ≡ refused e
+    unfolding revert_rows
+    revert_7 e f = by o found_is tested
+      where
+        by : (x : Option ℕ) → named ss name ≡ is_some x → r ≡ ok_or x why.NoSnapshot → answer_of (Revert name) c ≡ refused e
+        by Nothing n q = let same : why.NoSnapshot ≡ e = cc in to_found ∙ row_given _ _ (rw n) ∙ ap refused same
+        by (Some k) n q = cc
 
-    alpha_is : (descriptor_at c (get_or r.starts k 0)).alpha.0 ≡ get_or r.starts k 0
-    alpha_is = ap (λ (d : Descriptor). d.alpha.0) (sym (card_at c r walked good ok k (omega arith))) ∙ card_alpha c r walked good ok k (omega arith)
+    module _ (k : ℕ) (there : r ≡ Ok k) where
+      abbrev Index : Option ℕ → Type 0
+      Index x = (named ss name ≡ true) × (k ≡ index_of ss name) × (k < count - 1)
 
-    active_is : active_of (descriptors (chain c)) ≡ r.active
-    active_is = sym (card_found c r walked good ok)
+      index_is : Index o
+      index_is = by o found_is told bound tested
+        where
+          by : (x : Option ℕ) → named ss name ≡ is_some x → unwrap_or x (length (take (count - 1) starts)) ≡ index_of (descriptors_at c (take (count - 1) starts)) name
+              → IfSome x (λ j. j < length (take (count - 1) starts)) → r ≡ ok_or x why.NoSnapshot → Index x
+          by Nothing n t b q = cc
+          by (Some j) n t b q =
+              let same : k ≡ j = cc in
+              (n, same ∙ t ∙ ap (λ (ds : List Descriptor). index_of ds name) are, omega (arith, b, same, length-take (count - 1) starts))
 
-    -- what a region that opens at its beta asks: it has room there
-    sound_c : chain c ≡ Sound (descriptors (chain c))
-    sound_c = chain_is (chain c) (card_sound c r walked ok)
+      snapshot_counted : k < count - 1
+      snapshot_counted = index_is.2
 
-    there : named (snapshots_of (descriptors (chain c))) name ≡ true
-    there = found_is ∙ lt-ltb k (r.count - 1) inside
+      pub revert_0 : answer_of (Revert name) c ≡ accepted
+      unfolding revert_rows
+      revert_0 = to_found ∙ last_passed _ (rw index_is.0)
 
-    pub revert_room : (d : Descriptor) → d ≡ descriptor_at c (get_or r.starts k 0) → (d.alpha.0 + cost_of d ≤ d.beta.0) × (512 * (d.beta.0 + cost_of d) ≤ length c) × (d.beta.0 + cost_of d < 4294967296)
-    unfolding block_count
-    revert_room d d_is =
-        let ds = descriptors (chain c) in
-        let v : Descriptor = with_name (snapshots_of ds) name in
-        let is : d ≡ v = d_is ∙ sym snapshot_is in
-        let long : v.alpha.0 + cost_of v ≤ v.beta.0 = member_long c ds (before (snapshots_of ds) name) v (behind (snapshots_of ds) name ++ (active_of ds ∷ [])) sound_c (visit_split c ds sound_c name there) in
-        let end : v.beta.0 + cost_of v ≤ length c / 512 = visit_end c ds sound_c name there in
-        let most : length c / 512 ≤ 65536 = card_most c good in
-        rw is (long, omega (arith, end), omega (arith, end, most))
+      pub snapshot_found : with_name ss name ≡ descriptor_at c (get_or starts k 0)
+      snapshot_found = rw (← index_is.1) (card_snapshot c _ (sym s.regions) s.area refl k snapshot_counted)
 
-    -- on revision 0 and on revision 1
-    abbrev w : Descriptor
-    w = activated_of (descriptor_at c (get_or r.starts k 0)) r.active.name
+-- what a revert does with the snapshot, as the active one
+module _ (c name : List ℕ) (ok : accepted ≡ answer_of (Revert name) c) (v : Descriptor) (v_is : v ≡ activated c name) where
+  abbrev ds : List Descriptor
+  ds = descriptors (chain c)
 
-    stores_are : stores_of (Revert name) c ≡ pick (eqb (revision_of c) 1) (reopening c w []) (store (get_or r.starts k 0) (descriptor_block w (tail_at c (get_or r.starts k 0))) ∷ [])
-    unfolding stores_of revert_stores reverting
-    stores_are =
-        rw (snapshot_is, active_is)
-        (ap (λ (p : ℕ). pick (eqb (revision_of c) 1) (reopening c w []) (store p (descriptor_block w (tail_at c p)) ∷ [])) alpha_is)
+  passed : RevertPassed c name
+  passed = revert_passed c name (ap is_accepted (sym ok))
 
-    pub reverted : (d : Descriptor) → d ≡ descriptor_at c (get_or r.starts k 0) → (current : List ℕ) → current ≡ r.active.name → (n : ℕ) → n ≡ revision_of c → (n ≡ 1 → ⊥) → (c' : List ℕ)
-        → c' ≡ store_block c (get_or r.starts k 0) (descriptor_block (activated_of d current) (tail_at c (get_or r.starts k 0)))
-        → c' ≡ store_all c (stores_of (Revert name) c)
-    reverted d d_is current current_is n n_is other c' e =
-        let p = get_or r.starts k 0 in
-        let is : stores_of (Revert name) c ≡ store p (descriptor_block w (tail_at c p)) ∷ [] = stores_are ∙ rw (ne_eqb (revision_of c) 1 (λ f. other (n_is ∙ f))) in
-        e ∙ rw (d_is, current_is) (sym (stored_one c p (descriptor_block w (tail_at c p)))) ∙ sym (ap (store_all c) is)
+  chained : chain c ≡ Sound ds
+  chained = chain_is (chain c) passed.sound
 
-    pub reopened : (d : Descriptor) → d ≡ descriptor_at c (get_or r.starts k 0) → (current : List ℕ) → current ≡ r.active.name → (n : ℕ) → n ≡ revision_of c → n ≡ 1 → (c' : List ℕ)
-        → c' ≡ store_all c (reopening c (activated_of d current) [])
-        → c' ≡ store_all c (stores_of (Revert name) c)
-    reopened d d_is current current_is n n_is one c' e =
-        let is : stores_of (Revert name) c ≡ reopening c w [] = stores_are ∙ rw (eq-eqb (revision_of c) 1 (sym n_is ∙ one)) in
-        e ∙ rw (d_is, current_is) refl ∙ sym (ap (store_all c) is)
+  abbrev snapshot : Descriptor
+  snapshot = with_name (snapshots_of ds) name
+
+  pub revert_ready : (k : ℕ) → k ≡ cost_of v → (k ≡ cost_of v) × (v.alpha.0 + k ≤ v.beta.0) × (512 * (v.beta.0 + k) ≤ length c) × (v.beta.0 + k < 4294967296) × (1 ≤ k)
+  unfolding block_count
+  revert_ready k k_is =
+      let long : snapshot.alpha.0 + cost_of snapshot ≤ snapshot.beta.0 = member_long c ds (before (snapshots_of ds) name) snapshot (behind (snapshots_of ds) name ++ (active_of ds ∷ [])) chained (visit_split c ds chained name passed.there) in
+      let end : snapshot.beta.0 + cost_of snapshot ≤ length c / 512 = visit_end c ds chained name passed.there in
+      let most : length c / 512 ≤ 65536 = card_most c passed.area in
+      rw (k_is, v_is) (refl, long, omega (arith, end), omega (arith, end, most), cost_least snapshot.layout snapshot.volume)
+
+  pub revert_inside : 512 * v.alpha.0 + 512 ≤ length c
+  revert_inside = rw v_is (member_inside c ds (before (snapshots_of ds) name) snapshot (behind (snapshots_of ds) name ++ (active_of ds ∷ [])) chained (visit_split c ds chained name passed.there))
+
+  -- on revision 1 and on revision 0
+  stores_are : stores_of (Revert name) c ≡ pick (eqb (revision_of c) 1) (reopening c v []) (store v.alpha.0 (descriptor_block v (tail_at c v.alpha.0)) ∷ [])
+  unfolding stores_of revert_stores reverting
+  stores_are = rw v_is
+
+  module _ (n : ℕ) (n_is : n ≡ revision_of c) (c' : List ℕ) where
+    pub reopened : n ≡ 1 → c' ≡ store_all c (reopening c v []) → done accepted None c' ≡ step (Revert name) c
+    unfolding filled_of given_of
+    reopened one e = step_accepted (Revert name) c (sym ok) None refl c' (e ∙ sym (ap (store_all c) (stores_are ∙ rw (eq-eqb (revision_of c) 1 (sym n_is ∙ one))))) refl
+
+    pub reverted : (n ≡ 1 → ⊥) → c' ≡ store_block c v.alpha.0 (descriptor_block v (tail_at c v.alpha.0)) → done accepted None c' ≡ step (Revert name) c
+    unfolding filled_of given_of
+    reverted other e =
+        step_accepted (Revert name) c (sym ok) None refl c'
+        (e ∙ sym (stored_one c v.alpha.0 (descriptor_block v (tail_at c v.alpha.0))) ∙ sym (ap (store_all c) (stores_are ∙ rw (ne_eqb (revision_of c) 1 (λ f. other (n_is ∙ f)))))) refl

@@ -11,7 +11,7 @@ use Rattle.blocks.specs.Pick.{pick}
 use Rattle.blocks.specs.Name.{is_name}
 use Rattle.blocks.specs.Descriptor.{physical}
 use Rattle.chains.specs.Chain.{chain, chain_sound, Regions, regions_of, walk_of, descriptors, active_of}
-use Rattle.chains.specs.declared.chain.Walk.{Walk}
+use Rattle.chains.specs.Chain.{Walk}
 use Rattle.blocks.proofs.Tests.{and_left, and_right}
 use Rattle.calls.specs.declared.answer.Answer.{Answer}
 use Rattle.calls.specs.Call.{Call, Ream, Read, Write, Snap, Revert, Listing, Check, Visit, SpanRead, SpanWrite, answer, accepted}
@@ -246,13 +246,10 @@ module _ (rs : List Row) where
       pub volume_passed : l < r.active.volume → first_row (volume_row c l ∷ rs) ≡ first_row rs
       volume_passed h = row_passed (volume_row c l) rs (rw (← (card_found c r walked good ok)) (lt-leb r.active.volume l h))
 
--- the first rows of a snap and of a revert, after admission: name, chain
+-- the first row of a snap and of a revert, after admission: the name
 module _ (rs : List Row) (c : List ℕ) (name : List ℕ) (a : Answer) (asked : a ≡ first_row (admission c)) (card : a.number ≡ 0) (n : Bool) (called : n ≡ is_name name) where
   pub named_4 : not n ≡ true → first_row (admission c ++ (name_row name ∷ rs)) ≡ answer 4 0
   named_4 h = admitted c a asked _ card ∙ name_given _ name n called h
-
-  pub named_6 : not n ≡ false → (w : Walk) → w ≡ walk_of (chain c) → not w.sound ≡ true → first_row (admission c ++ (name_row name ∷ chain_row c ∷ rs)) ≡ answer 6 w.place.0
-  named_6 is_name_lem w walked h = admitted c a asked _ card ∙ name_passed _ name n called is_name_lem ∙ chain_given _ c w walked h
 
 -- an area that is a card is admitted
 pub card_admitted : (c : List ℕ) → area_bad c ≡ false → (rs : List Row) → first_row (admission c ++ rs) ≡ first_row rs

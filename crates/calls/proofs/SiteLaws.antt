@@ -6,7 +6,7 @@ use Prim.Native.Nat.{ℕ, ◌+◌, ◌*◌, ◌-◌, ◌/◌, ◌≤◌, ◌<◌
 use native.Mathlib.Omega.{arith}
 use lib.ListN.{length, take, drop, get_or}
 use lib.Dec.{eqb, ltb}
-use borrow.Author.Tests.{le-leb, lt-leb, lt-ltb, le-ltb, eq-eqb, ne_eqb, not-false}
+use borrow.Author.Tests.{le-leb, lt-leb, lt-ltb, le-ltb, eq-eqb, not-false}
 use Rattle.blocks.specs.Pick.{pick}
 use Rattle.blocks.specs.Bytes.{block_count, store_all}
 use Rattle.blocks.specs.Name.{is_name}
@@ -15,20 +15,21 @@ use Rattle.blocks.specs.declared.numbers.Physical.{Physical}
 use Rattle.blocks.specs.declared.descriptor.Descriptor.{Descriptor}
 use Rattle.blocks.proofs.DescriptorLaws.{cost_least}
 use Rattle.chains.specs.Chain.{Sound, chain, chain_sound, named, descriptors, descriptors_at, walk_of, active_of}
-use Rattle.chains.specs.declared.chain.Walk.{Walk}
+use Rattle.chains.specs.Chain.{Walk}
 use Rattle.calls.specs.declared.answer.Answer.{Answer}
-use Rattle.calls.specs.declared.answer.Site.{Site}
-use Rattle.calls.specs.Call.{Snap, None, answer, accepted}
+use Rattle.calls.specs.Effect.{Site, no_site, site_of}
+use Rattle.calls.specs.declared.answer.Refusal.{Refusal}
+use Rattle.calls.specs.Call.{Snap, None, answer, accepted, refused}
 use Rattle.calls.specs.Parts.{area_bad, snapshots_of, SoundCard}
-use Rattle.calls.specs.Ladder.{Row, row, first_row, site_rows, snap_rows}
+use Rattle.calls.specs.Ladder.{Row, row, first_row, admission, site_rows, snap_rows}
 use Rattle.calls.specs.Stores.{snapping, snap_stores}
-use Rattle.calls.specs.Effect.{no_site, site_of}
-use Rattle.calls.specs.Meaning.{rows_of, answer_of, stores_of, lent_of, filled_of, given_of}
+use Rattle.calls.specs.Meaning.{rows_of, answer_of, stores_of, filled_of, given_of}
 use Rattle.calls.specs.Step.{step, done}
 use Rattle.calls.proofs.CardLaws.{card_sound, card_some, card_all, card_at, card_alpha, card_active, card_snapshot_count, card_small, chain_is}
 use Rattle.calls.proofs.ActiveLaws.{active_here, active_inside, active_long}
 use Rattle.calls.proofs.RowLaws.{numbered, fresh, none, first_append, row_given, row_passed, last_passed, chain_given, chain_passed, card_admitted, name_passed}
-use Rattle.calls.proofs.StepLaws.{step_refused, step_accepted}
+use Rattle.calls.proofs.StepLaws.{step_accepted}
+use Rattle.calls.proofs.ResultLaws.{refused_test, admitted}
 
 site_numbered : (c name : List ℕ) → numbered (site_rows c name) ≡ true
 unfolding numbered fresh
@@ -70,14 +71,14 @@ module _ (c name : List ℕ) (count : ℕ) (starts : List ℕ) (s : SoundCard c 
         let less : count - 1 < count = omega (arith, card_some c _ r s.area refl) in
         sym (ap (λ (x : Descriptor). x.alpha.0) (card_active c _ r s.area refl ∙ sym (card_at c _ r s.area refl (count - 1) less)) ∙ card_alpha c _ r s.area refl (count - 1) less)
 
-    pub site_0 : count ≤ 255 → ◌≡◌ {A = Site} (record { answer = accepted; alpha = physical (get_or starts (count - 1) 0) }) (site_of c name)
+    pub site_0 : count ≤ 255 → (alpha : Physical) → alpha ≡ physical (get_or starts (count - 1) 0) → ◌≡◌ {A = Site} (record { answer = accepted; alpha = alpha }) (site_of c name)
     unfolding site_of
-    site_0 h =
+    site_0 h alpha alpha_is =
         let fit = lt-leb 255 (count - 1) (omega (arith, card_some c _ (sym s.regions) s.area refl)) in
-        rw (to_count ∙ last_passed _ (rw snapshots fit), last_start)
+        rw (to_count ∙ last_passed _ (rw snapshots fit), alpha_is, last_start)
 
 -- what a snap knows of where it is taken
-module _ (c name : List ℕ) (area : area_bad c ≡ false) (is_name_lem : is_name name ≡ true) (at : Site) (at_is : at ≡ site_of c name) where
+module _ (c name : List ℕ) (asked : accepted ≡ first_row (admission c)) (n : Bool) (called : n ≡ is_name name) (good : n ≡ true) where
   abbrev ds : List Descriptor
   ds = descriptors (chain c)
 
@@ -96,39 +97,39 @@ module _ (c name : List ℕ) (area : area_bad c ≡ false) (is_name_lem : is_nam
   abbrev room_row : Row
   room_row = row (ltb (block_count c) (d.beta.0 + cost_of d)) 11 0
 
+  area : area_bad c ≡ false
+  area = admitted c asked
+
   to_chain : answer_of (Snap name) c ≡ first_row (site_rows c name ++ (room_row ∷ []))
   unfolding answer_of rows_of snap_rows
-  to_chain = card_admitted c area _ ∙ name_passed _ name (is_name name) refl (rw is_name_lem)
+  to_chain = card_admitted c area _ ∙ name_passed _ name n called (rw good)
 
   -- its answer: that of these rows, or where none holds that for want of room
   answer_is : answer_of (Snap name) c ≡ pick (eqb first.number 0) room first
   unfolding first_row
   answer_is = to_chain ∙ first_append (site_rows c name) (room_row ∷ []) (site_numbered c name)
 
-  answer_by_lem : (t : Bool) → at ≡ by t → at.answer ≡ first
-  answer_by_lem true e = ap (λ (a : Site). a.answer) e
-  answer_by_lem false e = ap (λ (a : Site). a.answer) e
+  answer_by_lem : (at : Site) (t : Bool) → at ≡ by t → first ≡ at.answer
+  answer_by_lem at true e = ap (λ (a : Site). a.answer) (sym e)
+  answer_by_lem at false e = ap (λ (a : Site). a.answer) (sym e)
 
-  same_answer : at.answer ≡ first
+  first_is : (at : Site) → at ≡ site_of c name → first ≡ at.answer
   unfolding site_of
-  same_answer = answer_by_lem (eqb first.number 0) at_is
-
-  same_number : at.answer.number ≡ first.number
-  same_number = ap (λ (a : Answer). a.number) same_answer
+  first_is at e = answer_by_lem at (eqb first.number 0) e
 
   -- refused by one of these rows
-  pub site_refused : (at.answer.number ≡ 0 → ⊥) → done at.answer None c ≡ step (Snap name) c
-  unfolding lent_of
-  site_refused h =
-      let z : eqb first.number 0 ≡ false = ne_eqb first.number 0 (λ e. h (same_number ∙ e)) in
-      step_refused (Snap name) c at.answer.number at.answer.place (answer_is ∙ rw z (sym same_answer)) (ne_eqb at.answer.number 0 h)
+  pub site_refused : (r : Refusal) → no_site (refused r) ≡ site_of c name → answer_of (Snap name) c ≡ refused r
+  site_refused r e = let is = first_is (no_site (refused r)) e in answer_is ∙ rw (is, refused_test r)
 
   -- by none of them: the active descriptor, and the row for want of room is left
-  module _ (free : at.answer.number ≡ 0) where
-    passed : first.number ≡ 0
-    passed = sym same_number ∙ free
+  module _ (alpha : Physical) (at_is : ◌≡◌ {A = Site} (record { answer = accepted; alpha = alpha }) (site_of c name)) where
+    first_none : first ≡ accepted
+    first_none = first_is (record { answer = accepted; alpha = alpha }) at_is
 
-    alpha_is : at.alpha ≡ d.alpha
+    passed : first.number ≡ 0
+    passed = ap (λ (a : Answer). a.number) first_none
+
+    alpha_is : alpha ≡ d.alpha
     unfolding site_of
     alpha_is = ap (λ (a : Site). a.alpha) (at_is ∙ ap by (eq-eqb first.number 0 passed))
 
@@ -138,19 +139,19 @@ module _ (c name : List ℕ) (area : area_bad c ≡ false) (is_name_lem : is_nam
     to_room : answer_of (Snap name) c ≡ room
     to_room = answer_is ∙ rw (eq-eqb first.number 0 passed)
 
-    pub site_inside : 512 * at.alpha.0 + 512 ≤ length c
+    pub site_inside : 512 * alpha.0 + 512 ≤ length c
     site_inside = rw alpha_is (active_inside c ds chained)
 
-    module _ (e : Descriptor) (e_is : e ≡ descriptor_at c at.alpha.0) (k : ℕ) (cost_is : k ≡ cost_of e) where
+    module _ (e : Descriptor) (e_is : e ≡ descriptor_at c alpha.0) (k : ℕ) (cost_is : k ≡ cost_of e) where
       active_is : e ≡ d
       active_is = e_is ∙ ap (λ (p : Physical). descriptor_at c p.0) alpha_is ∙ sym (active_here c ds chained)
 
       long : e.alpha.0 + k ≤ e.beta.0
       long = rw (cost_is, active_is) (active_long c ds chained)
 
-      pub site_11 : length c / 512 < e.beta.0 + k → done (answer 11 0) None c ≡ step (Snap name) c
-      unfolding lent_of block_count
-      site_11 h = step_refused (Snap name) c 11 0 (to_room ∙ rw (← active_is, ← cost_is, lt-ltb (length c / 512) (e.beta.0 + k) h)) refl
+      pub site_11 : length c / 512 < e.beta.0 + k → answer_of (Snap name) c ≡ answer 11 0
+      unfolding block_count
+      site_11 h = to_room ∙ rw (← active_is, ← cost_is, lt-ltb (length c / 512) (e.beta.0 + k) h)
 
       module _ (room : e.beta.0 + k ≤ length c / 512) where
         pub site_ready : (k ≡ cost_of e) × (e.alpha.0 + k ≤ e.beta.0) × (512 * (e.beta.0 + k) ≤ length c) × (e.beta.0 + k < 4294967296) × (1 ≤ k)

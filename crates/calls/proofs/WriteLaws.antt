@@ -7,7 +7,7 @@ use borrow.Author.Tests.{lt-ltb, le-ltb}
 use Rattle.blocks.specs.Bytes.{block_count, store_all}
 use Rattle.blocks.specs.declared.descriptor.Descriptor.{Descriptor}
 use Rattle.entries.specs.Entry.{need, writing}
-use Rattle.entries.specs.declared.find.Found.{Found}
+use Rattle.entries.specs.Found.{Found}
 use Rattle.calls.specs.declared.answer.Answer.{Answer}
 use Rattle.calls.specs.Call.{Call, Write, answer, accepted}
 use Rattle.calls.specs.Ladder.{admission, first_row, write_rows}

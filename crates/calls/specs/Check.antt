@@ -5,8 +5,7 @@ use Rattle.blocks.specs.Descriptor.{no_descriptor}
 use Rattle.chains.specs.Chain.{chain, chain_sound}
 use Rattle.blocks.specs.declared.descriptor.Descriptor.{Descriptor}
 use Rattle.entries.specs.Naming.{namings, check_one}
-use Rattle.entries.specs.declared.check.Verdict.{Verdict}
-use Rattle.entries.specs.declared.check.Verdict.TheVariants.{Passed, Fault}
+use Rattle.entries.specs.Found.{Verdict, Passed, Fault}
 use Rattle.entries.specs.Rules.{Rules}
 use Rattle.entries.specs.Marks.{next_turn, next_flags, Taken, taking_all}
 use Rattle.calls.specs.Parts.{area_bad, descriptors_of}

@@ -7,9 +7,8 @@ use Rattle.blocks.specs.Descriptor.{cost_of, most_volume, revision_ok, cost_in}
 use Rattle.chains.specs.Chain.{chain, chain_sound, chain_place, named, active_of}
 use Rattle.entries.specs.Entry.{need}
 use Rattle.calls.specs.declared.answer.Answer.{Answer}
-use Rattle.calls.specs.declared.answer.Target.{Target}
+use Rattle.calls.specs.Call.{Target, answer, accepted}
 use Rattle.calls.specs.declared.answer.Record.{Record}
-use Rattle.calls.specs.Call.{answer, accepted}
 use Rattle.calls.specs.Parts.{area_bad, descriptors_of, snapshots_of, target_of, is_snapshot, found_through, is_misplaced, holder_of, most_snapshots}
 use Rattle.calls.specs.Check.{check_card, is_fault, fault_holder}
 use Rattle.calls.specs.Spans.{span_verdict, write_span_need}

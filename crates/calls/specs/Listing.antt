@@ -1,13 +1,13 @@
 -- What the code of a listing plans and fills.
-use Rattle.std.specs.Prelude.{◌≡◌, Bool, true, List, [], ◌∷◌, ℕ, zero, suc, ◌+◌, ◌<◌, length, get_or, set, replicate, eqb, ltb}
+use Rattle.std.specs.Prelude.{Result, Ok, Err, ◌≡◌, Bool, true, List, [], ◌∷◌, ℕ, zero, suc, ◌+◌, ◌<◌, length, get_or, set, replicate, eqb, ltb}
 use Rattle.blocks.specs.Pick.{pick}
 use Rattle.blocks.specs.Descriptor.{physical, descriptor_at}
 use Rattle.chains.specs.Chain.{chain, starts_of, starts_size, walk_of}
 use Rattle.chains.specs.Walk.{places_left}
 use Rattle.calls.specs.declared.answer.Record.{Record}
-use Rattle.calls.specs.declared.list.Filling.{Filling}
-use Rattle.calls.specs.declared.list.Plan.{Plan}
-use Rattle.calls.specs.Call.{Listing, answer}
+use Rattle.calls.specs.declared.answer.Answer.{Answer}
+use Rattle.calls.specs.declared.answer.Refusal.{Refusal}
+use Rattle.calls.specs.Call.{Listing, answer, accepted, refused}
 use Rattle.calls.specs.Parts.{descriptors_of}
 use Rattle.calls.specs.Ladder.{first_row, admission}
 use Rattle.calls.specs.Meaning.{answer_of}
@@ -16,6 +16,22 @@ use Rattle.calls.specs.Step.{is_accepted}
 -- the records that a sheet owns
 abbrev pub sheet_records : ℕ
 sheet_records = 64
+
+-- what a listing answers, and how many records it fills: none where it is refused
+pub record Filling : Type 0 where
+  pub answer : Answer
+  pub count : ℕ
+
+-- the same, and the places as the walk leaves them: in the first of them where the regions start, if the chain is sound
+pub record Plan : Type 0 where
+  pub answer : Answer
+  pub count : ℕ
+  pub starts : List ℕ
+
+-- the first from what the code returns
+abbrev pub filling_as : Result ℕ Refusal → Filling
+filling_as (Ok n) = record { answer = accepted; count = n }
+filling_as (Err r) = record { answer = refused r; count = 0 }
 
 -- an answer and a number of records to fill
 abbrev pub filling_with : ℕ → ℕ → ℕ → Filling

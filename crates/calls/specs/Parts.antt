@@ -6,10 +6,8 @@ use Rattle.blocks.specs.Descriptor.{physical, no_descriptor}
 use Rattle.chains.specs.Chain.{index_of, chain, descriptors, active_of, regions_of}
 use Rattle.blocks.specs.declared.descriptor.Descriptor.{Descriptor}
 use Rattle.entries.specs.Entry.{find}
-use Rattle.entries.specs.declared.find.Found.{Found}
-use Rattle.entries.specs.declared.find.Found.TheVariants.{Misplaced, Entry}
-use Rattle.calls.specs.declared.answer.Target.{Target}
-use Rattle.calls.specs.declared.answer.Target.TheVariants.{Active, Snapshot}
+use Rattle.entries.specs.Found.{Found, Misplaced, Entry}
+use Rattle.calls.specs.Call.{Target, Active, Snapshot}
 
 abbrev pub most_snapshots : ℕ
 most_snapshots = 255

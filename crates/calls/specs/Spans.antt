@@ -7,8 +7,7 @@ use Rattle.blocks.specs.Descriptor.{physical}
 use Rattle.blocks.specs.declared.descriptor.Descriptor.{Descriptor}
 use Rattle.pieces.specs.Span.{span_block, touched, piece_in, merged}
 use Rattle.chains.specs.Chain.{active_of}
-use Rattle.entries.specs.declared.check.Verdict.{Verdict}
-use Rattle.entries.specs.declared.check.Verdict.TheVariants.{Passed, Fault}
+use Rattle.entries.specs.Found.{Verdict, Passed, Fault}
 use Rattle.calls.specs.Parts.{descriptors_of, found_through, is_misplaced, holder_of, block_found}
 use Rattle.calls.specs.Stores.{write_stores, write_need}
 

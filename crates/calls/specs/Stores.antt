@@ -16,6 +16,10 @@ snapping c d name = reopening c d (store d.alpha.0 (descriptor_block (linked_of 
 abbrev pub activated_of : Descriptor → List ℕ → Descriptor
 activated_of v active_name = linked_of (renamed_of v active_name) (physical 0)
 
+-- what a revert of a card goes back to: the snapshot of the name, so altered
+abbrev pub activated : List ℕ → List ℕ → Descriptor
+activated c name = let ds = descriptors_of c in activated_of (with_name (snapshots_of ds) name) (active_of ds).name
+
 -- a revert to the snapshot v: on revision 0 its descriptor gets the active name and a nil next; on revision 1 it stays as it is, and a region opens at its
 -- beta, as a snap opens one, under the active name
 unfoldable pub reverting : List ℕ → Descriptor → List ℕ → List Store

@@ -1,90 +1,129 @@
 // What a call takes and answers besides bytes.
+ghost use Rattle.std.specs.Prelude.{◌≡◌};
+ghost use Rattle.calls.specs.Call.{number_of, place_of, refused, answered};
+
 use blocks::numbers::Physical;
 use blocks::sizes::NAME_SIZE;
+use chains::chain::UnsoundChain;
+use entries::find::{Misplaced, Slot};
 
-// The number and the place of an answer: 0 and 0 where the call is accepted, else a refusal.
+// Why a call is refused, in the order of the numbers that the papers give to it. Two name the block at fault, and one a line of the work sheet.
+#[derive(Clone, Copy)]
+pub enum Refusal {
+    NoCard,
+    BadLayout,
+    BadVolume,
+    BadName,
+    CardTooSmall,
+    UnsoundChain(Physical),
+    NoSnapshot,
+    PastTheVolume,
+    BadBlock,
+    Misplaced(Physical),
+    NoRoom,
+    NameInUse,
+    TooManySnapshots,
+    TooFewRecords,
+    BadLine(u32),
+    PastTheEnd,
+    BadRevision,
+}
+
+impl Refusal {
+    // The number that the papers give to the refusal.
+    pub fn number(self) -> u32
+        ensures { result ≡ number_of self }
+    {
+        match self {
+            Refusal::NoCard => 1,
+            Refusal::BadLayout => 2,
+            Refusal::BadVolume => 3,
+            Refusal::BadName => 4,
+            Refusal::CardTooSmall => 5,
+            Refusal::UnsoundChain(_) => 6,
+            Refusal::NoSnapshot => 7,
+            Refusal::PastTheVolume => 8,
+            Refusal::BadBlock => 9,
+            Refusal::Misplaced(_) => 10,
+            Refusal::NoRoom => 11,
+            Refusal::NameInUse => 12,
+            Refusal::TooManySnapshots => 13,
+            Refusal::TooFewRecords => 14,
+            Refusal::BadLine(_) => 15,
+            Refusal::PastTheEnd => 16,
+            Refusal::BadRevision => 17,
+        }
+    }
+
+    // The place of the refusal: the block or the line that it names, else 0.
+    pub fn place(self) -> u32
+        ensures { result ≡ place_of self }
+    {
+        match self {
+            Refusal::UnsoundChain(p) | Refusal::Misplaced(p) => p.0,
+            Refusal::BadLine(line) => line,
+            _ => 0,
+        }
+    }
+}
+
+impl From<UnsoundChain> for Refusal {
+    ghost use Rattle.calls.specs.declared.answer.Refusal.{Refusal};
+
+    ghost from_gives = { λ e r. r ≡ Refusal.UnsoundChain e.0 };
+
+    fn from(e: UnsoundChain) -> Refusal {
+        Refusal::UnsoundChain(e.0)
+    }
+}
+
+impl From<Misplaced> for Refusal {
+    ghost use Rattle.calls.specs.declared.answer.Refusal.{Refusal};
+
+    ghost from_gives = { λ e r. r ≡ Refusal.Misplaced e.0 };
+
+    fn from(e: Misplaced) -> Refusal {
+        Refusal::Misplaced(e.0)
+    }
+}
+
+// The number and the place of an answer: 0 and 0 where the call is accepted, else a refusal's.
 #[derive(Clone, Copy)]
 pub struct Answer {
     pub number: u32,
     pub place: u32,
 }
 
-// The answers with place 0, by their numbers.
-pub const ACCEPTED: Answer = Answer {
-    number: 0,
-    place: 0,
-};
+impl From<Refusal> for Answer {
+    ghost from_gives = { λ r a. a ≡ refused r };
 
-pub const NO_CARD: Answer = Answer {
-    number: 1,
-    place: 0,
-};
+    fn from(r: Refusal) -> Answer {
+        Answer {
+            number: r.number(),
+            place: r.place(),
+        }
+    }
+}
 
-pub const BAD_LAYOUT: Answer = Answer {
-    number: 2,
-    place: 0,
-};
+impl From<Result<(), Refusal>> for Answer {
+    ghost from_gives = { λ r a. a ≡ answered r };
 
-pub const BAD_VOLUME: Answer = Answer {
-    number: 3,
-    place: 0,
-};
+    fn from(r: Result<(), Refusal>) -> Answer {
+        match r {
+            Ok(()) => Answer {
+                number: 0,
+                place: 0,
+            },
+            Err(e) => Answer::from(e),
+        }
+    }
+}
 
-pub const BAD_NAME: Answer = Answer {
-    number: 4,
-    place: 0,
-};
-
-pub const CARD_TOO_SMALL: Answer = Answer {
-    number: 5,
-    place: 0,
-};
-
-pub const NO_SNAPSHOT: Answer = Answer {
-    number: 7,
-    place: 0,
-};
-
-pub const PAST_THE_VOLUME: Answer = Answer {
-    number: 8,
-    place: 0,
-};
-
-pub const BAD_BLOCK: Answer = Answer {
-    number: 9,
-    place: 0,
-};
-
-pub const NO_ROOM: Answer = Answer {
-    number: 11,
-    place: 0,
-};
-
-pub const NAME_IN_USE: Answer = Answer {
-    number: 12,
-    place: 0,
-};
-
-pub const TOO_MANY_SNAPSHOTS: Answer = Answer {
-    number: 13,
-    place: 0,
-};
-
-pub const PAST_THE_END: Answer = Answer {
-    number: 16,
-    place: 0,
-};
-
-pub const BAD_REVISION: Answer = Answer {
-    number: 17,
-    place: 0,
-};
-
-// What a read reads, and what a visit is asked of: the active store, or the snapshot whose name stands beside.
+// What a read reads, and what a visit is asked of: the active store, or the snapshot that has the name.
 #[derive(Clone, Copy)]
 pub enum Target {
     Active,
-    Snapshot,
+    Snapshot([u8; NAME_SIZE]),
 }
 
 // One descriptor of the chain as a listing gives it.
@@ -96,28 +135,10 @@ pub struct Record {
     pub next: Physical,
 }
 
-// What a visit gives: number and place, and the name of the region's descriptor, sixteen zeros for none.
-#[derive(Clone, Copy)]
-pub struct Visited {
-    pub answer: Answer,
-    pub name: [u8; NAME_SIZE],
-}
-
-// Where a write goes: its answer by the tests from that of the chain up to that of the entry, the block of the active descriptor, the table block and the block
-// that the entry names, each of these two 0 for nil, and the blocks that it takes. With a refusal all but the answer are 0.
+// Where a write goes: the block of the active descriptor, the slot of the entry, and the blocks that the write takes.
 #[derive(Clone, Copy)]
 pub struct Aim {
-    pub answer: Answer,
     pub alpha: Physical,
-    pub table: Physical,
-    pub entry: Physical,
+    pub slot: Slot,
     pub taken: u32,
-}
-
-// Where a snapshot is taken: its answer by the tests from that of the chain up to that of the number of snapshots, and the block of the active descriptor, 0 with
-// a refusal.
-#[derive(Clone, Copy)]
-pub struct Site {
-    pub answer: Answer,
-    pub alpha: Physical,
 }

@@ -2,4 +2,5 @@
 #![tactic(auto)]
 
 pub mod answer; // what a call takes and answers besides bytes
-pub mod list; // what a listing plans
+pub mod list; // how many records a sheet has
+pub mod chain; // a card with a sound chain

@@ -2,12 +2,12 @@
 use mathlib.Core.Path.{◌≡◌, refl, sym, ap, ◌∙◌}
 use mathlib.Core.Bool.{Bool, true, false, ◌||◌}
 use mathlib.Core.List.{List, [], ◌∷◌, ◌++◌}
-use Prim.Native.Nat.{ℕ, suc, ◌+◌, ◌≤◌, ◌<◌}
-use native.Mathlib.Numerals.{add-one}
+use Prim.Native.Nat.{ℕ, suc, ◌≤◌, ◌<◌}
 use native.Mathlib.Omega.{arith}
-use lib.ListN.{length, take, drop, get_or, length-take, drop_of_length-le}
-use lib.Seq.{drop-cons, get_or-take, length-take-le}
+use lib.ListN.{length, take, get_or}
+use lib.Seq.{length-take-le}
 use lib.Dec.{ltb}
+use Rattle.std.specs.Prelude.{Option, Some, None, IfSome, is_some, unwrap_or}
 use borrow.Author.Tests.{lt-ltb, le-ltb, ltb-true, ltb-false}
 use Rattle.blocks.specs.Pick.{pick, same}
 use Rattle.blocks.specs.Descriptor.{descriptor_at}
@@ -15,27 +15,11 @@ use Rattle.chains.specs.Chain.{index_of, named, descriptors_at}
 use Rattle.blocks.specs.declared.descriptor.Descriptor.{Descriptor}
 use Rattle.blocks.proofs.BoolLaws.{or_false_both, or_nil, or_assoc, or_false_left}
 
--- the index with j of the descriptors passed
-unfoldable pub index_from : List ℕ → List ℕ → ℕ → List ℕ → ℕ → ℕ
-index_from c starts n name j = j + index_of (descriptors_at c (drop j (take n starts))) name
-
-module _ (c starts : List ℕ) (n : ℕ) (name : List ℕ) where
-  pub index_start : index_of (descriptors_at c (take n starts)) name ≡ index_from c starts n name 0
-  unfolding index_from
-  index_start = omega arith
-
-  module _ (j : ℕ) (more : j < n) (long : n ≤ length starts) (b : Bool) (is : b ≡ same (descriptor_at c (get_or starts j 0)).name name) where
-    pub index_stop : b ≡ true → index_from c starts n name j ≡ j
-    unfolding index_from index_of descriptors_at
-    index_stop e = rw (drop-cons (take n starts) j 0 (simp length-take (omega arith)), get_or-take n starts j 0 more, ← is, e) (omega arith)
-
-    pub index_more : b ≡ false → index_from c starts n name j ≡ index_from c starts n name (j + 1)
-    unfolding index_from index_of descriptors_at
-    index_more e = rw (add-one, drop-cons (take n starts) j 0 (simp length-take (omega arith)), get_or-take n starts j 0 more, ← is, e) (omega arith)
-
-  pub index_end : (j : ℕ) → n ≤ j → index_from c starts n name j ≡ j
-  unfolding index_from index_of descriptors_at
-  index_end j h = rw (drop_of_length-le (take n starts) {i = j} (simp length-take (omega arith))) (omega arith)
+-- the index is how many there are where none of the blocks' descriptors has the name
+index_none : (c name starts : List ℕ) → ((i : ℕ) → i < length starts → same (descriptor_at c (get_or starts i 0)).name name ≡ false) → index_of (descriptors_at c starts) name ≡ length starts
+unfolding index_of descriptors_at
+index_none c name [] apart = refl
+index_none c name (p ∷ ps) apart = rw (apart 0 (omega arith)) (ap suc (index_none c name ps (λ i h. apart (suc i) (omega arith))))
 
 -- the index is no more than how many there are
 index_le_by : (t : Bool) (i n : ℕ) → i ≤ n → pick t 0 (suc i) ≤ suc n
@@ -85,13 +69,19 @@ unfolding descriptors_at
 length_descriptors c [] = refl
 length_descriptors c (p ∷ ps) = ap suc (length_descriptors c ps)
 
-module _ (c starts : List ℕ) (n : ℕ) (long : n ≤ length starts) where
-  pub descriptors_counted : length (descriptors_at c (take n starts)) ≡ n
-  descriptors_counted = length_descriptors c (take n starts) ∙ length-take-le n starts long
+-- one of them has the name where its index is found
+pub named_found : (c starts name : List ℕ) (found : Option ℕ) → unwrap_or found (length starts) ≡ index_of (descriptors_at c starts) name → IfSome found (λ j. j < length starts)
+    → is_some found ≡ named (descriptors_at c starts) name
+unfolding named
+named_found c starts name (Some j) e h = rw (← e, length_descriptors) (sym (lt-ltb j (length starts) h))
+named_found c starts name None e h = rw (← e, length_descriptors) (sym (le-ltb (length starts) (length starts) (omega arith)))
 
-  pub named_index : (name : List ℕ) (i : ℕ) → i ≡ index_of (descriptors_at c (take n starts)) name → ltb i n ≡ named (descriptors_at c (take n starts)) name
-  unfolding named
-  named_index name i e = rw (e, descriptors_counted)
+pub not_named : (c starts name : List ℕ) → ((i : ℕ) → i < length starts → same (descriptor_at c (get_or starts i 0)).name name ≡ false) → named (descriptors_at c starts) name ≡ false
+unfolding named
+not_named c starts name apart = rw (index_none c name starts apart, length_descriptors) (le-ltb (length starts) (length starts) (omega arith))
+
+pub descriptors_counted : (c starts : List ℕ) (n : ℕ) → n ≤ length starts → length (descriptors_at c (take n starts)) ≡ n
+descriptors_counted c starts n long = length_descriptors c (take n starts) ∙ length-take-le n starts long
 
 -- names of lists joined
 pub named_append : (xs ys : List Descriptor) (n : List ℕ) → named (xs ++ ys) n ≡ (named xs n || named ys n)

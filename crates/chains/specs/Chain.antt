@@ -1,12 +1,12 @@
 -- The chain of descriptors: soundness, the walk from block 0, and the regions of the chain.
-use Rattle.std.specs.Prelude.{Bool, true, false, not, ◌&&◌, ◌||◌, List, [], ◌∷◌, ◌++◌, ℕ, zero, suc, ◌+◌, ◌*◌, length, eqb, ltb, leb}
+use Rattle.std.specs.Prelude.{Bool, true, false, Result, Ok, Err, not, ◌&&◌, ◌||◌, List, [], ◌∷◌, ◌++◌, ℕ, zero, suc, ◌+◌, ◌*◌, length, eqb, ltb, leb}
 use Rattle.blocks.specs.Pick.{pick, same}
 use Rattle.blocks.specs.Bytes.{block_size, part, block_count}
 use Rattle.blocks.specs.Name.{is_name}
 use Rattle.blocks.specs.Descriptor.{physical, mark, most_volume, phi_start, head_size, reserved_size, phi_bytes, cost_of, descriptor_at, revision_of, reserved_ok, phi_ok, no_descriptor}
 use Rattle.blocks.specs.declared.descriptor.Descriptor.{Descriptor}
 use Rattle.blocks.specs.declared.numbers.Physical.{Physical}
-use Rattle.chains.specs.declared.chain.Walk.{Walk}
+use Rattle.chains.specs.declared.chain.UnsoundChain.{UnsoundChain}
 
 -- the most descriptors of a chain
 abbrev pub most_descriptors : ℕ
@@ -116,5 +116,15 @@ regions_of (Unsound p) = record { sound = false; place = physical p; active = no
 regions_of (Sound ds) = record { sound = true; place = physical 0; active = active_of ds; count = length ds; starts = starts_of ds }
 
 -- of these the walk in code gives whether it is sound, the place and how many
+pub record Walk : Type 0 where
+  pub sound : Bool
+  pub place : Physical
+  pub count : ℕ
+
 unfoldable pub walk_of : Chain → Walk
 walk_of ch = let r = regions_of ch in record { sound = r.sound; place = r.place; count = r.count }
+
+-- the same from what the walk in code returns: how many there are, or the block of the first unsound one
+abbrev pub walk_as : Result ℕ UnsoundChain → Walk
+walk_as (Ok n) = record { sound = true; place = physical 0; count = n }
+walk_as (Err e) = record { sound = false; place = e.0; count = 0 }

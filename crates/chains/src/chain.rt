@@ -1,10 +1,6 @@
-// The result of a walk along the chain.
+// What is wrong with a chain.
 use blocks::numbers::Physical;
 
-// What a walk along the chain finds: how many descriptors there are, where every one is sound; otherwise `place` is the block of the unsound one.
+// The chain is unsound: the block of its first unsound descriptor.
 #[derive(Clone, Copy)]
-pub struct Walk {
-    pub sound: bool,
-    pub place: Physical,
-    pub count: usize,
-}
+pub struct UnsoundChain(pub Physical);

@@ -1,4 +1,4 @@
 // The chain of descriptors: its definitions and laws, and the type that these name. It has no function of its own.
 #![tactic(auto)]
 
-pub mod chain; // the result of a walk along the chain
+pub mod chain; // what is wrong with a chain

@@ -17,8 +17,7 @@ use Rattle.blocks.proofs.DescriptorLaws.{tail_length, block_whole, cost_least, f
 use Rattle.blocks.proofs.RegionLaws.{reopening_whole}
 use Rattle.blocks.proofs.NameLaws.{name_size_lem}
 use Rattle.entries.specs.Entry.{find, need, writing}
-use Rattle.entries.specs.declared.find.Found.{Found}
-use Rattle.entries.specs.declared.find.Found.TheVariants.{Misplaced, Entry}
+use Rattle.entries.specs.Found.{Found, Misplaced, Entry}
 use Rattle.entries.proofs.PutLaws.{write_ready, entry_inside}
 use Rattle.calls.specs.Parts.{area_bad, descriptors_of, snapshots_of, with_name, found_through}
 use Rattle.calls.specs.Stores.{activated_of, snapping, reverting, write_stores, snap_stores, revert_stores}

@@ -23,8 +23,7 @@ use Rattle.blocks.proofs.NameLaws.{name_size_lem}
 use Rattle.entries.specs.InPlace.{is_in_place}
 use Rattle.entries.specs.Entry.{entry_at, phi_at, table_of, find, table_is_new, need, table_with, tail_with, set_in_new_table, writing}
 use Rattle.entries.specs.Rules.{entry_of, Rules}
-use Rattle.entries.specs.declared.find.Found.{Found}
-use Rattle.entries.specs.declared.find.Found.TheVariants.{Entry}
+use Rattle.entries.specs.Found.{Found, Entry}
 use Rattle.entries.proofs.EntryLaws.{placed_below, new_table_lem, placed_not_active}
 use Rattle.entries.proofs.SetLaws.{tail_with_length, source_length, with_set, tail_set, with_other, tail_other}
 use Rattle.calls.specs.Parts.{descriptors_of, snapshots_of, found_through}

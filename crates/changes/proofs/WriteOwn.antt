@@ -24,8 +24,7 @@ use Rattle.links.proofs.LinkedLaws.{chain_linked, linked_some, active_at}
 use Rattle.entries.specs.InPlace.{is_descriptor, is_table, is_in_place}
 use Rattle.entries.specs.Entry.{entry_at, phi_at, table_of, find, table_is_new, need, table_with, set_in_table, writing}
 use Rattle.entries.specs.Rules.{entry_of, Rules}
-use Rattle.entries.specs.declared.find.Found.{Found}
-use Rattle.entries.specs.declared.find.Found.TheVariants.{Entry}
+use Rattle.entries.specs.Found.{Found, Entry}
 use Rattle.entries.proofs.EntryLaws.{placed_below, old_table, placed_not_active, need_nothing}
 use Rattle.calls.specs.Parts.{descriptors_of, snapshots_of, found_through}
 use Rattle.calls.specs.Check.{Passes}

@@ -12,8 +12,7 @@ use Rattle.blocks.specs.declared.numbers.Physical.{Physical}
 use Rattle.chains.specs.Chain.{active_of}
 use Rattle.blocks.proofs.BoolLaws.{no}
 use Rattle.entries.specs.Entry.{table_is_new, need}
-use Rattle.entries.specs.declared.find.Found.{Found}
-use Rattle.entries.specs.declared.find.Found.TheVariants.{Misplaced, Entry}
+use Rattle.entries.specs.Found.{Found, Misplaced, Entry}
 use Rattle.calls.specs.Parts.{descriptors_of, snapshots_of, found_through, is_misplaced}
 use Rattle.calls.specs.Check.{Passes}
 use Rattle.calls.specs.Stores.{write_stores}

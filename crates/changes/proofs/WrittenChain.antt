@@ -19,8 +19,7 @@ use Rattle.blocks.proofs.DescriptorLaws.{Fits, tail_length, extended_none}
 use Rattle.links.proofs.LinkedLaws.{last, chain_linked}
 use Rattle.blocks.proofs.NameLaws.{name_size_lem}
 use Rattle.entries.specs.Entry.{find, table_is_new, need, table_with, tail_with, set_in_table, set_in_new_table, writing}
-use Rattle.entries.specs.declared.find.Found.{Found}
-use Rattle.entries.specs.declared.find.Found.TheVariants.{Misplaced, Entry}
+use Rattle.entries.specs.Found.{Found, Misplaced, Entry}
 use Rattle.entries.proofs.EntryLaws.{find_placed, need_more, new_table_lem, old_table, placed_not_active, need_nothing}
 use Rattle.entries.proofs.SetLaws.{tail_with_length, put_reserved}
 use Rattle.calls.specs.Parts.{descriptors_of, snapshots_of, found_through, is_misplaced}

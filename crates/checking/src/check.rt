@@ -1,22 +1,22 @@
 // The check of a card.
-ghost use Rattle.std.specs.Prelude.{◌≡◌, false, ℕ, ◌*◌, ◌≤◌, length, get_or};
+ghost use Rattle.std.specs.Prelude.{◌≡◌, false, ℕ, ◌*◌, ◌-◌, ◌≤◌, length, get_or, replicate};
+ghost use Rattle.blocks.specs.Bytes.{block_size, most_blocks};
 ghost use Rattle.blocks.specs.Descriptor.{cost_of};
 ghost use Rattle.chains.specs.Chain.{chain as chain_of, descriptors, active_of};
-ghost use Rattle.chains.specs.Walk.{Enough, places_left};
+ghost use Rattle.chains.specs.Walk.{Enough};
+ghost use Rattle.entries.specs.Found.{verdict_as};
 ghost use Rattle.entries.specs.Marks.{openings_flagged};
-ghost use Rattle.calls.specs.Call.{Check, None};
-ghost use Rattle.calls.specs.Parts.{area_bad, SoundCard};
+ghost use Rattle.calls.specs.Call.{Check, None, answered};
 ghost use Rattle.calls.specs.Check.{check_card, taking_chain};
+ghost use Rattle.calls.specs.Parts.{area_bad};
 ghost use Rattle.calls.specs.Step.{step, done};
-ghost use Rattle.blocks.specs.Bytes.{block_size};
 
 use admitting::area;
 use blocks::descriptor;
-use blocks::numbers::Physical;
 use blocks::sizes::{BLOCK_SIZE, FEW_STARTS, MOST_BLOCKS, STARTS_SIZE};
-use calls::answer;
-use calls::answer::Answer;
-use entries::check::Verdict;
+use calls::answer::Refusal;
+use calls::chain::Chain;
+use entries::find::Misplaced;
 use flagging::flags;
 use judging::check as rules;
 use walking::chain;
@@ -26,113 +26,69 @@ const SMALL_BLOCKS: usize = 2048;
 
 const MEDIUM_BLOCKS: usize = 16384;
 
-// The verdict on the descriptors of a sound chain, in chain order. `seen` is zero, with a byte for each block of the card or more.
-fn check_chain(card: &[u8], starts: &[u32], count: usize, seen: &mut [u8]) -> Verdict
-    requires { SoundCard card.now count starts.now × ((v : ℕ) → get_or seen.old v 0 ≡ 0) × (length card.now ≤ block_size * length seen.old) }
-    ensures value { result ≡ check_card card.now }
-    ensures seen_after { record { verdict = result; flags = seen.new } ≡ taking_chain card.now starts.now (cost_of (active_of (descriptors (chain_of card.now)))) count 0 (openings_flagged seen.old starts.now (cost_of (active_of (descriptors (chain_of card.now)))) count) (descriptors (chain_of card.now)) }
+// Checks the descriptors of a sound chain, in chain order. `seen` is zero, with a byte for each block of the card or more.
+fn check_chain(chain: Chain, seen: &mut [u8]) -> Result<(), Misplaced>
+    requires { ((v : ℕ) → get_or seen.old v 0 ≡ 0) × (length chain.card.now ≤ block_size * length seen.old) }
+    ensures value { verdict_as result ≡ check_card chain.entry.card.now }
+    ensures seen_after { record { verdict = verdict_as result; flags = seen.new } ≡ taking_chain chain.entry.card.now chain.entry.starts.now (cost_of (active_of (descriptors (chain_of chain.entry.card.now)))) (length chain.entry.starts.now - 1) 0 (openings_flagged seen.old chain.entry.starts.now (cost_of (active_of (descriptors (chain_of chain.entry.card.now)))) (length chain.entry.starts.now - 1)) (descriptors (chain_of chain.entry.card.now)) }
 {
-    let last = starts[count - 1];
-    let active = descriptor::read_descriptor(card, Physical(last));
+    let active = chain.active();
     let cost = descriptor::opening_cost(active.layout, active.volume) as usize;
-    flags::mark_openings(seen, starts, count, cost);
+    let regions = &chain.starts[..chain.count()];
+    flags::mark_openings(seen, regions, cost);
     let mut turn = 0;
-    let mut k = 0;
-    while k < count {
-        turn = flags::next_turn(seen, starts, count, cost, turn);
-        let p = starts[k];
-        let d = descriptor::read_descriptor(card, Physical(p));
-        let v = rules::check_one(card, d, seen, turn);
-        if let Verdict::Fault(h) = v {
-            return Verdict::Fault(h);
-        }
-        k += 1;
+    for k in 0..chain.count() {
+        turn = flags::next_turn(seen, regions, cost, turn);
+        rules::check_one(chain.card, chain.descriptor(k), seen, turn)?;
     }
-    Verdict::Passed
+    Ok(())
 }
 
-// The same, of a card of at most 2,048 blocks.
-fn check_small(card: &[u8], starts: &[u32], count: usize) -> Verdict
-    requires { SoundCard card.now count starts.now × (length card.now ≤ block_size * 2048) }
-    ensures { result ≡ check_card card.now }
+// The same, of a card with at most `FLAGS` blocks.
+fn check_within<const FLAGS: usize>(chain: Chain) -> Result<(), Misplaced>
+    requires { (length chain.card.now ≤ block_size * FLAGS) × (FLAGS ≤ most_blocks) }
+    ensures { verdict_as result ≡ check_card chain.entry.card.now }
 {
-    let mut seen = [0u8; SMALL_BLOCKS];
-    check_chain(card, starts, count, &mut seen)
-}
-
-// The same, of a card of at most 16,384 blocks.
-fn check_medium(card: &[u8], starts: &[u32], count: usize) -> Verdict
-    requires { SoundCard card.now count starts.now × (length card.now ≤ block_size * 16384) }
-    ensures { result ≡ check_card card.now }
-{
-    let mut seen = [0u8; MEDIUM_BLOCKS];
-    check_chain(card, starts, count, &mut seen)
-}
-
-// The same, of any card.
-fn check_large(card: &[u8], starts: &[u32], count: usize) -> Verdict
-    requires { SoundCard card.now count starts.now }
-    ensures { result ≡ check_card card.now }
-{
-    let mut seen = [0u8; MOST_BLOCKS];
-    check_chain(card, starts, count, &mut seen)
+    let mut seen = [0u8; FLAGS];
+    check_chain(chain, &mut seen)
 }
 
 // The same, with the smallest of the three numbers of flags that suffices: on a small card to clear more would be most of the work.
-pub fn check_regions(card: &[u8], starts: &[u32], count: usize) -> Verdict
-    requires { SoundCard card.now count starts.now }
-    ensures { result ≡ check_card card.now }
+pub fn check_regions(chain: Chain) -> Result<(), Misplaced>
+    ensures { verdict_as result ≡ check_card chain.entry.card.now }
 {
-    if card.len() <= BLOCK_SIZE * SMALL_BLOCKS {
-        return check_small(card, starts, count);
-    }
-    if card.len() <= BLOCK_SIZE * MEDIUM_BLOCKS {
-        return check_medium(card, starts, count);
-    }
-    check_large(card, starts, count)
-}
-
-// The answer of a check on a sound chain.
-fn check_through(card: &[u8], starts: &[u32], count: usize) -> Answer
-    requires { SoundCard card.now count starts.now }
-    ensures { done result None card.now ≡ step Check card.now }
-{
-    match check_regions(card, starts, count) {
-        Verdict::Passed => answer::ACCEPTED,
-        Verdict::Fault(h) => Answer {
-            number: 10,
-            place: h.0,
-        },
+    let bytes = chain.card.len();
+    if bytes <= BLOCK_SIZE * SMALL_BLOCKS {
+        check_within::<SMALL_BLOCKS>(chain)
+    } else if bytes <= BLOCK_SIZE * MEDIUM_BLOCKS {
+        check_within::<MEDIUM_BLOCKS>(chain)
+    } else {
+        check_within::<MOST_BLOCKS>(chain)
     }
 }
 
-// Checks the card with enough lent places for the walk: the tests from that of the chain on.
-fn check_with(card: &[u8], starts: &mut [u32]) -> Answer
-    requires { (area_bad card.now ≡ false) × Enough card.now starts.old }
-    ensures card_value { done result None card.now ≡ step Check card.now }
-    ensures starts_after { starts.new ≡ places_left card.now starts.old }
+// Checks the card with enough places for the walk: the tests from that of the chain on.
+fn check_in<const PLACES: usize>(card: &[u8]) -> Result<(), Refusal>
+    requires { (area_bad card.now ≡ false) × Enough card.now (replicate PLACES 0) }
+    ensures { done (answered result) None card.now ≡ step Check card.now }
 {
-    let found = chain::walk_chain(&*card, starts);
-    if !found.sound {
-        let place = found.place.0;
-        return Answer { number: 6, place };
-    }
-    let count = found.count;
-    check_through(card, &starts[..count + 1], count)
+    let mut starts = [0u32; PLACES];
+    let count = chain::walk_chain(card, &mut starts)?;
+    check_regions(Chain {
+        card,
+        starts: &starts[..count + 1],
+    })?;
+    Ok(())
 }
 
-// Checks the card.
-pub fn check(card: &[u8]) -> Answer
-    ensures { done result None card.now ≡ step Check card.now }
+// Checks the card. A short chain is walked with few places, so that a card with few snapshots does not wait until 257 are cleared.
+pub fn check(card: &[u8]) -> Result<(), Refusal>
+    ensures { done (answered result) None card.now ≡ step Check card.now }
 {
-    let admitted = area::admit(card);
-    if admitted.number != 0 {
-        return admitted;
+    area::admit(card)?;
+    if chain::is_short(card) {
+        check_in::<FEW_STARTS>(card)
+    } else {
+        check_in::<STARTS_SIZE>(card)
     }
-    if !chain::is_short(card) {
-        let mut starts = [0u32; STARTS_SIZE];
-        return check_with(card, &mut starts);
-    }
-    let mut starts = [0u32; FEW_STARTS];
-    check_with(card, &mut starts)
 }

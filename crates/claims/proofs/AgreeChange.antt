@@ -32,7 +32,7 @@ use Rattle.claims.specs.Kinds.{Kind}
 use Rattle.claims.proofs.Changes.{stores_by, Allowed, to_format, to_leave, to_write, to_span, to_snap, to_revert}
 use Rattle.links.proofs.LinkedLaws.{active_append}
 use Rattle.pieces.specs.Span.{span_block, merged}
-use Rattle.calls.specs.declared.answer.Target.TheVariants.{Active}
+use Rattle.calls.specs.Call.{Active}
 use Rattle.calls.proofs.ActiveLaws.{active_target}
 use Rattle.changes.proofs.SpanSteps.{card_next, need_next, span_write}
 use Rattle.changes.proofs.WholeLaws.{write_whole, snap_whole, revert_whole}

@@ -14,16 +14,13 @@ use Rattle.blocks.specs.declared.descriptor.Descriptor.{Descriptor}
 use Rattle.blocks.proofs.ByteLaws.{blocks_long, taken_block}
 use Rattle.links.proofs.LinkedLaws.{chain_few}
 use Rattle.entries.specs.Entry.{find, need, located_in, locate}
-use Rattle.entries.specs.declared.find.Found.{Found}
-use Rattle.calls.specs.declared.answer.Target.{Target}
-use Rattle.calls.specs.declared.answer.Target.TheVariants.{Active}
-use Rattle.calls.specs.Call.{Read, Listing, Visit, SpanRead, Block}
+use Rattle.entries.specs.Found.{Found, Verdict}
+use Rattle.calls.specs.Call.{Target, Active, Read, Listing, Visit, SpanRead, Block}
 use Rattle.calls.specs.Parts.{descriptors_of, snapshots_of, is_snapshot, target_of, found_through, is_misplaced, holder_of, block_found}
 use Rattle.calls.specs.Check.{check_all, check_card, is_fault, fault_holder}
 use Rattle.calls.specs.Spans.{misplaced_from, span_verdict, gathered, span_bytes}
 use Rattle.pieces.specs.Span.{span_block, touched}
 use Rattle.pieces.proofs.SpanLaws.{inside}
-use Rattle.entries.specs.declared.check.Verdict.{Verdict}
 use Rattle.calls.specs.Ladder.{row, ream_rows, entry_rows, read_rows, visit_rows, write_rows, snap_rows, revert_rows, list_rows, check_rows, span_read_rows}
 use Rattle.calls.specs.Effect.{given_at, visit_given}
 use Rattle.calls.specs.Meaning.{filled_of, given_of}

@@ -25,13 +25,11 @@ use Rattle.blocks.proofs.NameLaws.{name_size_lem}
 use Rattle.entries.specs.InPlace.{is_descriptor, is_in_place}
 use Rattle.entries.specs.Entry.{entry_at, phi_at, table_of, entry_found, find, table_is_new, need, table_with, tail_with, set_in_table, set_in_new_table, writing}
 use Rattle.entries.specs.Through.{Through}
-use Rattle.entries.specs.declared.find.Found.{Found}
-use Rattle.entries.specs.declared.find.Found.TheVariants.{Misplaced, Entry}
+use Rattle.entries.specs.Found.{Found, Misplaced, Entry}
 use Rattle.entries.proofs.RegionLaws.{through_region, through_count, through_member}
 use Rattle.entries.proofs.EntryLaws.{through_alpha, through_beta, through_end, through_volume, found_table, found_entry, placed_other}
 use Rattle.entries.proofs.SetLaws.{table_length, tail_with_length}
-use Rattle.calls.specs.declared.answer.Target.{Target}
-use Rattle.calls.specs.Call.{Call, Read, Write, Snap, Block}
+use Rattle.calls.specs.Call.{Target, Call, Read, Write, Snap, Block}
 use Rattle.calls.specs.Parts.{area_bad, descriptors_of, snapshots_of, with_name, target_of, found_through, is_misplaced, block_found}
 use Rattle.calls.specs.Stores.{snapping, write_stores, snap_stores}
 use Rattle.calls.specs.Meaning.{answer_of, stores_of, filled_of}

@@ -16,8 +16,7 @@ use Rattle.blocks.specs.declared.descriptor.Descriptor.{Descriptor}
 use Rattle.blocks.proofs.Tests.{and_left, and_right}
 use Rattle.blocks.proofs.BoolLaws.{no}
 use Rattle.entries.specs.Entry.{need, table_is_new, table_with, tail_with, set_in_table, set_in_new_table, writing}
-use Rattle.entries.specs.declared.find.Found.{Found}
-use Rattle.entries.specs.declared.find.Found.TheVariants.{Misplaced, Entry}
+use Rattle.entries.specs.Found.{Found, Misplaced, Entry}
 use Rattle.calls.specs.Call.{Call}
 use Rattle.calls.specs.Parts.{area_bad, descriptors_of, snapshots_of, with_name, found_through, block_found}
 use Rattle.calls.specs.Stores.{activated_of, snapping, reverting, write_stores, snap_stores, revert_stores}

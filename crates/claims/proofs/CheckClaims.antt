@@ -21,8 +21,7 @@ use Rattle.entries.specs.InPlace.{is_in_place}
 use Rattle.entries.specs.Entry.{entry_at, phi_at, table_of}
 use Rattle.entries.specs.Naming.{Naming, table_namings, tables_namings, phi_namings, namings, among, at_fault, first_fault, check_one}
 use Rattle.entries.specs.Rules.{entry_of, PhiRules, TableRules, Rules}
-use Rattle.entries.specs.declared.check.Verdict.{Verdict}
-use Rattle.entries.specs.declared.check.Verdict.TheVariants.{Passed, Fault}
+use Rattle.entries.specs.Found.{Verdict, Passed, Fault}
 use Rattle.entries.proofs.CheckLaws.{fault_later, fault_here}
 use Rattle.calls.specs.declared.answer.Answer.{Answer}
 use Rattle.calls.specs.Call.{Check, SpanWrite, answer, accepted}

@@ -15,10 +15,8 @@ use Rattle.chains.specs.Chain.{chain, named, active_of}
 use Rattle.blocks.specs.declared.descriptor.Descriptor.{Descriptor}
 use Rattle.chains.proofs.NamedLaws.{named_one, named_append}
 use Rattle.calls.specs.declared.answer.Answer.{Answer}
-use Rattle.calls.specs.declared.answer.Target.{Target}
-use Rattle.calls.specs.declared.answer.Target.TheVariants.{Active, Snapshot}
+use Rattle.calls.specs.Call.{Target, Active, Snapshot, Call, Ream, Read, Write, Snap, Revert, Listing, Check, Visit, SpanRead, SpanWrite, Block, Records, answer, accepted}
 use Rattle.calls.specs.declared.answer.Record.{Record}
-use Rattle.calls.specs.Call.{Call, Ream, Read, Write, Snap, Revert, Listing, Check, Visit, SpanRead, SpanWrite, Block, Records, answer, accepted}
 use Rattle.calls.specs.Parts.{descriptors_of, snapshots_of, is_snapshot, target_of, found_through, is_misplaced, block_found, area_bad}
 use Rattle.calls.specs.Check.{Passes, is_fault}
 use Rattle.calls.specs.Spans.{misplaced_from, span_verdict}

@@ -8,10 +8,9 @@ use lib.ListN.{length, take, drop, get_or}
 use Rattle.blocks.specs.Pick.{pick}
 use Rattle.blocks.specs.Bytes.{part, store_all}
 use Rattle.blocks.proofs.BoolLaws.{no}
-use Rattle.calls.specs.declared.answer.Target.{Target}
+use Rattle.calls.specs.Call.{Target, Call, Read, SpanRead, Listing, Check, Block, Records}
 use Rattle.calls.specs.declared.answer.Record.{Record}
 use Rattle.calls.specs.Spans.{span_count, write_span_stores}
-use Rattle.calls.specs.Call.{Call, Read, SpanRead, Listing, Check, Block, Records}
 use Rattle.calls.specs.Check.{Passes}
 use Rattle.calls.specs.Meaning.{answer_of}
 use Rattle.calls.specs.Step.{step, after, is_accepted}

@@ -9,9 +9,8 @@ use lib.ListN.{length}
 use borrow.Author.Tests.{ltb-true}
 use Rattle.blocks.specs.Bytes.{block_count}
 use Rattle.blocks.proofs.BoolLaws.{no}
-use Rattle.calls.specs.declared.answer.Target.{Target}
+use Rattle.calls.specs.Call.{Target, Call, Ream, Read, Write, Snap, Revert, Listing, Check, Visit, SpanRead, SpanWrite, answer}
 use Rattle.calls.specs.declared.answer.Record.{Record}
-use Rattle.calls.specs.Call.{Call, Ream, Read, Write, Snap, Revert, Listing, Check, Visit, SpanRead, SpanWrite, answer}
 use Rattle.calls.specs.Parts.{area_bad}
 use Rattle.calls.specs.Check.{Passes}
 use Rattle.calls.specs.Ladder.{admission, ream_rows, read_rows, write_rows, snap_rows, revert_rows, list_rows, check_rows, visit_rows, span_read_rows, span_write_rows}

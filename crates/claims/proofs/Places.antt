@@ -18,12 +18,9 @@ use Rattle.blocks.proofs.BoolLaws.{no}
 use Rattle.links.proofs.SoundLaws.{form_layout}
 use Rattle.entries.specs.InPlace.{is_in_place}
 use Rattle.entries.specs.Entry.{entry_at, phi_at, table_of, entry_found, find}
-use Rattle.entries.specs.declared.find.Found.{Found}
-use Rattle.entries.specs.declared.find.Found.TheVariants.{Misplaced, Entry}
+use Rattle.entries.specs.Found.{Found, Misplaced, Entry}
 use Rattle.calls.specs.declared.answer.Answer.{Answer}
-use Rattle.calls.specs.declared.answer.Target.{Target}
-use Rattle.calls.specs.declared.answer.Target.TheVariants.{Active}
-use Rattle.calls.specs.Call.{Call, Ream, Read, Write, Snap, Revert, Listing, Check, Visit, SpanRead, SpanWrite, answer}
+use Rattle.calls.specs.Call.{Target, Active, Call, Ream, Read, Write, Snap, Revert, Listing, Check, Visit, SpanRead, SpanWrite, answer}
 use Rattle.calls.specs.Parts.{area_bad, descriptors_of, snapshots_of, is_snapshot, target_of, found_through, is_misplaced, holder_of}
 use Rattle.calls.specs.Ladder.{Row, row, area_row, name_row, target_row, block_row, chain_row, volume_row, first_row, ream_rows, read_rows, visit_rows, write_rows, snap_rows, revert_rows, list_rows, check_rows, span_read_rows, span_write_rows, admission}
 use Rattle.calls.specs.Meaning.{rows_of, answer_of}

@@ -11,9 +11,9 @@ use Rattle.blocks.specs.declared.descriptor.Descriptor.{Descriptor}
 use Rattle.blocks.proofs.DescriptorLaws.{cost_least}
 use Rattle.blocks.proofs.StoreLists.{copying_same}
 use Rattle.entries.specs.Entry.{find}
-use Rattle.entries.specs.declared.find.Found.TheVariants.{Entry}
+use Rattle.entries.specs.Found.{Entry}
 use Rattle.entries.proofs.EntryLaws.{found_table}
-use Rattle.calls.specs.declared.answer.Target.TheVariants.{Active}
+use Rattle.calls.specs.Call.{Active}
 use Rattle.calls.specs.Parts.{descriptors_of, snapshots_of, with_name}
 use Rattle.calls.specs.Stores.{snapping, reverting, write_stores, snap_stores, revert_stores}
 use Rattle.claims.specs.History.{beta_of, Agree}

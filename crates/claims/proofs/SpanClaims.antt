@@ -17,8 +17,7 @@ use Rattle.pieces.specs.Span.{span_block, touched, merged}
 use Rattle.pieces.proofs.SpanLaws.{begins, in_block, in_bytes, merged_long}
 use Rattle.chains.specs.Chain.{chain, active_of}
 use Rattle.calls.specs.declared.answer.Answer.{Answer}
-use Rattle.calls.specs.declared.answer.Target.TheVariants.{Active}
-use Rattle.calls.specs.Call.{Call, Read, Write, SpanWrite, Block, answer, accepted}
+use Rattle.calls.specs.Call.{Active, Call, Read, Write, SpanWrite, Block, answer, accepted}
 use Rattle.calls.specs.Parts.{descriptors_of, target_of, found_through, block_found}
 use Rattle.calls.specs.Check.{Passes}
 use Rattle.calls.specs.Stores.{write_need}

@@ -17,11 +17,9 @@ use Rattle.blocks.proofs.Tests.{and_left, and_right}
 use Rattle.blocks.proofs.BoolLaws.{no}
 use Rattle.pieces.specs.Span.{span_block, touched}
 use Rattle.chains.specs.Chain.{chain, chain_sound, chain_place, named, active_of}
-use Rattle.entries.specs.declared.check.Verdict.{Verdict}
-use Rattle.entries.specs.declared.check.Verdict.TheVariants.{Fault}
+use Rattle.entries.specs.Found.{Verdict, Fault}
 use Rattle.calls.specs.declared.answer.Answer.{Answer}
-use Rattle.calls.specs.declared.answer.Target.{Target}
-use Rattle.calls.specs.Call.{Call, Check, SpanRead, SpanWrite, answer, accepted}
+use Rattle.calls.specs.Call.{Target, Call, Check, SpanRead, SpanWrite, answer, accepted}
 use Rattle.calls.specs.Parts.{area_bad, descriptors_of, snapshots_of, is_snapshot, target_of, found_through, is_misplaced, holder_of}
 use Rattle.calls.specs.Check.{check_card, is_fault, fault_holder}
 use Rattle.calls.specs.Spans.{misplaced_from, span_verdict, write_span_need}

@@ -17,8 +17,7 @@ use Rattle.blocks.proofs.ByteLaws.{length_part, part_at, blocks_long}
 use Rattle.pieces.specs.Span.{run_of, span_block, touched, merged}
 use Rattle.pieces.proofs.RunLaws.{run_length, block_part}
 use Rattle.chains.specs.Chain.{chain, chain_sound, named, active_of}
-use Rattle.calls.specs.declared.answer.Target.{Target}
-use Rattle.calls.specs.Call.{Call, Read, SpanRead, SpanWrite, Lent, Block, accepted}
+use Rattle.calls.specs.Call.{Target, Call, Read, SpanRead, SpanWrite, Lent, Block, accepted}
 use Rattle.calls.specs.Parts.{area_bad, descriptors_of, snapshots_of, is_snapshot, target_of, found_through, is_misplaced, block_found}
 use Rattle.calls.specs.Check.{Passes}
 use Rattle.calls.specs.Spans.{gathered, span_bytes, span_stores, span_need, write_span_stores, write_span_need, span_verdict}

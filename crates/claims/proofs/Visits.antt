@@ -23,14 +23,11 @@ use Rattle.links.proofs.StoredLaws.{form_name}
 use Rattle.entries.specs.InPlace.{owner_index, owner_of, is_in_place}
 use Rattle.entries.specs.Entry.{phi_at, table_of, find, found_block, located_in, locate}
 use Rattle.entries.specs.Naming.{Naming, table_namings, tables_namings, phi_namings, namings, among, at_fault, first_fault, check_one}
-use Rattle.entries.specs.declared.find.Found.{Found}
-use Rattle.entries.specs.declared.find.Found.TheVariants.{Misplaced, Entry}
-use Rattle.entries.specs.declared.check.Verdict.TheVariants.{Fault}
+use Rattle.entries.specs.Found.{Found, Misplaced, Entry, Fault}
 use Rattle.entries.proofs.EntryLaws.{find_placed, placed_below}
 use Rattle.entries.proofs.TableLaws.{table_own, own_inside}
 use Rattle.entries.proofs.OwnerLaws.{contains_is, is_contained, owner_inside, owner_contains, owner_only, below_end, owner_upto, owner_own, in_place_owner, need_active}
-use Rattle.calls.specs.declared.answer.Target.{Target}
-use Rattle.calls.specs.Call.{Call, Read, Visit, Given, NoneGiven, NameGiven}
+use Rattle.calls.specs.Call.{Target, Call, Read, Visit, Given, NoneGiven, NameGiven}
 use Rattle.calls.specs.Parts.{descriptors_of, target_of, found_through}
 use Rattle.calls.specs.Ladder.{first_row, admission, read_rows, visit_rows}
 use Rattle.calls.specs.Effect.{given_at, visit_given, given_bytes}

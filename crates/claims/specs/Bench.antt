@@ -4,8 +4,7 @@ use Rattle.blocks.specs.Bytes.{block_size, zero_block}
 use Rattle.blocks.specs.Name.{padded, no_name}
 use Rattle.calls.specs.declared.answer.Answer.{Answer}
 use Rattle.calls.specs.declared.answer.Record.{Record}
-use Rattle.calls.specs.declared.answer.Target.TheVariants.{Active}
-use Rattle.calls.specs.Call.{Call, Ream, Read, Write, Snap, Revert, Listing, Lent, None, Block, Records, answer}
+use Rattle.calls.specs.Call.{Active, Call, Ream, Read, Write, Snap, Revert, Listing, Lent, None, Block, Records, answer}
 use Rattle.calls.specs.Effect.{given_bytes}
 use Rattle.calls.specs.Step.{Done, step}
 use Rattle.claims.specs.History.{beta_of, formatted}

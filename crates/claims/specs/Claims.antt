@@ -14,9 +14,8 @@ use Rattle.entries.specs.InPlace.{is_in_place}
 use Rattle.entries.specs.Entry.{entry_at, phi_at, need}
 use Rattle.entries.specs.Naming.{Naming, namings, at_fault}
 use Rattle.entries.specs.Rules.{Rules}
-use Rattle.calls.specs.declared.answer.Target.{Target}
+use Rattle.calls.specs.Call.{Target, Call, Ream, Read, Write, Snap, Revert, Listing, Check, Visit, SpanRead, SpanWrite, Lent, None, Block, Records, answer, accepted, NoneGiven}
 use Rattle.calls.specs.declared.answer.Record.{Record}
-use Rattle.calls.specs.Call.{Call, Ream, Read, Write, Snap, Revert, Listing, Check, Visit, SpanRead, SpanWrite, Lent, None, Block, Records, answer, accepted, NoneGiven}
 use Rattle.calls.specs.Parts.{area_bad, descriptors_of, snapshots_of, with_name, is_snapshot, target_of, found_through}
 use Rattle.calls.specs.Check.{Passes}
 use Rattle.calls.specs.Stores.{staying}

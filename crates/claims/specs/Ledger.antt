@@ -8,9 +8,7 @@ use Rattle.blocks.specs.Descriptor.{revision_of}
 use Rattle.blocks.specs.declared.descriptor.Descriptor.{Descriptor}
 use Rattle.pieces.specs.Span.{run_of, span_block, touched, merged}
 use Rattle.chains.specs.Chain.{active_of}
-use Rattle.calls.specs.declared.answer.Target.{Target}
-use Rattle.calls.specs.declared.answer.Target.TheVariants.{Active, Snapshot}
-use Rattle.calls.specs.Call.{Call, Ream, Read, Write, Snap, Revert, Listing, Check, Visit, SpanRead, SpanWrite}
+use Rattle.calls.specs.Call.{Target, Active, Snapshot, Call, Ream, Read, Write, Snap, Revert, Listing, Check, Visit, SpanRead, SpanWrite}
 use Rattle.calls.specs.Parts.{descriptors_of, snapshots_of, is_snapshot, found_through, block_found}
 use Rattle.calls.specs.Ladder.{Row, row, first_row, name_row, target_row, block_row}
 use Rattle.claims.specs.Kinds.{Kind, Formats, Leaves, Writes, WritesSpan, Snaps, Reverts, kind_of}

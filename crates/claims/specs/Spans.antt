@@ -5,9 +5,7 @@ use Rattle.blocks.specs.Bytes.{splice, block_count}
 use Rattle.blocks.specs.declared.descriptor.Descriptor.{Descriptor}
 use Rattle.pieces.specs.Span.{run_of, span_block, touched, merged}
 use Rattle.chains.specs.Chain.{chain, chain_sound, named, active_of}
-use Rattle.calls.specs.declared.answer.Target.{Target}
-use Rattle.calls.specs.declared.answer.Target.TheVariants.{Active}
-use Rattle.calls.specs.Call.{Call, Read, Write, Check, SpanRead, SpanWrite, Block, answer, accepted}
+use Rattle.calls.specs.Call.{Target, Active, Call, Read, Write, Check, SpanRead, SpanWrite, Block, answer, accepted}
 use Rattle.calls.specs.Parts.{area_bad, descriptors_of, snapshots_of, is_snapshot, target_of, found_through, block_found}
 use Rattle.calls.specs.Check.{Passes}
 use Rattle.calls.specs.Meaning.{answer_of}

@@ -11,11 +11,8 @@ use Rattle.chains.specs.Chain.{chain, chain_sound, active_of}
 use Rattle.entries.specs.InPlace.{owner_index, owner_of, is_in_place}
 use Rattle.entries.specs.Entry.{found_block, locate, need, need_by}
 use Rattle.entries.specs.Naming.{Naming, namings, among, check_one}
-use Rattle.entries.specs.declared.find.Found.TheVariants.{Entry}
-use Rattle.entries.specs.declared.check.Verdict.{Verdict}
-use Rattle.entries.specs.declared.check.Verdict.TheVariants.{Passed, Fault}
-use Rattle.calls.specs.declared.answer.Target.{Target}
-use Rattle.calls.specs.Call.{Read, Visit, Given, NoneGiven, NameGiven}
+use Rattle.entries.specs.Found.{Entry, Verdict, Passed, Fault}
+use Rattle.calls.specs.Call.{Target, Read, Visit, Given, NoneGiven, NameGiven}
 use Rattle.calls.specs.Parts.{descriptors_of, target_of, found_through}
 use Rattle.calls.specs.Effect.{given_bytes}
 use Rattle.calls.specs.Meaning.{answer_of}

@@ -2,7 +2,7 @@
 use mathlib.Core.Path.{◌≡◌, refl, sym, ap, ◌∙◌}
 use mathlib.Core.Bool.{Bool, true, false}
 use mathlib.Core.List.{List, [], ◌∷◌, ◌++◌, append-nil}
-use Prim.Native.Nat.{ℕ, zero, suc, ◌+◌, ◌*◌, ◌-◌, ◌≤◌, ◌<◌}
+use Prim.Native.Nat.{ℕ, zero, suc, ◌+◌, ◌*◌, ◌-◌, ◌≤◌, ◌<◌, min}
 use native.Mathlib.Numerals.{add-one}
 use native.Mathlib.Nat.{add-zero}
 use native.Mathlib.Omega.{arith}
@@ -10,7 +10,6 @@ use lib.ListN.{length, get_or, set, take}
 use lib.Seq.{length-take-le, take-length, take-append-le, take-append-add}
 use lib.Dec.{ltb}
 use borrow.Author.Tests.{ltb-true, ltb-false}
-use Rattle.blocks.specs.Pick.{pick}
 use Rattle.blocks.specs.Bytes.{Store, store, part, splice, block_at, store_block, store_all, store_upto}
 use Rattle.blocks.specs.Descriptor.{head_bytes, tail_at, descriptor_block, copying}
 use Rattle.blocks.specs.declared.descriptor.Descriptor.{Descriptor}
@@ -105,21 +104,6 @@ copies_join c x y p q s m e l h few inside_p inside_q f g =
     ∙ splice_join c (512 * q + s) first (512 * q + m) last at_q (omega (arith, last_long))
     ∙ ap (splice c (512 * q + s)) (part_join c (512 * p + s) (m - s) (e - m) (e - s) first last (omega arith) refl (ap (λ (n : ℕ). part c n (e - m)) (sym at_p)))
 
--- the lesser of two numbers is above neither, and not below what is above neither
-pub lesser_is : (a b r : ℕ) → r ≡ pick (ltb a b) a b → (r ≤ a) × (r ≤ b)
-lesser_is a b r e = by (ltb a b) refl e
-  where
-    by : (t : Bool) → ltb a b ≡ t → r ≡ pick t a b → (r ≤ a) × (r ≤ b)
-    by true q e = (omega arith, omega (arith, ltb-true a b q))
-    by false q e = (omega (arith, ltb-false a b q), omega arith)
-
-pub lesser_most : (a b r n : ℕ) → r ≡ pick (ltb a b) a b → n ≤ a → n ≤ b → n ≤ r
-lesser_most a b r n e h l = by (ltb a b) e
-  where
-    by : (t : Bool) → r ≡ pick t a b → n ≤ r
-    by true e = omega arith
-    by false e = omega arith
-
 -- the pass: the first bytes of the head, then those of block p from there on, are the first k bytes of the descriptor's block
 module _ (c : List ℕ) (p q k : ℕ) (d : Descriptor) (few : k ≤ 512) (inside_p : 512 * p + 512 ≤ length c) (inside_q : 512 * q + 512 ≤ length c) (long : length (head_bytes d) ≡ 40) where
   abbrev block : List ℕ
@@ -132,24 +116,25 @@ module _ (c : List ℕ) (p q k : ℕ) (d : Descriptor) (few : k ≤ 512) (inside
   tail_first : 40 ≤ k → take (k - 40) (tail_at c p) ≡ part c (512 * p + 40) (k - 40)
   tail_first h = part_part c (512 * p + 40) 472 0 (k - 40) (omega arith) (omega arith) ∙ rw (add-zero (512 * p + 40))
 
-  by_end : (e : ℕ) (x : List ℕ) (t : Bool) → ltb k 40 ≡ t → e ≡ pick t k 40 → x ≡ splice c (512 * q) (take e (head_bytes d)) → take e (head_bytes d) ++ part x (512 * p + e) (k - e) ≡ take k block
+  by_end : (e : ℕ) (x : List ℕ) (t : Bool) → ltb k 40 ≡ t → e ≡ min k 40 → x ≡ splice c (512 * q) (take e (head_bytes d)) → take e (head_bytes d) ++ part x (512 * p + e) (k - e) ≡ take k block
   unfolding descriptor_block
   by_end e x true f g h =
+      let is : e ≡ k = omega (arith, ltb-true k 40 f) in
       let n : k - k ≡ 0 = omega arith in
-      rw (g, n) (append-nil (take k (head_bytes d)) ∙ sym (take-append-le k (head_bytes d) (tail_at c p) (omega (arith, long, ltb-true k 40 f))))
+      rw (is, n) (append-nil (take k (head_bytes d)) ∙ sym (take-append-le k (head_bytes d) (tail_at c p) (omega (arith, long, ltb-true k 40 f))))
   by_end e x false f g h =
       let l = ltb-false k 40 f in
+      let is : e ≡ 40 = omega arith in
       let whole : take 40 (head_bytes d) ≡ head_bytes d = rw (← long, take-length (head_bytes d)) in
       let m : length (head_bytes d) + (k - 40) ≡ k = omega arith in
-      rw (h, g, whole, tail_kept l, ← (tail_first l)) (sym (take-append-add (head_bytes d) (tail_at c p) (k - 40)) ∙ ap (λ (j : ℕ). take j block) m)
+      rw (h, is, whole, tail_kept l, ← (tail_first l)) (sym (take-append-add (head_bytes d) (tail_at c p) (k - 40)) ∙ ap (λ (j : ℕ). take j block) m)
 
-  pub pass_made : (e i : ℕ) (x y zeros head : List ℕ) → e ≡ pick (ltb k 40) k 40 → length zeros ≡ 40 → head ≡ splice zeros 0 (head_bytes d) → x ≡ copied c (512 * q) head i → i ≤ e → e ≤ i
+  pub pass_made : (e i : ℕ) (x y zeros head : List ℕ) → e ≡ min k 40 → length zeros ≡ 40 → head ≡ splice zeros 0 (head_bytes d) → x ≡ copied c (512 * q) head i → i ≤ e → e ≤ i
       → y ≡ splice x (512 * q + e) (part x (512 * p + e) (k - e)) → y ≡ store_upto c q block k
   unfolding store_upto
   pass_made e i x y zeros head g z put f l m s =
-      let below = lesser_is k 40 e g in
       let h : head ≡ head_bytes d = put ∙ splice_whole zeros (head_bytes d) (long ∙ sym z) in
-      let fits : e ≤ length head = rw (h, long) below.1 in
+      let fits : e ≤ length head = rw (h, long) (omega arith) in
       let n : length (take e head) ≡ e = length-take-le e head fits in
       let at : 512 * q + length (take e head) ≡ 512 * q + e = omega arith in
       let w : i ≡ e = omega arith in

@@ -3,11 +3,12 @@ use mathlib.Core.Path.{◌≡◌, refl}
 use mathlib.Core.List.{List, [], ◌∷◌, ◌++◌}
 use Prim.Native.Nat.{ℕ}
 use lib.ListN.{replicate}
+use Rattle.std.proofs.Common.{None, Some}
 use Rattle.blocks.specs.Pick.{same}
 use Rattle.blocks.specs.Name.{name_byte, name_length, is_text, padded, no_name}
 use Rattle.calls.specs.declared.answer.Target.TheVariants.{Active, Snapshot}
 use Rattle.cutter.specs.declared.line.SheetCall.TheVariants.{Ream, Write, Read, Snap, Revert, List as Listing, Check}
-use Rattle.cutter.specs.Grammar.{with_byte, words_of, has_key, is_digit, all_digits, digits_from, is_number, has_number, number_of, line_with, malformed, logical, line_of_one, line_of_two, read_from, line_of_write, line_of_read, line_of_three, line_of_five, line_of_words, line_of}
+use Rattle.cutter.specs.Grammar.{with_byte, words_of, has_key, is_digit, all_digits, digits_from, is_number, has_number, number_of, logical, line_of_one, line_of_two, read_from, line_of_write, line_of_read, line_of_three, line_of_five, line_of_words, line_of}
 
 -- `op=ream layout=2 blocks=16 volume=200 name=fs`
 abbrev ream_line : List ℕ
@@ -69,18 +70,18 @@ mon = 109 ∷ 111 ∷ 110 ∷ 0 ∷ 0 ∷ 0 ∷ 0 ∷ 0 ∷ 0 ∷ 0 ∷ 0 ∷ 0 
 
 -- each form is cut to its call. A text that is no name gives no name
 pub forms :
-    (line_of ream_line ≡ line_with (Ream 2 16 200) fs)
-    × (line_of write_line ≡ line_with (Write (logical 5) 7) no_name)
-    × (line_of read_line ≡ line_with (Read Snapshot (logical 5)) mon)
-    × (line_of read_active_line ≡ line_with (Read Active (logical 65535)) no_name)
-    × (line_of read_star_line ≡ line_with (Read Snapshot (logical 5)) no_name)
-    × (line_of snap_line ≡ line_with Snap mon)
-    × (line_of revert_line ≡ line_with Revert mon)
-    × (line_of list_line ≡ line_with Listing no_name)
-    × (line_of check_line ≡ line_with Check no_name)
-    × (line_of no_name_line ≡ line_with Snap no_name)
-    × (line_of zero_byte_line ≡ line_with Snap no_name)
-    × (line_of longest ≡ line_with Snap no_name)
+    (line_of ream_line ≡ Some (Ream 2 16 200 fs))
+    × (line_of write_line ≡ Some (Write (logical 5) 7))
+    × (line_of read_line ≡ Some (Read (Snapshot mon) (logical 5)))
+    × (line_of read_active_line ≡ Some (Read Active (logical 65535)))
+    × (line_of read_star_line ≡ Some (Read (Snapshot no_name) (logical 5)))
+    × (line_of snap_line ≡ Some (Snap mon))
+    × (line_of revert_line ≡ Some (Revert mon))
+    × (line_of list_line ≡ Some Listing)
+    × (line_of check_line ≡ Some Check)
+    × (line_of no_name_line ≡ Some (Snap no_name))
+    × (line_of zero_byte_line ≡ Some (Snap no_name))
+    × (line_of longest ≡ Some (Snap no_name))
 unfolding line_of words_of with_byte line_of_words line_of_one line_of_two line_of_three line_of_write line_of_read line_of_five read_from same has_key has_number number_of is_number all_digits is_digit digits_from padded is_text name_length name_byte
 forms = (refl, refl, refl, refl, refl, refl, refl, refl, refl, refl, refl, refl)
 
@@ -182,30 +183,30 @@ empty = []
 
 -- lines of no form
 pub no_forms :
-    (line_of double_space ≡ malformed)
-    × (line_of trailing_space ≡ malformed)
-    × (line_of leading_space ≡ malformed)
-    × (line_of leading_zero ≡ malformed)
-    × (line_of too_large ≡ malformed)
-    × (line_of no_digits ≡ malformed)
-    × (line_of not_digit ≡ malformed)
-    × (line_of fill256 ≡ malformed)
-    × (line_of blocks65 ≡ malformed)
-    × (line_of missing_pair ≡ malformed)
-    × (line_of wrong_order ≡ malformed)
-    × (line_of upper_case ≡ malformed)
-    × (line_of carriage_return ≡ malformed)
-    × (line_of one_pair_more ≡ malformed)
-    × (line_of two_zeros ≡ malformed)
-    × (line_of below_digits ≡ malformed)
-    × (line_of above_digits ≡ malformed)
-    × (line_of no_fill ≡ malformed)
-    × (line_of layout_x ≡ malformed)
-    × (line_of volume_zero ≡ malformed)
-    × (line_of sixth_pair ≡ malformed)
-    × (line_of checks ≡ malformed)
-    × (line_of snaps ≡ malformed)
-    × (line_of empty ≡ malformed)
-    × (line_of too_long ≡ malformed)
+    (line_of double_space ≡ None)
+    × (line_of trailing_space ≡ None)
+    × (line_of leading_space ≡ None)
+    × (line_of leading_zero ≡ None)
+    × (line_of too_large ≡ None)
+    × (line_of no_digits ≡ None)
+    × (line_of not_digit ≡ None)
+    × (line_of fill256 ≡ None)
+    × (line_of blocks65 ≡ None)
+    × (line_of missing_pair ≡ None)
+    × (line_of wrong_order ≡ None)
+    × (line_of upper_case ≡ None)
+    × (line_of carriage_return ≡ None)
+    × (line_of one_pair_more ≡ None)
+    × (line_of two_zeros ≡ None)
+    × (line_of below_digits ≡ None)
+    × (line_of above_digits ≡ None)
+    × (line_of no_fill ≡ None)
+    × (line_of layout_x ≡ None)
+    × (line_of volume_zero ≡ None)
+    × (line_of sixth_pair ≡ None)
+    × (line_of checks ≡ None)
+    × (line_of snaps ≡ None)
+    × (line_of empty ≡ None)
+    × (line_of too_long ≡ None)
 unfolding line_of words_of with_byte line_of_words line_of_one line_of_two line_of_three line_of_write line_of_read line_of_five read_from same has_key has_number number_of is_number all_digits is_digit digits_from padded is_text name_length name_byte
 no_forms = (refl, refl, refl, refl, refl, refl, refl, refl, refl, refl, refl, refl, refl, refl, refl, refl, refl, refl, refl, refl, refl, refl, refl, refl, refl)

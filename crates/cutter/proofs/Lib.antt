@@ -1,6 +1,5 @@
 -- Laws of the definitions of specs/, which the proofs of this crate and of those above cite.
 pub mod WordLaws
 pub mod NumberLaws
-pub mod FormLaws
 pub mod LineLaws
 pub mod Examples

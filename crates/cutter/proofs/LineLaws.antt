@@ -1,18 +1,22 @@
 -- Laws of the lines of a sheet, from any byte of it on.
 use mathlib.Core.Path.{◌≡◌, refl, sym, ap, ◌∙◌}
-use mathlib.Core.Bool.{Bool, true, false}
+use mathlib.Core.Bool.{Bool, true, false, cond}
 use mathlib.Core.List.{List, [], ◌∷◌}
 use Prim.Native.Nat.{ℕ, suc, ◌+◌, ◌-◌, ◌≤◌, ◌<◌}
 use native.Mathlib.Omega.{arith}
 use lib.ListN.{length, take, drop, length-drop, drop_of_length-le}
-use lib.Seq.{drop-drop}
+use lib.Seq.{drop-drop, take_all}
 use lib.Dec.{eqb, ltb}
 use borrow.Author.Tests.{lt-ltb, le-ltb, ltb-true, ltb-false}
+use Rattle.std.proofs.Common.{Option, None, Some}
+use Rattle.std.proofs.lemmas.List.Recursion.{is_position_or_len}
+use Rattle.std.proofs.lemmas.Option.{cond_some}
+use Rattle.std.specs.List.{position_or_len}
+use Rattle.cutter.specs.declared.line.SheetCall.{SheetCall}
 use Rattle.blocks.specs.Pick.{pick}
 use Rattle.blocks.specs.Bytes.{part}
-use Rattle.cutter.specs.declared.line.Line.{Line}
 use Rattle.cutter.specs.declared.line.Cut.{Cut}
-use Rattle.cutter.specs.Grammar.{SheetLine, malformed, line_of, length_to, line_length, before_lines, lines_of, line_in, cut_at}
+use Rattle.cutter.specs.Grammar.{SheetLine, line_of, length_to, line_length, before_lines, lines_of, line_in, cut_at}
 
 -- a line with its line feed, and a line without one
 abbrev pub ended_line : List ℕ → SheetLine
@@ -42,6 +46,15 @@ first_open [] h k = absurd (omega arith)
 first_open (b ∷ []) h k = open_step (eqb b 10) b [] k (λ m. refl)
 first_open (b ∷ x ∷ xs) h k = open_step (eqb b 10) b (x ∷ xs) k (λ m. ap (before_lines b) (first_open (x ∷ xs) (omega arith) m))
 
+-- where a byte stands, as `position` gives it
+place_is : (b : ℕ) (l : List ℕ) → position_or_len (λ x. eqb x b) l ≡ length_to b l
+unfolding length_to
+place_is b l = sym (is_position_or_len (length_to b) (λ x. eqb x b) refl (λ x xs. step (eqb x b) (length_to b xs)) l)
+  where
+    step : (t : Bool) (k : ℕ) → pick t 0 (suc k) ≡ cond t 0 (1 + k)
+    step true k = refl
+    step false k = omega arith
+
 -- the lines of a sheet s from byte at on
 module _ (s : List ℕ) (at : ℕ) where
   abbrev n : ℕ
@@ -70,29 +83,39 @@ module _ (s : List ℕ) (at : ℕ) where
   cut_lines h = by (ltb (at + n) (length s)) refl
     where
       by : (t : Bool) → ltb (at + n) (length s) ≡ t
-          → lines_of (drop at s) ≡ pick t (ended_line (part s at n)) (open_line (drop at s)) ∷ lines_of (drop (pick {A = Cut} t (record { line = line_of (part s at n); next = at + n + 1 }) (record { line = malformed; next = length s })).next s)
+          → lines_of (drop at s) ≡ pick t (ended_line (part s at n)) (open_line (drop at s)) ∷ lines_of (drop (pick {A = Cut} t (record { call = line_of (part s at n); next = at + n + 1 }) (record { call = None; next = length s })).next s)
       by true e = lines_ended (ltb-true (at + n) (length s) e)
       by false e = rw (drop_of_length-le s {i = length s} (omega arith)) (lines_open h (ltb-false (at + n) (length s) e))
 
-  pub cut_line_in : line_in line_at ≡ (cut_at s at).line
+  pub cut_call : line_in line_at ≡ (cut_at s at).call
   unfolding cut_at line_at line_in
-  cut_line_in = by (ltb (at + n) (length s))
+  cut_call = by (ltb (at + n) (length s))
     where
-      by : (t : Bool) → line_in (pick t (ended_line (part s at n)) (open_line (drop at s))) ≡ (pick {A = Cut} t (record { line = line_of (part s at n); next = at + n + 1 }) (record { line = malformed; next = length s })).line
+      by : (t : Bool) → line_in (pick t (ended_line (part s at n)) (open_line (drop at s))) ≡ (pick {A = Cut} t (record { call = line_of (part s at n); next = at + n + 1 }) (record { call = None; next = length s })).call
       by true = refl
       by false = refl
 
-  -- as `cut_next` asks them: e is the place of the line feed
-  module _ (e : ℕ) (is : e ≡ at + length_to 10 (drop at s)) where
-    place : at + n ≡ e
-    place = sym is
+  -- as `cut_next` asks them: r is the place of the line feed in what is left of the sheet
+  abbrev place_in : List ℕ → Option ℕ
+  place_in l = cond (ltb (position_or_len (λ x. eqb x 10) l) (length l)) (Some (position_or_len (λ x. eqb x 10) l)) None
 
-    pub next_open : e ≡ length s → (l : Line) → l ≡ malformed → record { line = l; next = e } ≡ cut_at s at
-    unfolding cut_at
-    next_open h l m = rw (place, le-ltb e (length s) (omega arith), m, h)
+  module _ (r : Option ℕ) (given : r ≡ place_in (take (length s - at) (drop at s))) where
+    found : r ≡ cond (ltb n (length (drop at s))) (Some n) None
+    found =
+        given ∙ ap place_in (take_all (length s - at) (drop at s) (omega (arith, length-drop at s)))
+        ∙ ap (λ (k : ℕ). cond (ltb k (length (drop at s))) (Some k) None) (place_is 10 (drop at s))
 
-    pub next_ended : e ≤ length s → (e ≡ length s → ⊥) → (l : Line) → l ≡ line_of (part s at (e - at)) → record { line = l; next = e + 1 } ≡ cut_at s at
+    pub next_open : r ≡ None → record { call = None; next = length s } ≡ cut_at s at
     unfolding cut_at
-    next_ended k h l m =
-        let j : n ≡ e - at = omega (arith, place) in
-        rw (place, lt-ltb e (length s) (omega (arith, h)), m, j)
+    next_open e = by (ltb n (length (drop at s))) refl (sym found ∙ e)
+      where
+        by : (t : Bool) → ltb n (length (drop at s)) ≡ t → cond t (Some n) None ≡ None → record { call = None; next = length s } ≡ pick {A = Cut} (ltb (at + n) (length s)) (record { call = line_of (part s at n); next = at + n + 1 }) (record { call = None; next = length s })
+        by true f g = absurd cc
+        by false f g = rw (le-ltb (at + n) (length s) (omega (arith, ltb-false n (length (drop at s)) f, length-drop at s)))
+
+    pub next_ended : (m : ℕ) → r ≡ Some m → (l : Option SheetCall) → l ≡ line_of (part s at (at + m - at)) → record { call = l; next = at + m + 1 } ≡ cut_at s at
+    unfolding cut_at
+    next_ended m e l f =
+        let p = cond_some (ltb n (length (drop at s))) n m (sym found ∙ e) in
+        let k : at + m - at ≡ m = omega arith in
+        rw (f, k, ← p.1, lt-ltb (at + n) (length s) (omega (arith, ltb-true n (length (drop at s)) p.0, length-drop at s)))

@@ -8,29 +8,26 @@ pub const SHEET_BLOCKS: u32 = 64;
 
 pub const MOST_LINE: usize = 127;
 
-// What a line asks for. The bytes of a name stand beside it.
+// What a line asks for.
 #[derive(Clone, Copy)]
 pub enum SheetCall {
-    Malformed,
-    Ream(u32, u32, u32), // layout, blocks, volume
+    Ream {
+        layout: u32,
+        blocks: u32,
+        volume: u32,
+        name: [u8; NAME_SIZE],
+    },
     Write(Logical, u8), // the block, and the byte that fills it
     Read(Target, Logical),
-    Snap,
-    Revert,
+    Snap([u8; NAME_SIZE]),
+    Revert([u8; NAME_SIZE]),
     List,
     Check,
 }
 
-// A line of the sheet.
-#[derive(Clone, Copy)]
-pub struct Line {
-    pub call: SheetCall,
-    pub name: [u8; NAME_SIZE],
-}
-
-// A line cut from the sheet, and where the next one starts.
+// What a line cut from the sheet asks for, none where it is not of the form, and where the next one starts.
 #[derive(Clone, Copy)]
 pub struct Cut {
-    pub line: Line,
+    pub call: Option<SheetCall>,
     pub next: usize,
 }

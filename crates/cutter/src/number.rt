@@ -2,64 +2,42 @@
 ghost use Rattle.std.specs.Prelude.{◌≡◌};
 ghost use Rattle.cutter.specs.ReadNumber.{digits_number, number_in, number_after};
 
-use crate::word;
-
 // The largest number of a sheet.
 const MOST_NUMBER: u32 = 65535;
 
-// What a text says as a number.
-#[derive(Clone, Copy)]
-pub enum Number {
-    Not,
-    Is(u32),
-}
-
 // What digits say, leading zeros or none.
-fn read_digits(digits: &[u8]) -> Number
+fn read_digits(digits: &[u8]) -> Option<u32>
     ensures { result ≡ digits_number 0 digits.now }
 {
-    let mut v: u32 = 0;
-    let mut i = 0;
-    while i < digits.len() {
-        let b = digits[i];
-        if b < 48 {
-            return Number::Not;
+    let mut v = 0;
+    for b in digits {
+        if !b.is_ascii_digit() {
+            return None;
         }
-        if 57 < b {
-            return Number::Not;
+        v = 10 * v + u32::from(*b - b'0');
+        if MOST_NUMBER < v {
+            return None;
         }
-        let next = 10 * v + ((b - 48) as u32);
-        if MOST_NUMBER < next {
-            return Number::Not;
-        }
-        v = next;
-        i += 1;
     }
-    Number::Is(v)
+    Some(v)
 }
 
 // What a text says as a number.
-fn read_number(digits: &[u8]) -> Number
+fn read_number(digits: &[u8]) -> Option<u32>
     ensures { result ≡ number_in digits.now }
 {
-    if digits.len() == 0 {
-        return Number::Not;
+    if digits.is_empty() {
+        return None;
     }
-    if digits.len() == 1 {
-        return read_digits(digits);
-    }
-    if digits[0] == 48 {
-        return Number::Not;
+    if 1 < digits.len() && digits.starts_with(b"0") {
+        return None;
     }
     read_digits(digits)
 }
 
 // What a word says as a number after a key.
-pub fn read_pair(word: &[u8], key: &[u8]) -> Number
+pub fn read_pair(word: &[u8], key: &[u8]) -> Option<u32>
     ensures { result ≡ number_after key.now word.now }
 {
-    if !word::has_key(word, key) {
-        return Number::Not;
-    }
-    read_number(&word[key.len()..])
+    read_number(word.strip_prefix(key)?)
 }

@@ -5,8 +5,7 @@ use Rattle.blocks.specs.Pick.{pick}
 use Rattle.blocks.specs.Bytes.{zero_block}
 use Rattle.blocks.specs.Name.{name_byte, is_name, no_name}
 use Rattle.blocks.specs.Descriptor.{as_format, format_of}
-use Rattle.calls.specs.declared.answer.Target.TheVariants.{Active, Snapshot}
-use Rattle.calls.specs.Call.{Call, Ream, Read, Write, Snap, Revert, Listing, Check, answer}
+use Rattle.calls.specs.Call.{Active, Snapshot, Call, Ream, Read, Write, Snap, Revert, Listing, Check, answer}
 use Rattle.calls.specs.Meaning.{answer_of}
 use Rattle.calls.specs.Step.{step}
 use Rattle.claims.specs.Bench.{Value, Differs, area, ones, fs, mon, tue, lent, blank}

@@ -13,8 +13,7 @@ use Rattle.blocks.proofs.Tests.{and_left, and_right}
 use Rattle.blocks.proofs.ListLaws.{same_equal}
 use Rattle.blocks.proofs.ZeroLaws.{same_zeros}
 use Rattle.entries.specs.Entry.{need, names_none, is_blank, page_need}
-use Rattle.entries.specs.declared.find.Found.{Found}
-use Rattle.entries.specs.declared.find.Found.TheVariants.{Entry}
+use Rattle.entries.specs.Found.{Found, Entry}
 use Rattle.entries.proofs.EntryLaws.{need_most}
 
 pub blank_none : (f : Found) (b : List ℕ) → is_blank f b ≡ true → names_none f ≡ true

@@ -3,7 +3,7 @@ use mathlib.Core.Path.{◌≡◌, refl, sym, ap, ◌∙◌}
 use mathlib.Core.Logic.{◌⊎◌, inl, inr}
 use mathlib.Core.Bool.{Bool, true, false, not, ◌&&◌, ◌||◌}
 use mathlib.Core.List.{List, [], ◌∷◌, ◌++◌}
-use Prim.Native.Nat.{ℕ, zero, suc, ◌+◌, ◌*◌, ◌-◌, ◌^◌, ◌≤◌, ◌<◌}
+use Prim.Native.Nat.{ℕ, zero, suc, min, ◌+◌, ◌*◌, ◌-◌, ◌≤◌, ◌<◌}
 use native.Mathlib.Numerals.{add-one}
 use native.Mathlib.Nat.{add_assoc, add-zero, zero-add, add-suc, suc-add}
 use native.Mathlib.Omega.{arith}
@@ -23,8 +23,11 @@ use Rattle.entries.specs.Entry.{entry_at, phi_at, table_of}
 use Rattle.entries.specs.Naming.{Naming, among, at_fault, table_namings, entry_namings, tables_namings, phi_namings, first_fault}
 use Rattle.entries.specs.Marks.{is_flagged, takes, taking, Marks, limit_of, Taken, taking_all, named_in_table, TableReady, EntriesReady, TablesReady, PhiReady}
 use Rattle.entries.proofs.MarkLaws.{takes_below, takes_free, taking_refused, length_taking}
-use Rattle.entries.specs.declared.check.Verdict.{Verdict}
-use Rattle.entries.specs.declared.check.Verdict.TheVariants.{Passed, Fault}
+use Rattle.std.specs.Prelude.{Result, ⊤}
+use Rattle.std.specs.Result.{IsErrAnd}
+use Rattle.std.proofs.lemmas.Result.{err_from_is_err_and}
+use Rattle.entries.specs.declared.find.Misplaced.{Misplaced as MisplacedEntry}
+use Rattle.entries.specs.Found.{Verdict, Passed, Fault, verdict_as}
 
 -- one entry, as tests: z nil, b below beta, o in an opening, k counted, a named before, f against the rule on old tables, t below the limit, s flagged
 module _ (b o a f t s : Bool) (lower : t ≡ true → b ≡ true) (rule : b ≡ true → f ≡ not t) where
@@ -163,9 +166,6 @@ limit_to : (d : Descriptor) → d.alpha.0 ≤ d.beta.0 → (t : Bool) → pick t
 limit_to d rising true = rising
 limit_to d rising false = omega arith
 
-pub limit_low : (d : Descriptor) (m : ℕ) → d.alpha.0 ≤ d.beta.0 → pick (ltb m d.alpha.0) d.alpha.0 d.beta.0 ≤ d.beta.0
-limit_low d m rising = limit_to d rising (ltb m d.alpha.0)
-
 module _ (d : Descriptor) (m v : ℕ) (own : (d.layout ≡ 2) ⊎ (d.alpha.0 ≤ m)) where
   abbrev limit_for : Bool → ℕ
   limit_for phi = pick (not phi && ltb m d.alpha.0) d.alpha.0 d.beta.0
@@ -238,6 +238,10 @@ taking_length d turn (e ∷ es) seen =
     length_by (length seen) (taking_all d turn next es) (record { verdict = Fault (physical e.holder); flags = seen }) (takes seen turn (limit_of d e) e.counted e.value)
     (taking_length d turn es next ∙ length_taking seen turn (limit_of d e) e.counted e.value) refl
 
+-- a fault that `?` passes on
+pub fault_on : (r : Result ⊤ MisplacedEntry) (e : MisplacedEntry) → IsErrAnd r (λ (f : MisplacedEntry). f ≡ e) → verdict_as r ≡ Fault e.0
+fault_on r e h = let f = err_from_is_err_and r h in ap verdict_as f.1 ∙ ap (λ (x : MisplacedEntry). Fault x.0) f.2
+
 -- a fault is no pass
 not_passed : {A : Type 0} (h : Physical) → Fault h ≡ Passed → A
 not_passed h e = let z : ◌≡◌ {A = ℕ} 0 1 = cc in absurd (omega arith)
@@ -260,16 +264,26 @@ module _ (d : Descriptor) (turn : ℕ) (ys : List Naming) where
       let next = taking seen turn (limit_of d e) e.counted e.value in
       append_by (taking_all d turn next (xs ++ ys)) (taking_all d turn next xs) (physical e.holder) seen (takes seen turn (limit_of d e) e.counted e.value) (taking_append xs next)
 
-  -- r says whether the first passed
-  module _ (xs : List Naming) (w : Taken) (seen : List ℕ) (walk : w ≡ taking_all d turn seen (xs ++ ys)) (r : Bool) (h : Physical) (seen' : List ℕ)
-      (took : record { verdict = pick r Passed (Fault h); flags = seen' } ≡ taking_all d turn seen xs) where
-    walk_more : r ≡ true → w ≡ taking_all d turn seen' ys
+  -- the first passed, or has a fault
+  module _ (xs : List Naming) (w : Taken) (seen : List ℕ) (walk : w ≡ taking_all d turn seen (xs ++ ys)) (seen' : List ℕ) where
+    walk_more : record { verdict = Passed; flags = seen' } ≡ taking_all d turn seen xs → w ≡ taking_all d turn seen' ys
     unfolding onward
-    walk_more e = walk ∙ taking_append xs seen ∙ ap (λ (t : Taken). onward t.verdict t.flags) (sym (rw e at took))
+    walk_more took = walk ∙ taking_append xs seen ∙ ap (λ (t : Taken). onward t.verdict t.flags) (sym took)
 
-    walk_stop : r ≡ false → record { verdict = Fault h; flags = seen' } ≡ w
+    walk_stop : (h : Physical) → record { verdict = Fault h; flags = seen' } ≡ taking_all d turn seen xs → record { verdict = Fault h; flags = seen' } ≡ w
     unfolding onward
-    walk_stop e = sym (walk ∙ taking_append xs seen ∙ ap (λ (t : Taken). onward t.verdict t.flags) (sym (rw e at took)))
+    walk_stop h took = sym (walk ∙ taking_append xs seen ∙ ap (λ (t : Taken). onward t.verdict t.flags) (sym took))
+
+-- the walk over an entry and those after it, as the code makes it: b says whether the entry is taken
+module _ (d : Descriptor) (turn : ℕ) (seen : List ℕ) (e : Naming) (es : List Naming) (w : Taken) (walk : w ≡ taking_all d turn seen (e ∷ es)) (b : Bool) (seen' : List ℕ)
+    (took : (b ≡ takes seen turn (limit_of d e) e.counted e.value) × (seen' ≡ taking seen turn (limit_of d e) e.counted e.value)) where
+  entry_more : b ≡ true → w ≡ taking_all d turn seen' es
+  entry_more t = rw took.1 (walk ∙ taking_first d turn seen e es (sym took.0 ∙ t))
+
+  entry_stop : b ≡ false → record { verdict = Fault (physical e.holder); flags = seen' } ≡ w
+  entry_stop t =
+      let f : takes seen turn (limit_of d e) e.counted e.value ≡ false = sym took.0 ∙ t in
+      rw (took.1, taking_refused seen turn (limit_of d e) e.counted e.value f) (sym (walk ∙ taking_stop d turn seen e es f))
 
 -- whether the blocks that hold some entries are at or above alpha
 pub above_all : ℕ → List Naming → Bool
@@ -333,103 +347,73 @@ above_tables c d e (suc k) i =
     let q : table_of c d i ≡ d.alpha.0 + 1 + i = rw (eq-eqb d.layout 1 e) in
     above_table c d i (table_of c d i) (omega arith) 128 0 (tables_namings c d k (suc i)) (above_tables c d e k (suc i))
 
--- one entry of table block m that is counted, as the code takes it
-module _ (c : List ℕ) (d : Descriptor) (turn m left j : ℕ) (seen : List ℕ) (counted : j < left) where
-  abbrev limit_here : ℕ
-  limit_here = pick (ltb m d.alpha.0) d.alpha.0 d.beta.0
-
-  entry_by : (t : Bool) → takes seen turn limit_here true (entry_at c m j) ≡ t
-      → record { verdict = pick t Passed (Fault (physical m)); flags = taking seen turn limit_here true (entry_at c m j) } ≡ taking_all d turn seen (entry_namings c m left 1 j)
-  unfolding entry_namings taking_all limit_of
-  entry_by true e = rw (lt-ltb j left counted, e)
-  entry_by false e = rw (lt-ltb j left counted, e, taking_refused seen turn limit_here true (entry_at c m j) e)
-
-  pub entry_one : (limit v : Physical) → limit ≡ physical limit_here → v ≡ physical (entry_at c m j)
-      → (r : Bool) (seen' : List ℕ) → (r ≡ takes seen turn limit.0 true v.0) × (seen' ≡ taking seen turn limit.0 true v.0)
-      → record { verdict = pick r Passed (Fault (physical m)); flags = seen' } ≡ taking_all d turn seen (entry_namings c m left 1 j)
-  entry_one limit v limit_is v_is r seen' took = rw (took.0, took.1, limit_is, v_is) (entry_by (takes seen turn limit_here true (entry_at c m j)) refl)
-
--- what the walk over some entries needs, where the flags are as many, and for a table
-pub entries_ready : (c : List ℕ) (d : Descriptor) (m : ℕ) (seen₀ seen : List ℕ) → EntriesReady c d m seen₀ → length seen ≡ length seen₀ → EntriesReady c d m seen
-entries_ready c d m seen₀ seen ready long = record { on_card = ready.on_card; flags = omega (arith, ready.flags); rising = ready.rising }
-
+-- what the walk over the entries of a table needs
 pub table_ready : (c : List ℕ) (d : Descriptor) (i m : ℕ) (seen : List ℕ) → TableReady c d i m seen → EntriesReady c d m seen
 table_ready c d i m seen ready = record { on_card = ready.on_card; flags = ready.flags; rising = ready.rising }
 
 -- some entries of table block m, and those after them
-module _ (c : List ℕ) (m left : ℕ) where
-  entries_join : (n k j : ℕ) → entry_namings c m left (n + k) j ≡ entry_namings c m left n j ++ entry_namings c m left k (j + n)
-  unfolding entry_namings
-  entries_join zero k j = rw (zero-add k, add-zero j)
-  entries_join (suc n) k j = rw (suc-add n k, entries_join n k (suc j), suc-add j n, add-suc j n)
+entries_join : (c : List ℕ) (m left : ℕ) (n k j : ℕ) → entry_namings c m left (n + k) j ≡ entry_namings c m left n j ++ entry_namings c m left k (j + n)
+unfolding entry_namings
+entries_join c m left zero k j = rw (zero-add k, add-zero j)
+entries_join c m left (suc n) k j = rw (suc-add n k, entries_join c m left n k (suc j), suc-add j n, add-suc j n)
 
-  entries_next : (n j end : ℕ) → j + n ≤ end → entry_namings c m left (end - j) j ≡ entry_namings c m left n j ++ entry_namings c m left (end - (j + n)) (j + n)
-  entries_next n j end h = let e : end - j ≡ n + (end - (j + n)) = omega arith in rw e (entries_join n (end - (j + n)) j)
+-- the walk over the entries of table block m from entry j up to entry n, all counted, as the code makes it
+module _ (c : List ℕ) (d : Descriptor) (turn m n : ℕ) (w : Taken) (seen : List ℕ) (j : ℕ) (walk : w ≡ taking_all d turn seen (entry_namings c m 128 (n - j) j)) where
+  pub entries_end : n ≤ j → record { verdict = Passed; flags = seen } ≡ w
+  unfolding taking_all entry_namings
+  entries_end h = let none : n - j ≡ zero = omega arith in sym (rw none at walk)
 
-  entries_none : (j end : ℕ) → end ≤ j → entry_namings c m left (end - j) j ≡ []
-  unfolding entry_namings
-  entries_none j end h = let e : end - j ≡ zero = omega arith in rw e
+  module _ (more : j < n) (few : n ≤ 128) (limit v : Physical) (limit_is : limit ≡ physical (pick (ltb m d.alpha.0) d.alpha.0 d.beta.0)) (v_is : v ≡ physical (entry_at c m j)) (b : Bool) (seen' : List ℕ)
+      (took : (b ≡ takes seen turn limit.0 true v.0) × (seen' ≡ taking seen turn limit.0 true v.0)) where
+    abbrev entry_here : Naming
+    entry_here = record { holder = m; value = entry_at c m j; counted = true; phi = false }
 
--- the walk over the entries of table block m up to entry end, n at a time, as the code makes it
-module _ (c : List ℕ) (d : Descriptor) (turn m left end : ℕ) (w : Taken) (seen : List ℕ) (j : ℕ) (walk : w ≡ taking_all d turn seen (entry_namings c m left (end - j) j)) where
-  pub entries_end : end ≤ j → record { verdict = Passed; flags = seen } ≡ w
-  unfolding taking_all
-  entries_end h = sym (rw (entries_none c m left j end h) at walk)
+    abbrev entries_later : List Naming
+    entries_later = entry_namings c m 128 (n - (j + 1)) (j + 1)
 
-  module _ (n : ℕ) (more : j + n ≤ end) (r : Bool) (seen' : List ℕ) (took : record { verdict = pick r Passed (Fault (physical m)); flags = seen' } ≡ taking_all d turn seen (entry_namings c m left n j)) where
-    abbrev after : List Naming
-    after = entry_namings c m left (end - (j + n)) (j + n)
+    entries_split : w ≡ taking_all d turn seen (entry_here ∷ entries_later)
+    unfolding entry_namings
+    entries_split =
+        let e : n - j ≡ suc (n - (j + 1)) = omega arith in
+        let next : j + 1 ≡ suc j = add-one j in
+        let counted : ltb j 128 ≡ true = lt-ltb j 128 (omega arith) in
+        walk ∙ ap (taking_all d turn seen) (rw (e, counted, next))
 
-    here : w ≡ taking_all d turn seen (entry_namings c m left n j ++ after)
-    here = rw (← (entries_next c m left n j end more)) walk
+    entry_took : (b ≡ takes seen turn (limit_of d entry_here) true (entry_at c m j)) × (seen' ≡ taking seen turn (limit_of d entry_here) true (entry_at c m j))
+    unfolding limit_of
+    entry_took = rw (limit_is, v_is) at took
 
-    pub entries_more : r ≡ true → w ≡ taking_all d turn seen' after
-    entries_more = walk_more d turn after (entry_namings c m left n j) w seen here r (physical m) seen' took
+    pub entries_more : b ≡ true → w ≡ taking_all d turn seen' entries_later
+    entries_more = entry_more d turn seen entry_here entries_later w entries_split b seen' entry_took
 
-    pub entries_stop : r ≡ false → record { verdict = Fault (physical m); flags = seen' } ≡ w
-    entries_stop = walk_stop d turn after (entry_namings c m left n j) w seen here r (physical m) seen' took
+    pub entries_stop : b ≡ false → record { verdict = Fault (physical m); flags = seen' } ≡ w
+    entries_stop = entry_stop d turn seen entry_here entries_later w entries_split b seen' entry_took
 
-pub entries_start : (c : List ℕ) (d : Descriptor) (turn m left end : ℕ) (seen : List ℕ) → taking_all d turn seen (entry_namings c m left end 0) ≡ taking_all d turn seen (entry_namings c m left (end - 0) 0)
-entries_start c d turn m left end seen = let e : end - 0 ≡ end = omega arith in rw e
+  -- a run of them, up to entry i
+  module _ (i : ℕ) (low : j ≤ i) (high : i ≤ n) (seen' : List ℕ) where
+    abbrev run : List Naming
+    run = entry_namings c m 128 (i - j) j
 
--- the walk over 2 n entries, n of them at a time, as the code makes it
-module _ (c : List ℕ) (d : Descriptor) (turn m left n : ℕ) (seen : List ℕ) (j : ℕ) (r : Bool) (seen' : List ℕ)
-    (took : record { verdict = pick r Passed (Fault (physical m)); flags = seen' } ≡ taking_all d turn seen (entry_namings c m left n j)) where
-  abbrev both : Taken
-  both = taking_all d turn seen (entry_namings c m left (n + n) j)
+    abbrev run_later : List Naming
+    run_later = entry_namings c m 128 (n - i) i
 
-  halves : both ≡ taking_all d turn seen (entry_namings c m left n j ++ entry_namings c m left n (j + n))
-  halves = rw (entries_join c m left n n j)
+    run_split : w ≡ taking_all d turn seen (run ++ run_later)
+    run_split =
+        let e : n - j ≡ i - j + (n - i) = omega arith in
+        let f : j + (i - j) ≡ i = omega arith in
+        walk ∙ ap (taking_all d turn seen) (rw e (entries_join c m 128 (i - j) (n - i) j ∙ rw f))
 
-  pub halves_stop : r ≡ false → record { verdict = Fault (physical m); flags = seen' } ≡ both
-  halves_stop = walk_stop d turn (entry_namings c m left n (j + n)) (entry_namings c m left n j) both seen halves r (physical m) seen' took
+    pub run_more : record { verdict = Passed; flags = seen' } ≡ taking_all d turn seen run → w ≡ taking_all d turn seen' run_later
+    run_more = walk_more d turn run_later run w seen run_split seen'
 
-  pub halves_more : r ≡ true → (w : Taken) → w ≡ taking_all d turn seen' (entry_namings c m left n (j + n)) → w ≡ both
-  halves_more e w rest = rest ∙ sym (walk_more d turn (entry_namings c m left n (j + n)) (entry_namings c m left n j) both seen halves r (physical m) seen' took e)
+    pub run_stop : (h : Physical) → record { verdict = Fault h; flags = seen' } ≡ taking_all d turn seen run → record { verdict = Fault h; flags = seen' } ≡ w
+    run_stop = walk_stop d turn run_later run w seen run_split seen'
 
 -- entries before left are counted, as all 128 are in a full table
-pub entries_counted : (c : List ℕ) (m left : ℕ) (k j : ℕ) → j + k ≤ left → j + k ≤ 128 → entry_namings c m left k j ≡ entry_namings c m 128 k j
+entries_counted : (c : List ℕ) (m left : ℕ) (k j : ℕ) → j + k ≤ left → j + k ≤ 128 → entry_namings c m left k j ≡ entry_namings c m 128 k j
 unfolding entry_namings
 entries_counted c m left zero j h l = refl
 entries_counted c m left (suc k) j h l = rw (lt-ltb j left (omega arith), lt-ltb j 128 (omega arith), entries_counted c m left k (suc j) (omega arith) (omega arith))
-
--- the entries of the table of group i, by how many of them are counted
-module _ (c : List ℕ) (d : Descriptor) (i m left : ℕ) (left_is : left ≡ d.volume - 128 * i) where
-  counted_is : (j : ℕ) (t : Bool) → ltb j left ≡ t → ltb (128 * i + j) d.volume ≡ t
-  counted_is j true e = lt-ltb (128 * i + j) d.volume (omega (arith, ltb-true j left e, left_is))
-  counted_is j false e = le-ltb (128 * i + j) d.volume (omega (arith, ltb-false j left e, left_is))
-
-  table_entries : (k j : ℕ) → table_namings c d i m k j ≡ entry_namings c m left k j
-  unfolding table_namings entry_namings
-  table_entries zero j = refl
-  table_entries (suc k) j = rw (counted_is j (ltb j left) refl, table_entries k (suc j))
-
-  module _ (turn : ℕ) (seen : List ℕ) (w : Taken) where
-    pub table_part : w ≡ taking_all d turn seen (entry_namings c m left 128 0) → w ≡ taking_all d turn seen (table_namings c d i m 128 0)
-    table_part walk = rw (table_entries 128 0) walk
-
-    pub table_full : 128 ≤ left → w ≡ taking_all d turn seen (entry_namings c m 128 128 0) → w ≡ taking_all d turn seen (table_namings c d i m 128 0)
-    table_full h walk = table_part (rw (entries_counted c m left 128 0 h (omega arith)) walk)
 
 -- a table block that may be nil
 module _ (c : List ℕ) (d : Descriptor) (turn i m : ℕ) (seen : List ℕ) where
@@ -465,9 +449,6 @@ module _ (c : List ℕ) (d : Descriptor) where
 
 -- the walk over the tables of a layout 1 descriptor, as the code makes it
 module _ (c : List ℕ) (d : Descriptor) (n : ℕ) (seen₀ : List ℕ) (ready : TablesReady c d n seen₀) where
-  pub tables_ask : (i : ℕ) → i < n → (512 * d.alpha.0 + 512 ≤ length c) × (i < 112) × (d.alpha.0 + 113 < 2 ^ 32)
-  tables_ask i h = (omega (arith, ready.on_card, ready.region), omega (arith, ready.groups), omega (arith, ready.region, ready.small))
-
   pub tables_ready : (i : ℕ) → i < n → (m : Physical) → m ≡ physical (table_of c d i) → (seen : List ℕ) → length seen ≡ length seen₀ → TableReady c d i m.0 seen
   unfolding table_of
   tables_ready i h m is seen long =
@@ -479,28 +460,23 @@ module _ (c : List ℕ) (d : Descriptor) (n : ℕ) (seen₀ : List ℕ) (ready :
         group = omega (arith, ready.groups);
       }
 
-module _ (c : List ℕ) (d : Descriptor) (n turn : ℕ) where
-  pub tables_start : (seen : List ℕ) → taking_all d turn seen (tables_namings c d n 0) ≡ taking_all d turn seen (tables_namings c d (n - 0) 0)
-  tables_start seen = let e : n - 0 ≡ n = omega arith in rw e
+module _ (c : List ℕ) (d : Descriptor) (n turn : ℕ) (w : Taken) (seen : List ℕ) (i : ℕ) (walk : w ≡ taking_all d turn seen (tables_namings c d (n - i) i)) where
+  pub tables_end : n ≤ i → record { verdict = Passed; flags = seen } ≡ w
+  unfolding taking_all
+  tables_end h = sym (rw (tables_none c d n i h) at walk)
 
-  module _ (w : Taken) (seen : List ℕ) (i : ℕ) (walk : w ≡ taking_all d turn seen (tables_namings c d (n - i) i)) where
-    pub tables_end : n ≤ i → record { verdict = Passed; flags = seen } ≡ w
-    unfolding taking_all
-    tables_end h = sym (rw (tables_none c d n i h) at walk)
+  module _ (more : i < n) (m : Physical) (is : m ≡ physical (table_of c d i)) (seen' : List ℕ) where
+    abbrev later : List Naming
+    later = tables_namings c d (n - (i + 1)) (i + 1)
 
-    module _ (more : i < n) (m : Physical) (is : m ≡ physical (table_of c d i)) (b : Bool) (seen' : List ℕ)
-        (one : record { verdict = pick b Passed (Fault m); flags = seen' } ≡ taking_all d turn seen (table_namings c d i m.0 128 0)) where
-      abbrev later : List Naming
-      later = tables_namings c d (n - (i + 1)) (i + 1)
+    split : w ≡ taking_all d turn seen (table_namings c d i m.0 128 0 ++ later)
+    split = let q : m.0 ≡ table_of c d i = ap (λ (x : Physical). x.0) is in rw (q, ← (tables_next c d n i more)) walk
 
-      split : w ≡ taking_all d turn seen (table_namings c d i m.0 128 0 ++ later)
-      split = let q : m.0 ≡ table_of c d i = ap (λ (x : Physical). x.0) is in rw (q, ← (tables_next c d n i more)) walk
+    pub tables_more : record { verdict = Passed; flags = seen' } ≡ taking_all d turn seen (table_namings c d i m.0 128 0) → w ≡ taking_all d turn seen' later
+    tables_more = walk_more d turn later (table_namings c d i m.0 128 0) w seen split seen'
 
-      pub tables_more : b ≡ true → w ≡ taking_all d turn seen' later
-      tables_more = walk_more d turn later (table_namings c d i m.0 128 0) w seen split b m seen' one
-
-      pub tables_fault : b ≡ false → record { verdict = Fault m; flags = seen' } ≡ w
-      tables_fault = walk_stop d turn later (table_namings c d i m.0 128 0) w seen split b m seen' one
+    pub tables_stop : (h : Physical) → record { verdict = Fault h; flags = seen' } ≡ taking_all d turn seen (table_namings c d i m.0 128 0) → record { verdict = Fault h; flags = seen' } ≡ w
+    tables_stop = walk_stop d turn later (table_namings c d i m.0 128 0) w seen split seen'
 
 -- bytes are all zero where the number of the first four is 0 and the others are zero
 module _ (w x y z v : ℕ) (is : v ≡ w + 256 * x + 65536 * y + 16777216 * z) (r : Bool) where
@@ -525,17 +501,6 @@ zero_bytes c at m n e h =
     rw (q, zero_byte c at (suc (suc (suc m))) (omega arith), zero_byte c (at + 1) (suc (suc m)) (omega arith), add_assoc at 1 1, zero_byte c (at + 2) (suc m) (omega arith), add_assoc at 2 1, zero_byte c (at + 3) m (omega arith), add_assoc at 3 1)
     (number_zero (get_or c at 0) (get_or c (at + 1) 0) (get_or c (at + 2) 0) (get_or c (at + 3) 0) _ refl (all_zero (part c (at + 4) m)))
 
--- the bytes of block p from byte n on, as the code lends them
-pub clear_from : (c : List ℕ) (p n : ℕ) (r : Bool) → r ≡ all_zero (part c (512 * p + n) (512 * p + 512 - (512 * p + n))) → r ≡ all_zero (part c (512 * p + n) (512 - n))
-clear_from c p n r e = let q : 512 - n ≡ 512 * p + 512 - (512 * p + n) = omega arith in rw q e
-
--- the bytes of Phi from entry n on
-pub clear_past : (c : List ℕ) (a n : ℕ) (r : Bool) → n ≤ 112 → r ≡ all_zero (part c (512 * a + (64 + 4 * n)) (512 - (64 + 4 * n))) → r ≡ all_zero (part c (512 * a + 64 + 4 * n) (448 - 4 * n))
-clear_past c a n r h e =
-    let p : 512 * a + 64 + 4 * n ≡ 512 * a + (64 + 4 * n) = omega arith in
-    let q : 448 - 4 * n ≡ 512 - (64 + 4 * n) = omega arith in
-    rw (p, q) e
-
 -- an entry that is not counted is refused where it is set
 past_step : (d : Descriptor) (turn : ℕ) (seen : List ℕ) (h v : ℕ) (phi : Bool) (rest : List Naming) (r : Bool) → taking_all d turn seen rest ≡ record { verdict = pick r Passed (Fault (physical h)); flags = seen } → (z : Bool) → eqb v 0 ≡ z
     → taking_all d turn seen (record { holder = h; value = v; counted = false; phi = phi } ∷ rest) ≡ record { verdict = pick (z && r) Passed (Fault (physical h)); flags = seen }
@@ -556,40 +521,39 @@ module _ (c : List ℕ) (d : Descriptor) (turn m left : ℕ) (seen : List ℕ) w
       ∙ past_step d turn seen m (entry_at c m j) false (entry_namings c m left k (suc j)) (all_zero (part c (512 * m + 4 * j + 4) (4 * k))) (rw next at rest) (eqb (entry_at c m j) 0) refl
       ∙ ap (λ (z : Bool). record { verdict = pick z Passed (Fault (physical m)); flags = seen }) (sym (zero_bytes c (512 * m + 4 * j) (4 * k) (4 * suc k) (omega arith) (omega arith)))
 
--- the walk over a table block of which the first left entries are counted, as the code makes it: n of those, the others of those, and the entries past them
-module _ (c : List ℕ) (d : Descriptor) (turn m left n : ℕ) (low : n ≤ left) (high : left ≤ 128) (seen : List ℕ) (r : Bool) (seen' : List ℕ)
-    (took : record { verdict = pick r Passed (Fault (physical m)); flags = seen' } ≡ taking_all d turn seen (entry_namings c m 128 n 0)) where
-  abbrev part_all : Taken
-  part_all = taking_all d turn seen (entry_namings c m left 128 0)
+-- the walk over the table of group i, as the code makes it: the entries before L, then those past it
+module _ (c : List ℕ) (d : Descriptor) (i m left : ℕ) (left_is : left ≡ min 128 (d.volume - 128 * i)) where
+  counted_is : (j : ℕ) → j < 128 → (t : Bool) → ltb j left ≡ t → ltb (128 * i + j) d.volume ≡ t
+  counted_is j h true e = lt-ltb (128 * i + j) d.volume (omega (arith, ltb-true j left e, left_is))
+  counted_is j h false e = le-ltb (128 * i + j) d.volume (omega (arith, ltb-false j left e, left_is))
 
-  abbrev part_rest : List Naming
-  part_rest = entry_namings c m 128 (left - n) n
+  table_entries : (k j : ℕ) → j + k ≤ 128 → table_namings c d i m k j ≡ entry_namings c m left k j
+  unfolding table_namings entry_namings
+  table_entries zero j h = refl
+  table_entries (suc k) j h = rw (counted_is j (omega arith) (ltb j left) refl, table_entries k (suc j) (omega arith))
 
-  abbrev part_past : List Naming
-  part_past = entry_namings c m left (128 - left) left
+  abbrev table_past : List Naming
+  table_past = entry_namings c m left (128 - left) left
 
-  part_is : entry_namings c m left 128 0 ≡ entry_namings c m 128 n 0 ++ (part_rest ++ part_past)
-  part_is =
-      let e : 128 ≡ n + (left - n + (128 - left)) = omega arith in
-      let z : n + (left - n) ≡ left = omega arith in
-      ap (λ (k : ℕ). entry_namings c m left k 0) e
-      ∙ entries_join c m left n (left - n + (128 - left)) 0
-      ∙ rw (zero-add n, entries_join c m left (left - n) (128 - left) n, z, entries_counted c m left n 0 (omega arith) (omega arith), entries_counted c m left (left - n) n (omega arith) (omega arith))
+  table_is : table_namings c d i m 128 0 ≡ entry_namings c m 128 left 0 ++ table_past
+  table_is =
+      let e : 128 ≡ left + (128 - left) = omega (arith, left_is) in
+      table_entries 128 0 (omega arith)
+      ∙ ap (λ (k : ℕ). entry_namings c m left k 0) e
+      ∙ entries_join c m left left (128 - left) 0
+      ∙ rw (zero-add left, entries_counted c m left left 0 (omega arith) (omega (arith, left_is)))
 
-  pub part_stop : r ≡ false → record { verdict = Fault (physical m); flags = seen' } ≡ part_all
-  part_stop = walk_stop d turn (part_rest ++ part_past) (entry_namings c m 128 n 0) part_all seen (ap (taking_all d turn seen) part_is) r (physical m) seen' took
+  module _ (turn : ℕ) (seen seen' : List ℕ) where
+    pub table_stop : (h : Physical) → record { verdict = Fault h; flags = seen' } ≡ taking_all d turn seen (entry_namings c m 128 left 0) → record { verdict = Fault h; flags = seen' } ≡ taking_all d turn seen (table_namings c d i m 128 0)
+    table_stop = walk_stop d turn table_past (entry_namings c m 128 left 0) (taking_all d turn seen (table_namings c d i m 128 0)) seen (ap (taking_all d turn seen) table_is) seen'
 
-  module _ (e : r ≡ true) (r' : Bool) (seen'' : List ℕ) (took' : record { verdict = pick r' Passed (Fault (physical m)); flags = seen'' } ≡ taking_all d turn seen' part_rest) where
-    part_more : part_all ≡ taking_all d turn seen' (part_rest ++ part_past)
-    part_more = walk_more d turn (part_rest ++ part_past) (entry_namings c m 128 n 0) part_all seen (ap (taking_all d turn seen) part_is) r (physical m) seen' took e
-
-    pub rest_stop : r' ≡ false → record { verdict = Fault (physical m); flags = seen'' } ≡ part_all
-    rest_stop = walk_stop d turn part_past part_rest part_all seen' part_more r' (physical m) seen'' took'
-
-    pub rest_more : r' ≡ true → 512 * m + 512 ≤ length c → (z : Bool) → z ≡ all_zero (part c (512 * m + 4 * left) (512 - 4 * left)) → record { verdict = pick z Passed (Fault (physical m)); flags = seen'' } ≡ part_all
-    rest_more f l z clear =
-        let q : 512 - 4 * left ≡ 4 * (128 - left) = omega arith in
-        rw (clear, q) (sym (walk_more d turn part_past part_rest part_all seen' part_more r' (physical m) seen'' took' f ∙ entries_past c d turn m left seen'' (128 - left) left (omega arith) (omega arith)))
+    -- z says whether the entries past L are nil
+    pub table_end : record { verdict = Passed; flags = seen' } ≡ taking_all d turn seen (entry_namings c m 128 left 0) → 512 * m + 512 ≤ length c → (z : Bool) → z ≡ all_zero (part c (512 * m + 4 * left) (512 - 4 * left))
+        → record { verdict = pick z Passed (Fault (physical m)); flags = seen' } ≡ taking_all d turn seen (table_namings c d i m 128 0)
+    table_end took l z clear =
+        let q : 512 - 4 * left ≡ 4 * (128 - left) = omega (arith, left_is) in
+        rw (clear, q)
+        (sym (walk_more d turn table_past (entry_namings c m 128 left 0) (taking_all d turn seen (table_namings c d i m 128 0)) seen (ap (taking_all d turn seen) table_is) seen' took ∙ entries_past c d turn m left seen' (128 - left) left (omega arith) (omega (arith, left_is))))
 
 -- the entries of Phi past n, which are refused where they are set
 module _ (c : List ℕ) (d : Descriptor) (turn : ℕ) (seen : List ℕ) where
@@ -614,26 +578,14 @@ module _ (c : List ℕ) (d : Descriptor) (turn : ℕ) (seen : List ℕ) where
 
 -- the walk over Phi of a layout 2 descriptor, as the code makes it
 module _ (c : List ℕ) (d : Descriptor) (n : ℕ) (seen₀ : List ℕ) (ready : PhiReady c d n seen₀) where
-  pub phi_ask : (i : ℕ) → i < n → (512 * d.alpha.0 + 512 ≤ length c) × (i < 112) × (d.alpha.0 + 113 < 2 ^ 32)
-  phi_ask i h = (omega (arith, ready.on_card, ready.region), omega (arith, ready.groups), omega (arith, ready.region, ready.small))
-
-  pub phi_past_ask : (512 * d.alpha.0 + 512 ≤ length c) × (n ≤ 112)
-  phi_past_ask = (omega (arith, ready.on_card, ready.region), ready.groups)
-
   module _ (turn : ℕ) (w : Taken) (seen : List ℕ) (i : ℕ) (walk : w ≡ taking_all d turn seen (phi_namings c d (112 - i) i)) where
     -- all counted entries have passed, and z says whether those past n are nil
-    module _ (low : i ≤ n) (high : n ≤ i) (z : Bool) (clear : z ≡ all_zero (part c (512 * d.alpha.0 + 64 + 4 * n) (448 - 4 * n))) where
-      past : w ≡ record { verdict = pick z Passed (Fault d.alpha); flags = seen }
-      past =
-          let q : i ≡ n = omega arith in
-          let k : 448 - 4 * n ≡ 4 * (112 - n) = omega (arith, ready.groups) in
-          rw (clear, k) (rw q at walk ∙ phi_past c d turn seen (112 - n) n (omega (arith, ready.tables)) (omega (arith, ready.groups, ready.on_card, ready.region)))
-
-      pub phi_clear : z ≡ true → record { verdict = Passed; flags = seen } ≡ w
-      phi_clear e = sym (rw e at past)
-
-      pub phi_set : z ≡ false → record { verdict = Fault d.alpha; flags = seen } ≡ w
-      phi_set e = sym (rw e at past)
+    pub phi_end : n ≤ i → i ≤ n → (z : Bool) → z ≡ all_zero (part c (512 * d.alpha.0 + (64 + 4 * n)) (512 - (64 + 4 * n))) → record { verdict = pick z Passed (Fault d.alpha); flags = seen } ≡ w
+    phi_end low high z clear =
+        let q : i ≡ n = omega arith in
+        let p : 512 * d.alpha.0 + (64 + 4 * n) ≡ 512 * d.alpha.0 + 64 + 4 * n = omega arith in
+        let k : 512 - (64 + 4 * n) ≡ 4 * (112 - n) = omega (arith, ready.groups) in
+        rw (clear, p, k) (sym (rw q at walk ∙ phi_past c d turn seen (112 - n) n (omega (arith, ready.tables)) (omega (arith, ready.groups, ready.on_card, ready.region))))
 
     module _ (more : i < n) (m : Physical) (is : m ≡ physical (table_of c d i)) (b : Bool) (seen' : List ℕ)
         (took : (b ≡ takes seen turn d.beta.0 true m.0) × (seen' ≡ taking seen turn d.beta.0 true m.0)) where
@@ -652,10 +604,7 @@ module _ (c : List ℕ) (d : Descriptor) (n : ℕ) (seen₀ : List ℕ) (ready :
 
       pub phi_refused : b ≡ false → record { verdict = Fault d.alpha; flags = seen' } ≡ w
       unfolding limit_of
-      phi_refused e =
-          let f : takes seen turn d.beta.0 true m.0 ≡ false = sym took.0 ∙ e in
-          rw (took.1, taking_refused seen turn d.beta.0 true m.0 f)
-          (sym (here_phi ∙ taking_stop d turn seen phi_entry (named_in_table c d i m.0 ++ phi_later) f))
+      phi_refused = entry_stop d turn seen phi_entry (named_in_table c d i m.0 ++ phi_later) w here_phi b seen' took
 
       module _ (e : b ≡ true) where
         pub phi_table_ready : length seen ≡ length seen₀ → (m.0 ≡ 0 → ⊥) → TableReady c d i m.0 seen'
@@ -670,11 +619,11 @@ module _ (c : List ℕ) (d : Descriptor) (n : ℕ) (seen₀ : List ℕ) (ready :
 
         after_entry : w ≡ taking_all d turn seen' (named_in_table c d i m.0 ++ phi_later)
         unfolding limit_of
-        after_entry = rw took.1 (here_phi ∙ taking_first d turn seen phi_entry (named_in_table c d i m.0 ++ phi_later) (sym took.0 ∙ e))
+        after_entry = entry_more d turn seen phi_entry (named_in_table c d i m.0 ++ phi_later) w here_phi b seen' took e
 
-        module _ (a : Bool) (seen'' : List ℕ) (one : record { verdict = pick a Passed (Fault m); flags = seen'' } ≡ taking_all d turn seen' (named_in_table c d i m.0)) where
-          pub phi_fault : a ≡ false → record { verdict = Fault m; flags = seen'' } ≡ w
-          phi_fault = walk_stop d turn phi_later (named_in_table c d i m.0) w seen' after_entry a m seen'' one
+        module _ (seen'' : List ℕ) where
+          pub phi_stop : (h : Physical) → (m.0 ≡ 0 → ⊥) → record { verdict = Fault h; flags = seen'' } ≡ taking_all d turn seen' (table_namings c d i m.0 128 0) → record { verdict = Fault h; flags = seen'' } ≡ w
+          phi_stop h z took' = walk_stop d turn phi_later (named_in_table c d i m.0) w seen' after_entry seen'' h (named_table c d turn i m.0 seen' _ z took')
 
-          pub phi_more : a ≡ true → w ≡ taking_all d turn seen'' phi_later
-          phi_more = walk_more d turn phi_later (named_in_table c d i m.0) w seen' after_entry a m seen'' one
+          pub phi_more : record { verdict = Passed; flags = seen'' } ≡ taking_all d turn seen' (named_in_table c d i m.0) → w ≡ taking_all d turn seen'' phi_later
+          phi_more = walk_more d turn phi_later (named_in_table c d i m.0) w seen' after_entry seen''

@@ -21,8 +21,7 @@ use Rattle.links.proofs.LinkedLaws.{at_alpha, at_long, at_end}
 use Rattle.entries.specs.InPlace.{is_descriptor, is_table, is_in_place}
 use Rattle.entries.specs.Entry.{table_of, entry_at, entry_found, find, table_is_new, need}
 use Rattle.entries.specs.Through.{Through}
-use Rattle.entries.specs.declared.find.Found.{Found}
-use Rattle.entries.specs.declared.find.Found.TheVariants.{Misplaced, Entry}
+use Rattle.entries.specs.Found.{Found, Misplaced, Entry}
 use Rattle.entries.proofs.RegionLaws.{through_region}
 
 module _ (c starts : List ℕ) (count : ℕ) (d : Descriptor) (t : Through c starts count d) where

@@ -14,7 +14,7 @@ use Rattle.blocks.proofs.BoolLaws.{no}
 use Rattle.entries.specs.InPlace.{is_in_place}
 use Rattle.entries.specs.Entry.{table_of, entry_at, entry_found, find}
 use Rattle.entries.specs.Rules.{entry_of, Rules}
-use Rattle.entries.specs.declared.find.Found.TheVariants.{Misplaced, Entry}
+use Rattle.entries.specs.Found.{Misplaced, Entry}
 use Rattle.entries.proofs.TableLaws.{own_set, table_own, table_phi, layout_two, group_below}
 
 -- the parts of an entry that was found

@@ -13,7 +13,7 @@ use Rattle.blocks.specs.declared.descriptor.Descriptor.{Descriptor}
 use Rattle.entries.specs.InPlace.{is_in_place}
 use Rattle.entries.specs.Entry.{entry_at, phi_at, table_of, entry_found, find}
 use Rattle.entries.specs.Naming.{Naming, table_namings, tables_namings, phi_namings, namings, among, at_fault, first_fault, check_one}
-use Rattle.entries.specs.declared.find.Found.TheVariants.{Misplaced, Entry}
+use Rattle.entries.specs.Found.{Misplaced, Entry}
 use Rattle.entries.proofs.EntryLaws.{placed_below}
 use Rattle.entries.proofs.CheckLaws.{fault_later, fault_here}
 use Rattle.links.proofs.SharedLaws.{shared_number, Below}

@@ -22,7 +22,7 @@ use Rattle.entries.specs.InPlace.{is_descriptor, is_table}
 use Rattle.entries.specs.Through.{Through}
 use Rattle.entries.specs.Naming.{among, tables_namings, phi_namings, namings, check_one}
 use Rattle.entries.specs.Marks.{flagged, openings_flagged, next_turn, next_flags, Marks, Taken, taking_all, TablesReady, PhiReady}
-use Rattle.entries.specs.declared.check.Verdict.TheVariants.{Passed}
+use Rattle.entries.specs.Found.{Passed}
 use Rattle.entries.proofs.RegionLaws.{opening_alone, through_count, through_at, through_region, through_rising}
 use Rattle.entries.proofs.EntryLaws.{through_beta, through_end, through_volume}
 use Rattle.entries.proofs.CheckLaws.{Agrees, above_all, above_tables, taking_agrees}

@@ -7,6 +7,7 @@ use Prim.Native.Nat.{ℕ, suc, ◌+◌, ◌*◌, ◌-◌, ◌/◌, ◌%◌, ◌�
 use native.Mathlib.Omega.{arith}
 use lib.ListN.{length, get_or}
 use lib.Dec.{eqb, ltb, leb}
+use Rattle.std.specs.Prelude.{Option, None, Some, IfSome, unwrap_or, ok_or, Result, Ok, Err}
 use borrow.Author.Tests.{eq-eqb, ne_eqb, lt-ltb, le-ltb, le-leb, eqb-false, ltb-true, ltb-false, leb-true, leb-false}
 use Rattle.blocks.specs.Pick.{pick}
 use Rattle.blocks.specs.Descriptor.{physical, cost_of, no_descriptor, descriptor_at}
@@ -19,9 +20,8 @@ use Rattle.links.proofs.LinkedLaws.{Linked, last, more, sound_alpha, sound_next,
 use Rattle.entries.specs.InPlace.{is_descriptor, is_table, contains, owner_index, owner_of, is_in_place, region_of, in_place_at, owner_at}
 use Rattle.entries.specs.Entry.{entry_at, table_of, entry_found, find, table_is_new, need, need_by, found_block, located_in, locate}
 use Rattle.entries.specs.Through.{Through}
-use Rattle.entries.specs.declared.find.Found.{Found}
-use Rattle.entries.specs.declared.find.Located.{Located}
-use Rattle.entries.specs.declared.find.Found.TheVariants.{Misplaced, Entry}
+use Rattle.entries.specs.Found.{Found, Misplaced, Entry, Located}
+use Rattle.entries.specs.declared.find.Misplaced.{Misplaced as MisplacedEntry}
 use Rattle.entries.proofs.RegionLaws.{start_of, outside, through_linked, through_count, through_starts, through_start, through_rising, through_at, in_place_region}
 use Rattle.entries.proofs.EntryLaws.{through_end, find_placed, placed_below}
 
@@ -254,27 +254,47 @@ module _ (c starts : List ℕ) (count : ℕ) (d : Descriptor) (t : Through c sta
     placed_is : is_in_place ds d p.0 ≡ not (eqb k count)
     placed_is = sym (in_place_region c starts count d t p.0) ∙ sym (ap not told_both.0 ∙ not_not (in_place_at starts (cost_of d) d.beta.0 p.0))
 
-    pub told_misplaced : k ≡ count → is_in_place ds d p.0 ≡ false
+    told_misplaced : k ≡ count → is_in_place ds d p.0 ≡ false
     told_misplaced e = placed_is ∙ ap not (eq-eqb k count e)
 
-    pub told_placed : (k ≡ count → ⊥) → is_in_place ds d p.0 ≡ true
+    told_placed : (k ≡ count → ⊥) → is_in_place ds d p.0 ≡ true
     told_placed n = placed_is ∙ ap not (ne_eqb k count n)
 
-    pub told_owner : (k ≡ count → ⊥) → k ≡ pick (eqb p.0 0) 0 (owner_index ds p.0)
+    told_owner : (k ≡ count → ⊥) → k ≡ pick (eqb p.0 0) 0 (owner_index ds p.0)
     told_owner n = told_both.1 (in_place_region c starts count d t p.0 ∙ told_placed n)
 
+  -- the same as an option, and what the code makes of none
+  module _ (p : Physical) (o : Option ℕ) (told : unwrap_or o count ≡ owner_at starts (cost_of d) d.beta.0 count p.0) (holder : Physical) (r : Result ℕ MisplacedEntry) (tested : r ≡ ok_or o (record { 0 = holder })) where
+    found_none : (e : MisplacedEntry) → r ≡ Err e → (is_in_place ds d p.0 ≡ false) × (e.0 ≡ holder)
+    found_none e f =
+        let none : o ≡ None = grind arith in
+        (told_misplaced p count (subst (λ x. unwrap_or x count ≡ owner_at starts (cost_of d) d.beta.0 count p.0) none told) refl, grind arith)
+
+    module _ (bound : IfSome o (λ k. k < count)) (k : ℕ) (is : r ≡ Ok k) where
+      some : o ≡ Some k
+      some = grind arith
+
+      some_told : k ≡ owner_at starts (cost_of d) d.beta.0 count p.0
+      some_told = subst (λ x. unwrap_or x count ≡ owner_at starts (cost_of d) d.beta.0 count p.0) some told
+
+      some_below : k ≡ count → ⊥
+      some_below = omega (arith, subst (λ x. IfSome x (λ j. j < count)) some bound)
+
+      found_some : (is_in_place ds d p.0 ≡ true) × (k ≡ pick (eqb p.0 0) 0 (owner_index ds p.0))
+      found_some = (told_placed p k some_told some_below, told_owner p k some_told some_below)
+
   -- an entry of a table block, by the tests of the code
-  module _ (m : Physical) (j : ℕ) (p : Physical) (is : p ≡ physical (entry_at c m.0 j)) (k : ℕ) (told : k ≡ owner_at starts (cost_of d) d.beta.0 count p.0) where
+  module _ (m : Physical) (j : ℕ) (p : Physical) (is : p ≡ physical (entry_at c m.0 j)) (o : Option ℕ) (told : unwrap_or o count ≡ owner_at starts (cost_of d) d.beta.0 count p.0) (r : Result ℕ MisplacedEntry) (tested : r ≡ ok_or o (record { 0 = m })) where
     value : entry_at c m.0 j ≡ p.0
     value = sym (ap (λ (y : Physical). y.0) is)
 
-    pub entry_misplaced : k ≡ count → ◌≡◌ {A = Located} (record { found = Misplaced m; owner = 0 }) (located_in ds (entry_found ds d m.0 (entry_at c m.0 j)))
+    pub entry_misplaced : (e : MisplacedEntry) → r ≡ Err e → ◌≡◌ {A = Located} (record { found = Misplaced e.0; owner = 0 }) (located_in ds (entry_found ds d m.0 (entry_at c m.0 j)))
     unfolding entry_found located_in found_block
-    entry_misplaced e = rw (value, told_misplaced p k told e)
+    entry_misplaced e f = let g = found_none p o told m r tested e f in rw (value, g.0, g.1)
 
-    pub entry_placed : (k ≡ count → ⊥) → ◌≡◌ {A = Located} (record { found = Entry m p; owner = k }) (located_in ds (entry_found ds d m.0 (entry_at c m.0 j)))
+    pub entry_placed : IfSome o (λ k. k < count) → (k : ℕ) → r ≡ Ok k → ◌≡◌ {A = Located} (record { found = Entry m p; owner = k }) (located_in ds (entry_found ds d m.0 (entry_at c m.0 j)))
     unfolding entry_found located_in found_block
-    entry_placed n = rw (value, told_placed p k told n) (ap (λ (o : ℕ). record { found = Entry m p; owner = o }) (told_owner p k told n))
+    entry_placed bound k e = let f = found_some p o told m r tested bound k e in rw (value, f.0) (ap (λ (x : ℕ). record { found = Entry m p; owner = x }) f.1)
 
   -- finding, by the tests of the code
   module _ (l : ℕ) (m : Physical) (is : m ≡ physical (table_of c d (l / 128))) where
@@ -288,22 +308,25 @@ module _ (c starts : List ℕ) (count : ℕ) (d : Descriptor) (t : Through c sta
     unfolding locate find
     locate_layout_1 e r f = f ∙ rw (eq-eqb d.layout 1 e, number)
 
-    module _ (other : d.layout ≡ 1 → ⊥) (k : ℕ) (told : k ≡ owner_at starts (cost_of d) d.beta.0 count m.0) where
-      pub locate_misplaced : k ≡ count → ◌≡◌ {A = Located} (record { found = Misplaced d.alpha; owner = 0 }) (locate c ds d l)
+    module _ (other : d.layout ≡ 1 → ⊥) (o : Option ℕ) (told : unwrap_or o count ≡ owner_at starts (cost_of d) d.beta.0 count m.0) (r : Result ℕ MisplacedEntry) (tested : r ≡ ok_or o (record { 0 = d.alpha })) where
+      pub locate_misplaced : (e : MisplacedEntry) → r ≡ Err e → ◌≡◌ {A = Located} (record { found = Misplaced e.0; owner = 0 }) (locate c ds d l)
       unfolding locate find located_in found_block
-      locate_misplaced e = rw (ne_eqb d.layout 1 other, number, told_misplaced m k told e)
+      locate_misplaced e f = let g = found_none m o told d.alpha r tested e f in rw (ne_eqb d.layout 1 other, number, g.0, g.1)
 
-      module _ (n : k ≡ count → ⊥) where
+      module _ (bound : IfSome o (λ k. k < count)) (k : ℕ) (some : r ≡ Ok k) where
+        placed : is_in_place ds d m.0 ≡ true
+        placed = (found_some m o told d.alpha r tested bound k some).0
+
         pub table_on_card : (m.0 ≡ 0 → ⊥) → 512 * m.0 + 512 ≤ length c
-        table_on_card z = omega (arith, placed_below ds d m.0 (told_placed m k told n) z, through_end c starts count d t)
+        table_on_card z = omega (arith, placed_below ds d m.0 placed z, through_end c starts count d t)
 
         pub locate_nil : m.0 ≡ 0 → ◌≡◌ {A = Located} (record { found = Entry (physical 0) (physical 0); owner = 0 }) (locate c ds d l)
         unfolding locate find located_in found_block
-        locate_nil z = rw (ne_eqb d.layout 1 other, number, told_placed m k told n, eq-eqb m.0 0 z)
+        locate_nil z = rw (ne_eqb d.layout 1 other, number, placed, eq-eqb m.0 0 z)
 
-        pub locate_layout_2 : (m.0 ≡ 0 → ⊥) → (r : Located) → r ≡ located_in ds in_table → r ≡ locate c ds d l
+        pub locate_layout_2 : (m.0 ≡ 0 → ⊥) → (s : Located) → s ≡ located_in ds in_table → s ≡ locate c ds d l
         unfolding locate find
-        locate_layout_2 z r f = f ∙ rw (ne_eqb d.layout 1 other, number, told_placed m k told n, ne_eqb m.0 0 z)
+        locate_layout_2 z s f = f ∙ rw (ne_eqb d.layout 1 other, number, placed, ne_eqb m.0 0 z)
 
   -- the owner of a block that was found, where the code looks its name up
   module _ (l : ℕ) (at : Located) (is : at ≡ locate c ds d l) (m p : Physical) (entry : at.found ≡ Entry m p) (set : p.0 ≡ 0 → ⊥) where

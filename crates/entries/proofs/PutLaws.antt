@@ -17,9 +17,8 @@ use Rattle.blocks.proofs.ByteLaws.{store_other, length_block_at}
 use Rattle.blocks.proofs.DescriptorLaws.{store_tail, tail_length, block_whole, cost_least}
 use Rattle.entries.specs.Through.{WriteReady, Through}
 use Rattle.entries.specs.Entry.{table_is_new, need, set_in_table, set_in_new_table, writing, find, tail_with}
-use Rattle.entries.specs.declared.find.Found.TheVariants.{Entry, Misplaced}
+use Rattle.entries.specs.Found.{Found, Misplaced, Entry}
 use Rattle.chains.specs.Chain.{chain, descriptors}
-use Rattle.entries.specs.declared.find.Found.{Found}
 use Rattle.entries.proofs.EntryLaws.{through_beta, through_end, through_volume, found_table, found_entry, need_more}
 use Rattle.blocks.proofs.Tests.{and_right}
 use Rattle.blocks.proofs.BoolLaws.{or_false_right}

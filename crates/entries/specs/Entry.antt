@@ -5,9 +5,7 @@ use Rattle.blocks.specs.Bytes.{block_size, u32_at, le32, splice, block_at, zero_
 use Rattle.blocks.specs.Descriptor.{physical, table_size, phi_start, head_size, extended_of, tail_at, descriptor_block}
 use Rattle.blocks.specs.declared.descriptor.Descriptor.{Descriptor}
 use Rattle.entries.specs.InPlace.{is_in_place, owner_index}
-use Rattle.entries.specs.declared.find.Located.{Located}
-use Rattle.entries.specs.declared.find.Found.{Found}
-use Rattle.entries.specs.declared.find.Found.TheVariants.{Misplaced, Entry}
+use Rattle.entries.specs.Found.{Found, Misplaced, Entry, Located}
 
 -- entry j of table block m
 unfoldable pub entry_at : List ℕ → ℕ → ℕ → ℕ

@@ -2,6 +2,7 @@
 pub mod InPlace
 pub mod InPlaceRules
 pub mod Through
+pub mod Found
 pub mod Entry
 pub mod Naming
 pub mod Rules

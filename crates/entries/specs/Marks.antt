@@ -8,8 +8,7 @@ use Rattle.blocks.specs.declared.descriptor.Descriptor.{Descriptor}
 use Rattle.entries.specs.InPlace.{is_descriptor, is_table}
 use Rattle.entries.specs.Naming.{Naming, among, table_namings}
 use Rattle.entries.specs.Through.{Through}
-use Rattle.entries.specs.declared.check.Verdict.{Verdict}
-use Rattle.entries.specs.declared.check.Verdict.TheVariants.{Passed, Fault}
+use Rattle.entries.specs.Found.{Verdict, Passed, Fault}
 
 -- the flag of a block of an opening, and the last turn
 abbrev pub opening_flag : ℕ

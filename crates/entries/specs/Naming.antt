@@ -5,8 +5,7 @@ use Rattle.blocks.specs.Descriptor.{physical, table_size, phi_size, table_count}
 use Rattle.blocks.specs.declared.descriptor.Descriptor.{Descriptor}
 use Rattle.entries.specs.InPlace.{is_in_place}
 use Rattle.entries.specs.Entry.{entry_at, phi_at, table_of}
-use Rattle.entries.specs.declared.check.Verdict.{Verdict}
-use Rattle.entries.specs.declared.check.Verdict.TheVariants.{Passed, Fault}
+use Rattle.entries.specs.Found.{Verdict, Passed, Fault}
 
 -- an entry that check takes: the block that holds it, its value, whether it stands before n or L, and whether it is one of Phi's
 pub record Naming : Type 0 where

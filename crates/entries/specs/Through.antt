@@ -1,8 +1,8 @@
 -- What a caller of this layer must know: the regions of a sound chain, and a descriptor of that chain; of an entry that was found, what a write through it rests on.
-use Rattle.std.specs.Prelude.{◌≡◌, true, List, ℕ, ◌*◌, ◌≤◌, ◌<◌, length, get_or}
+use Rattle.std.specs.Prelude.{◌≡◌, true, List, ℕ, ◌*◌, ◌-◌, ◌≤◌, ◌<◌, length, get_or}
 use Rattle.blocks.specs.Bytes.{most_bytes, block_size}
 use Rattle.blocks.specs.Descriptor.{physical, most_volume, descriptor_at}
-use Rattle.chains.specs.Chain.{chain, regions_of}
+use Rattle.chains.specs.Chain.{chain, descriptors, active_of, regions_of}
 use Rattle.blocks.specs.declared.descriptor.Descriptor.{Descriptor}
 
 -- the first count + 1 starts rise from block 0 to where the last region ends, which is not below beta
@@ -12,6 +12,11 @@ pub record RisingRegions (starts : List ℕ) (count beta : ℕ) : Type 0 where
   pub from : get_or starts 0 0 ≡ 0
   pub rise : (i j : ℕ) → i ≤ j → j ≤ count → get_or starts i 0 ≤ get_or starts j 0
   pub upto : beta ≤ get_or starts count 0
+
+-- c has at most 65,536 blocks, its chain is sound, and its regions are those of starts
+pub record SoundChain (c starts : List ℕ) : Type 0 where
+  pub small : length c ≤ most_bytes
+  pub regions : regions_of (chain c) ≡ record { sound = true; place = physical 0; active = active_of (descriptors (chain c)); count = length starts - 1; starts = starts }
 
 -- c has at most 65,536 blocks, its chain is sound, its regions are those of starts, and d is the descriptor of one of them
 pub record Through (c starts : List ℕ) (count : ℕ) (d : Descriptor) : Type 0 where

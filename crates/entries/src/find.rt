@@ -1,19 +1,13 @@
-// The result of finding an entry.
+// What finding an entry gives.
 use blocks::numbers::Physical;
 
-// What finding an entry gives.
+// An entry on the way is not in place: the block that holds it.
 #[derive(Clone, Copy)]
-pub enum Found {
-    // An entry on the way is not in place: the block that holds it.
-    Misplaced(Physical),
-    // The block that holds the entry, nil where the table block itself is nil, and the entry, nil or in place.
-    Entry(Physical, Physical),
-}
+pub struct Misplaced(pub Physical);
 
-// What finding gives: the entry and, beside it, the descriptor of the region that contains the block, by its index in the chain. The index is 0 where the entry is nil
-// or not in place.
+// An entry in place: the block of the table that holds it, nil where there is no such block, and the block that it names, nil where it names none.
 #[derive(Clone, Copy)]
-pub struct Located {
-    pub found: Found,
-    pub owner: usize,
+pub struct Slot {
+    pub table: Physical,
+    pub entry: Physical,
 }

@@ -1,5 +1,4 @@
 // The entry layer, the only one that knows where table entries stand: its definitions and laws, and the types that these name. It has no function of its own.
 #![tactic(auto)]
 
-pub mod find; // the result of finding an entry
-pub mod check; // the verdict of a check
+pub mod find; // what finding an entry gives

@@ -12,7 +12,7 @@ use Rattle.chains.specs.Chain.{chain, descriptors}
 use Rattle.entries.specs.Entry.{table_of, entry_at, find}
 use Rattle.entries.specs.Rules.{entry_of}
 use Rattle.entries.specs.Through.{Through}
-use Rattle.entries.specs.declared.find.Found.TheVariants.{Entry}
+use Rattle.entries.specs.Found.{Entry}
 use Rattle.entries.proofs.EntryLaws.{through_end, found_table}
 use Rattle.entries.proofs.FoundLaws.{found_holder, found_value}
 
@@ -34,11 +34,11 @@ module _ (c starts : List ℕ) (count : ℕ) (d : Descriptor) (t : Through c sta
       (omega (arith, h, ap (λ (z : Physical). z.0) holder_is, through_end c starts count d t), omega arith)
 
   -- the entry in a table block that is nil, and in one that is set
-  pub read_nil : m.0 ≡ 0 → Entry (physical 0) (physical 0) ≡ find c (descriptors (chain c)) d l
+  pub read_nil : m.0 ≡ 0 → Entry m (physical 0) ≡ find c (descriptors (chain c)) d l
   unfolding entry_of
   read_nil z =
       let e : y ≡ physical 0 = value_is ∙ rw (eq-eqb (table_of c d (l / 128)) 0 (sym table_is ∙ z)) in
-      sym (placed ∙ rw (e, holder_is ∙ ap physical z))
+      sym (placed ∙ rw (e, holder_is))
 
   pub read_set : (m.0 ≡ 0 → ⊥) → (p : Physical) → p ≡ physical (entry_at c m.0 (l % 128)) → Entry m p ≡ find c (descriptors (chain c)) d l
   unfolding entry_of

@@ -2,9 +2,8 @@
 use Rattle.std.specs.Prelude.{List, [], ◌∷◌, ℕ, replicate}
 use Rattle.blocks.specs.Bytes.{block_size}
 use Rattle.blocks.specs.Name.{no_name}
-use Rattle.calls.specs.declared.answer.Target.TheVariants.{Active, Snapshot}
+use Rattle.calls.specs.Call.{Active, Snapshot, Call, Read, Write, Snap, Revert, Listing, Lent, None, Block, Records, Outcome, accepted, NoneGiven}
 use Rattle.calls.specs.declared.answer.Record.{Record}
-use Rattle.calls.specs.Call.{Call, Read, Write, Snap, Revert, Listing, Lent, None, Block, Records, Outcome, accepted, NoneGiven}
 use Rattle.claims.specs.History.{formatted}
 use Rattle.claims.specs.Bench.{area, fs, mon, lent, blank}
 use Rattle.blocks.specs.Descriptor.{physical, as_format}

@@ -3,8 +3,7 @@ use Rattle.std.specs.Prelude.{List, [], ◌∷◌, map, ℕ}
 use Rattle.blocks.specs.Name.{no_name}
 use Rattle.blocks.specs.Descriptor.{as_format}
 use Rattle.calls.specs.declared.answer.Answer.{Answer}
-use Rattle.calls.specs.declared.answer.Target.TheVariants.{Active, Snapshot}
-use Rattle.calls.specs.Call.{Call, Ream, Read, Write, Snap, Revert, Listing, Check, Visit, Lent, None, Block, Records, Outcome, answer, accepted, NoneGiven, NameGiven}
+use Rattle.calls.specs.Call.{Active, Snapshot, Call, Ream, Read, Write, Snap, Revert, Listing, Check, Visit, Lent, None, Block, Records, Outcome, answer, accepted, NoneGiven, NameGiven}
 use Rattle.claims.specs.History.{formatted}
 use Rattle.claims.specs.Bench.{area, fs, mon, tue, lent, blank}
 use Rattle.histories.specs.Example.{filled_block, lent_records, listed_as, yields}

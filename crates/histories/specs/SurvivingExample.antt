@@ -2,8 +2,7 @@
 use Rattle.std.specs.Prelude.{List, [], ◌∷◌, ◌++◌, ℕ, take, replicate}
 use Rattle.blocks.specs.Name.{no_name}
 use Rattle.blocks.specs.Descriptor.{format_of}
-use Rattle.calls.specs.declared.answer.Target.TheVariants.{Active, Snapshot}
-use Rattle.calls.specs.Call.{Call, Ream, Read, Write, Snap, Revert, Listing, None, Block, Records, Outcome, answer, accepted}
+use Rattle.calls.specs.Call.{Active, Snapshot, Call, Ream, Read, Write, Snap, Revert, Listing, None, Block, Records, Outcome, answer, accepted}
 use Rattle.claims.specs.History.{formatted}
 use Rattle.claims.specs.Bench.{area, fs, mon, tue, lent, blank}
 use Rattle.histories.specs.Example.{example_calls, example_outcomes, filled_block, lent_records, listed_as, yields}

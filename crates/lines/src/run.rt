@@ -1,50 +1,38 @@
 // One line of a work sheet.
-ghost use Rattle.std.specs.Prelude.{◌≡◌, ◌*◌, ◌≤◌, length};
-ghost use Rattle.blocks.specs.Bytes.{block_size};
+ghost use Rattle.std.specs.Prelude.{◌≡◌, ◌≤◌, is_none};
 ghost use Rattle.calls.specs.Listing.{sheet_records};
 ghost use Rattle.cutter.specs.Grammar.{sheet_blocks};
-ghost use Rattle.sheet.specs.Sheet.{size_of, count_of, after_line};
+ghost use Rattle.sheet.specs.Sheet.{added, size_of, count_of, after_line, left_by};
 
-use calls::answer::{Answer, Record};
-use calls::list::SHEET_RECORDS;
-use cutter::line::{Line, SheetCall};
+use calls::answer::Refusal;
+use cutter::line::SheetCall;
 use formatting::format;
 use running::call;
-use sheet::run::{Addition, Ran};
+use sheet::run::Addition;
+use sheet::state::Sheet;
 
 // One line: the call that it asks for, or 15 with the line's number, after which the sheet ends.
 pub fn run_line(
-    area: &mut [u8],
-    blocks: u32,
-    records: [Record; SHEET_RECORDS],
+    sheet: &mut Sheet,
     number: u32,
-    line: Line,
-) -> Ran
-    requires { (length area.old ≡ block_size * sheet_blocks) × (blocks ≤ sheet_blocks) × (size_of line.call ≤ sheet_blocks) }
-    ensures area_value { record { ran = result; area = area.new } ≡ after_line (record { area = area.old; blocks = blocks; records = records }) number line }
-    ensures blocks_le_sheet_blocks { (result.blocks ≤ sheet_blocks) × (count_of result.addition ≤ sheet_records) }
+    line: Option<SheetCall>,
+) -> Result<Addition, Refusal>
+    requires { size_of line ≤ sheet_blocks }
+    ensures value { left_by result (is_none line) sheet.new ≡ after_line sheet.old number line }
+    ensures upper_bound { count_of (added result) ≤ sheet_records }
 {
-    let call = line.call;
-    let name = line.name;
-    match call {
-        SheetCall::Malformed => Ran {
-            answer: Answer {
-                number: 15,
-                place: number,
-            },
+    match line.ok_or(Refusal::BadLine(number))? {
+        SheetCall::Ream {
+            layout,
             blocks,
-            addition: Addition::Nothing,
-            records,
-            ended: true,
-        },
-        SheetCall::Ream(layout, size, volume) => format::run_ream(
-            area, blocks, records, layout, size, volume, name,
-        ),
-        SheetCall::Write(l, fill) => call::run_write(area, blocks, records, l, fill),
-        SheetCall::Read(target, l) => call::run_read(area, blocks, records, target, l, name),
-        SheetCall::Snap => call::run_snap(area, blocks, records, name),
-        SheetCall::Revert => call::run_revert(area, blocks, records, name),
-        SheetCall::List => call::run_list(area, blocks, records),
-        SheetCall::Check => call::run_check(area, blocks, records),
+            volume,
+            name,
+        } => format::run_ream(sheet, layout, blocks, volume, name),
+        SheetCall::Write(l, fill) => call::run_write(sheet, l, fill),
+        SheetCall::Read(target, l) => call::run_read(sheet, target, l),
+        SheetCall::Snap(name) => call::run_snap(sheet, name),
+        SheetCall::Revert(name) => call::run_revert(sheet, name),
+        SheetCall::List => call::run_list(sheet),
+        SheetCall::Check => call::run_check(sheet),
     }
 }

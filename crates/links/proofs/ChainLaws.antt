@@ -1,26 +1,27 @@
 -- Laws of the walk along the chain, as the code asks them, and of regions.
 use mathlib.Core.Path.{◌≡◌, refl, sym, ap, ◌∙◌}
 use mathlib.Core.Bool.{Bool, true, false, not, ◌&&◌, ◌||◌}
+use Rattle.std.specs.Prelude.{Result, Ok, Err, IfOk}
 use mathlib.Core.List.{List, [], ◌∷◌, ◌++◌}
 use Prim.Native.Nat.{ℕ, zero, suc, ◌+◌, ◌*◌, ◌-◌, ◌/◌, ◌≤◌, ◌<◌}
 use native.Mathlib.Numerals.{add-one}
 use native.Mathlib.Omega.{arith}
 use lib.ListN.{length, take, get_or, set, length-append, length-take, length-set}
-use lib.Seq.{take-suc, take-set-le, get_or-set_same, get_or-set_other}
+use lib.Seq.{length-take-le, get_or-take, take-suc, take-set-le, get_or-set_same, get_or-set_other}
 use lib.Dec.{eqb, ltb, leb}
-use borrow.Author.Tests.{ne_eqb, eqb-true, ltb-true, ltb-false, lt-ltb, le-ltb, leb-true, not-true, not-false}
+use borrow.Author.Tests.{not-true, eqb-true, eqb-false, ltb-true, ltb-false, leb-true}
 use Rattle.blocks.specs.Pick.{pick, same}
-use Rattle.blocks.specs.Bytes.{block_count}
+use Rattle.blocks.specs.Bytes.{block_size, block_count}
 use Rattle.blocks.specs.Descriptor.{physical, cost_of, descriptor_at}
 use Rattle.blocks.specs.Name.{hash_of}
-use Rattle.chains.specs.Chain.{active_of, form_ok, region_ok, named, index_of, sound, Unsound, Sound, descriptors_at, chain_from, chain, ends, starts_of, regions_of, walk_of, chain_sound, descriptors, Chain}
-use Rattle.chains.specs.Walk.{has_flag, with_flag, Hashed, Suffice, ends_within, places_from, places_left}
+use Rattle.chains.specs.Chain.{active_of, form_ok, region_ok, named, index_of, sound, Unsound, Sound, descriptors_at, chain_from, chain, ends, starts_of, regions_of, walk_of, walk_as, chain_sound, descriptors, Chain}
+use Rattle.chains.specs.Walk.{has_flag, with_flag, Hashed, Suffice, Enough, ends_within, places_from, places_left}
 use Rattle.blocks.specs.declared.descriptor.Descriptor.{Descriptor}
-use Rattle.chains.specs.declared.chain.Walk.{Walk}
+use Rattle.chains.specs.declared.chain.UnsoundChain.{UnsoundChain}
 use Rattle.blocks.proofs.Tests.{and_left, and_right}
 use Rattle.blocks.proofs.BoolLaws.{and_false_mid}
 use Rattle.blocks.proofs.ListLaws.{same_equal}
-use Rattle.chains.proofs.NamedLaws.{index_from, index_start, index_more, index_end, named_index, length_descriptors}
+use Rattle.chains.proofs.NamedLaws.{not_named, length_descriptors}
 use Rattle.blocks.proofs.DescriptorLaws.{cost_least}
 use Rattle.links.proofs.FlagLaws.{flag_set, flag_kept}
 
@@ -31,22 +32,17 @@ hash_apart words a name f g true e =
     sym f ∙ ap (λ (n : List ℕ). has_flag words (hash_of n)) q ∙ g
 hash_apart words a name f g false e = refl
 
+pub hash_unnamed : (c starts words name : List ℕ) → Hashed c starts (length starts) words → has_flag words (hash_of name) ≡ false → named (descriptors_at c starts) name ≡ false
+hash_unnamed c starts words name hashed g = not_named c starts name (λ j h. hash_apart words (descriptor_at c (get_or starts j 0)).name name (hashed.each j h) g _ refl)
+
 module _ (c starts : List ℕ) (k : ℕ) (words : List ℕ) (hashed : Hashed c starts k words) (long : k ≤ length starts) (name : List ℕ) where
-  none_from_hash : has_flag words (hash_of name) ≡ false → (left : ℕ) (j : ℕ) → j + left ≡ k → index_from c starts k name j ≡ k
-  none_from_hash g zero j e = index_end c starts k name j (omega arith) ∙ omega (arith, e)
-  none_from_hash g (suc left) j e =
-      index_more c starts k name j (omega arith) long (same (descriptor_at c (get_or starts j 0)).name name) refl
-      (hash_apart words (descriptor_at c (get_or starts j 0)).name name (hashed.each j (omega arith)) g (same (descriptor_at c (get_or starts j 0)).name name) refl)
-      ∙ none_from_hash g left (j + 1) (omega arith)
+  first_hashes : Hashed c (take k starts) (length (take k starts)) words
+  first_hashes = record { long = hashed.long; each = λ j l. let m : j < k = omega (arith, length-take-le k starts long) in rw (get_or-take k starts j 0 m) (hashed.each j m) }
 
   pub hash_fresh : (hash : ℕ) → hash ≡ hash_of name → (b : Bool) → b ≡ has_flag words hash → not b ≡ true → false ≡ named (descriptors_at c (take k starts)) name
   hash_fresh hash e b is h =
       let g : has_flag words (hash_of name) ≡ false = ap (has_flag words) (sym e) ∙ sym is ∙ not-true b h in
-      let i = index_start c starts k name ∙ none_from_hash g k 0 (omega arith) in
-      sym (le-ltb k k (omega arith)) ∙ named_index c starts k long name k (sym i)
-
-pub hashed_none : (c starts words : List ℕ) → length words ≡ 32 → Hashed c starts 0 words
-hashed_none c starts words long = record { long = long; each = λ j h. absurd (omega arith) }
+      sym (hash_unnamed c (take k starts) words name first_hashes g)
 
 -- descriptors of one more block
 descriptors_snoc : (c : List ℕ) (ps : List ℕ) (p : ℕ) → descriptors_at c (ps ++ (p ∷ [])) ≡ descriptors_at c ps ++ (descriptor_at c p ∷ [])
@@ -198,26 +194,27 @@ pub length_places : (c places : List ℕ) → length (places_left c places) ≡ 
 unfolding places_left
 length_places c places = length_from c (length places - 1) [] 0 (set places 0 0) ∙ length-set places 0 0
 
--- how a walk of the card ends: the chain that it has found, and the lent places as it is to leave them
-abbrev Ended : List ℕ → List ℕ → Chain → List ℕ → Type 0
-Ended c left ch starts = (chain c ≡ ch) × (left ≡ starts)
+-- what the walk in code gives of a card and the places lent to it, by the names of its clauses
+abbrev pub Gives : List ℕ → List ℕ → Result ℕ UnsoundChain → List ℕ → Type 0
+Gives c lent r starts = record {
+  value : walk_as r ≡ walk_of (chain c);
+  starts_after : IfOk r (λ n. take (n + 1) starts ≡ starts_of (descriptors (chain c)));
+  starts_after_2 : starts ≡ places_left c lent;
+  count_in_bounds : IfOk r (λ n. n < length lent);
+}
 
--- what the walk in code gives: whether the chain is sound, the place and how many and, where it is sound, the starts in one place more; what it leaves in the
--- lent places, which are more than the descriptors
-abbrev pub Gives : List ℕ → List ℕ → Walk → List ℕ → Type 0
-Gives c entry r starts = (r ≡ walk_of (chain c)) × ((r.sound ≡ true → take (r.count + 1) starts ≡ starts_of (descriptors (chain c))) × ((starts ≡ places_left c entry) × (r.count < length entry)))
-
-pub gives_fault : (c entry : List ℕ) → 1 < length entry → (left : List ℕ) → places_left c entry ≡ left → (p : ℕ) (starts : List ℕ) → Ended c left (Unsound p) starts → (r : Walk) → r ≡ walk_of (Unsound p) → Gives c entry r starts
+gives_fault : (c lent starts : List ℕ) (p : ℕ) → chain c ≡ Unsound p → places_left c lent ≡ starts → Gives c lent (Err (record { 0 = physical p })) starts
 unfolding walk_of regions_of
-gives_fault c entry some left to p starts end r e =
-    (e ∙ sym (ap walk_of end.0), (λ h. let f : false ≡ true = sym (ap (λ (x : Walk). x.sound) e) ∙ h in let z : ◌≡◌ {A = ℕ} 0 1 = cc in absurd (omega arith), (sym (to ∙ end.1), rw e (omega (arith, some)))))
+gives_fault c lent starts p found left = record { value = rw found; starts_after = tt; starts_after_2 = sym left; count_in_bounds = tt }
 
-gives_sound : (c entry left : List ℕ) → Suffice c (length entry) → places_left c entry ≡ left → (ds : List Descriptor) (starts : List ℕ) → Ended c left (Sound ds) starts → (n : ℕ) → n ≡ length ds → n < length entry
-    → Gives c entry (record { sound = true; place = physical 0; count = n }) starts
+gives_sound : (c lent starts : List ℕ) (ds : List Descriptor) (n : ℕ) → Suffice c (length lent) → n ≡ length ds → n < length lent → chain c ≡ Sound ds → places_left c lent ≡ starts → Gives c lent (Ok n) starts
 unfolding walk_of regions_of descriptors
-gives_sound c entry left enough to ds starts end n count few =
-    let are : take (n + 1) starts ≡ starts_of ds = rw (← end.1, ← to, count) (places_starts c entry (omega (arith, few)) enough ds end.0) in
-    (rw count (sym (ap walk_of end.0)), (λ h. are ∙ ap starts_of (sym (ap descriptors end.0)), (sym (to ∙ end.1), few)))
+gives_sound c lent starts ds n enough count few found left = record {
+  value = rw (found, count);
+  starts_after = rw (found, ← left, count) (places_starts c lent (omega (arith, few)) enough ds found);
+  starts_after_2 = sym left;
+  count_in_bounds = few;
+}
 
 -- places for the most descriptors are enough; and fewer, where the links end before
 pub suffice_all : (c : List ℕ) (n : ℕ) → n ≡ 257 → Suffice c n
@@ -249,19 +246,9 @@ pub ends_out : (c : List ℕ) (left p : ℕ) → left ≡ 0 → ends_within c le
 unfolding ends_within
 ends_out c left p e = rw e
 
-module _ (c : List ℕ) (left rest p : ℕ) (one : left ≡ suc rest) (n : ℕ) (count : n ≡ length c / 512) where
-  pub ends_past : n ≤ p → ends_within c left p ≡ false
-  unfolding ends_within block_count
-  ends_past h = rw (one, ← count, le-ltb p n h)
-
-  module _ (here : p < n) (d : Descriptor) (is : d ≡ descriptor_at c p) where
-    pub ends_here : d.next.0 ≡ 0 → ends_within c left p ≡ true
-    unfolding ends_within block_count
-    ends_here z = rw (one, ← count, lt-ltb p n here, ← is, z)
-
-    pub ends_more : (d.next.0 ≡ 0 → ⊥) → ends_within c left p ≡ ends_within c rest d.next.0
-    unfolding ends_within block_count
-    ends_more z = rw (one, ← count, lt-ltb p n here, ← is, ne_eqb d.next.0 0 z)
+pub ends_step : (c : List ℕ) (k p : ℕ) → k < 8 → ends_within c (8 - k) p ≡ (ltb p (length c / 512) && (eqb (descriptor_at c p).next.0 0 || ends_within c (8 - (k + 1)) (descriptor_at c p).next.0))
+unfolding ends_within block_count
+ends_step c k p h = let one : 8 - k ≡ suc (8 - (k + 1)) = omega arith in rw one
 
 -- a sound chain, and its descriptors
 pub is_sound : (c : List ℕ) (ds : List Descriptor) → chain c ≡ Sound ds → chain_sound (chain c) ≡ true
@@ -279,190 +266,171 @@ active_snoc [] d = refl
 active_snoc (e ∷ []) d = refl
 active_snoc (e ∷ f ∷ ds) d = active_snoc (f ∷ ds) d
 
--- where the walk with places for m descriptors stands after k sound ones: block p is next
-pub record Walked (c left : List ℕ) (m : ℕ) (starts : List ℕ) (p k : ℕ) : Type 0 where
-  pub few : k ≤ m
-  pub long : length starts ≡ suc m
+-- where the walk with the lent places stands after k sound descriptors: block p is next, and in place k
+pub record Walked (c lent starts : List ℕ) (p k : ℕ) : Type 0 where
   pub here : get_or starts k 0 ≡ p
-  pub inside : (j : ℕ) → j ≤ k → 512 * get_or starts j 0 + 512 ≤ length c
-  pub rest : Ended c left (chain_from c (m - k) (descriptors_at c (take k starts)) p) (places_from c (m - k) (descriptors_at c (take k starts)) p starts)
+  pub few : k < length lent
+  pub long : length starts ≡ length lent
+  pub inside : (j : ℕ) → j ≤ k → block_size * get_or starts j 0 + block_size ≤ length c
+  pub found : chain c ≡ chain_from c (length lent - 1 - k) (descriptors_at c (take k starts)) p
+  pub left : places_left c lent ≡ places_from c (length lent - 1 - k) (descriptors_at c (take k starts)) p starts
 
-walked_none : (c entry : List ℕ) (m : ℕ) → (length c / 512 ≡ 0 → ⊥) → length entry ≡ suc m → Suffice c (length entry) → Walked c (places_left c entry) m (set entry 0 0) 0 0
-unfolding starts_of ends descriptors_at places_left
-walked_none c entry m h long enough =
-    let zeroth : get_or (set entry 0 0) 0 0 ≡ 0 = get_or-set_same entry 0 0 0 (omega (arith, long)) in
-    let most : length entry - 1 ≡ m - 0 = omega (arith, long) in
-    record {
-      few = omega arith;
-      long = length-set entry 0 0 ∙ long;
-      here = zeroth;
-      inside = λ j l. let e : j ≡ 0 = omega arith in rw (e, zeroth) (omega (arith, h));
-      rest = (sym enough ∙ ap (λ (n : ℕ). chain_from c n [] 0) most, ap (λ (n : ℕ). places_from c n [] 0 (set entry 0 0)) most);
-    }
+-- a flag for each name's hash, with one more name passed and one more place set
+hash_low : (name : List ℕ) → hash_of name < 1024
+unfolding hash_of
+hash_low name = omega arith
 
--- one more name passed
-pub hashed_more : (c starts : List ℕ) (k : ℕ) (words : List ℕ) → Hashed c starts k words → (name : List ℕ) → name ≡ (descriptor_at c (get_or starts k 0)).name → (hash : ℕ) → hash ≡ hash_of name → hash < 1024
-    → (words' : List ℕ) → words' ≡ with_flag words hash → Hashed c starts (k + 1) words'
+hashed_none : (c starts words : List ℕ) → length words ≡ 32 → Hashed c starts 0 words
+hashed_none c starts words long = record { long = long; each = λ j h. absurd (omega arith) }
+
+pub hashed_more : (c starts : List ℕ) (k : ℕ) (words : List ℕ) → Hashed c starts k words → (d : Descriptor) → d ≡ descriptor_at c (get_or starts k 0) → (hash : ℕ) → hash ≡ hash_of d.name
+    → (words' : List ℕ) → words' ≡ with_flag words hash → (end : ℕ) → Hashed c (set starts (k + 1) end) (k + 1) words'
 unfolding with_flag
-hashed_more c starts k words hashed name name_is hash hash_is low words' e =
-    record { long = ap length e ∙ length-set words (hash / 32) _ ∙ hashed.long; each = λ j h. ap (λ (w : List ℕ). has_flag w (hash_of (descriptor_at c (get_or starts j 0)).name)) e ∙ each_by j h (ltb j k) refl }
+hashed_more c starts k words hashed d is hash hash_is words' set_is end =
+    record { long = ap length set_is ∙ length-set words (hash / 32) _ ∙ hashed.long; each = λ j h. rw (set_is, get_or-set_other starts (k + 1) j end 0 (omega arith)) (each_by j h (ltb j k) refl) }
   where
     each_by : (j : ℕ) → j < k + 1 → (t : Bool) → ltb j k ≡ t → has_flag (with_flag words hash) (hash_of (descriptor_at c (get_or starts j 0)).name) ≡ true
-    each_by j h true t = flag_kept words hash (hash_of (descriptor_at c (get_or starts j 0)).name) (omega (arith, hashed.long)) (hashed.each j (ltb-true j k t))
+    each_by j h true t = flag_kept words hash (hash_of (descriptor_at c (get_or starts j 0)).name) (omega (arith, hashed.long, hash_is, hash_low d.name)) (hashed.each j (ltb-true j k t))
     each_by j h false t =
-        let q : j ≡ k = omega (arith, ltb-false j k t) in
-        let at : (descriptor_at c (get_or starts j 0)).name ≡ name = ap (λ (x : ℕ). (descriptor_at c (get_or starts x 0)).name) q ∙ sym name_is in
-        ap (λ (x : List ℕ). has_flag (with_flag words hash) (hash_of x)) at ∙ ap (has_flag (with_flag words hash)) (sym hash_is) ∙ flag_set words hash (omega (arith, hashed.long))
+        let e : j ≡ k = omega (arith, ltb-false j k t) in
+        rw (e, ← is, ← hash_is) (flag_set words hash (omega (arith, hashed.long, hash_is, hash_low d.name)))
 
--- starts changed past those
-pub hashed_starts : (c starts : List ℕ) (k : ℕ) (words : List ℕ) → Hashed c starts k words → (i v : ℕ) → k ≤ i → Hashed c (set starts i v) k words
-hashed_starts c starts k words hashed i v h = record { long = hashed.long; each = λ j l. rw (get_or-set_other starts i j v 0 (omega arith)) (hashed.each j l) }
+module _ (c lent starts : List ℕ) (p k : ℕ) (w : Walked c lent starts p k) where
+  abbrev passed : List Descriptor
+  passed = descriptors_at c (take k starts)
 
-module _ (c left : List ℕ) (m : ℕ) (starts : List ℕ) (p k : ℕ) (w : Walked c left m starts p k) where
-  abbrev ds : List Descriptor
-  ds = descriptors_at c (take k starts)
+  length_taken : length (take k starts) ≡ k
+  length_taken = simp length-take (omega (arith, w.few, w.long))
 
-  length_ds : length ds ≡ k
-  length_ds = length_descriptors c (take k starts) ∙ (simp length-take (omega (arith, w.few, w.long)))
+  length_passed : length passed ≡ k
+  length_passed = length_descriptors c (take k starts) ∙ length_taken
 
-  -- the name of the descriptor in block p
-  pub walked_name : (d : Descriptor) → d ≡ descriptor_at c p → d.name ≡ (descriptor_at c (get_or starts k 0)).name
-  walked_name d is = ap (λ (x : Descriptor). x.name) is ∙ ap (λ (x : ℕ). (descriptor_at c x).name) (sym w.here)
-
-  -- block p and the blocks passed are on the card
-  pub walked_here : 512 * p + 512 ≤ length c
+  -- the next descriptor's block is on the card; those passed are, and their names have their flags
+  pub walked_here : block_size * p + block_size ≤ length c
   walked_here = rw (← w.here) (w.inside k (omega arith))
 
-  pub walked_passed : (k ≤ length starts) × ((j : ℕ) → j < k → 512 * get_or starts j 0 + 512 ≤ length c)
-  walked_passed = (omega (arith, w.few, w.long), λ j h. w.inside j (omega arith))
+  pub walked_read : (d : Descriptor) → d ≡ descriptor_at c p → d ≡ descriptor_at c (get_or starts k 0)
+  walked_read d is = rw w.here is
+
+  pub walked_passed : (words : List ℕ) → Hashed c starts k words
+      → Hashed c (take k starts) (length (take k starts)) words × ((j : ℕ) → j < length (take k starts) → block_size * get_or (take k starts) j 0 + block_size ≤ length c)
+  walked_passed words hashed = (record { long = hashed.long; each = λ j h. rw (taken j h) (hashed.each j (omega (arith, length_taken))) }, λ j h. rw (taken j h) (w.inside j (omega (arith, length_taken))))
+    where
+      taken : (j : ℕ) → j < length (take k starts) → get_or (take k starts) j 0 ≡ get_or starts j 0
+      taken j h = get_or-take k starts j 0 (omega (arith, length_taken))
 
   -- there is no place for another
-  pub walk_out : m ≤ k → Ended c left (Unsound p) starts
+  pub walk_out : length lent - 1 ≤ k → Gives c lent (Err (record { 0 = physical p })) starts
   unfolding chain_from places_from
-  walk_out h = let z : m - k ≡ zero = omega arith in (w.rest.0 ∙ rw z, w.rest.1 ∙ rw z)
+  walk_out h = let none : length lent - 1 - k ≡ 0 = omega arith in gives_fault c lent starts p (w.found ∙ rw none) (w.left ∙ rw none)
 
-  module _ (more : k < m) (d : Descriptor) (is : d ≡ descriptor_at c p) (first : Descriptor) (first_is : first ≡ descriptor_at c 0) (n : ℕ) (count : n ≡ length c / 512) where
-    one : m - k ≡ suc (m - (k + 1))
+  -- `right` is what the next descriptor's test says of it, and `called` whether one before it has its name
+  module _ (more : k < length lent - 1) (d : Descriptor) (is : d ≡ descriptor_at c p) (first : Descriptor) (first_is : first ≡ descriptor_at c 0)
+      (right : Bool) (right_is : right ≡ (form_ok c p d && region_ok first (length c / 512) p d)) (called : Bool) (called_is : called ≡ named passed d.name) where
+    one : length lent - 1 - k ≡ suc (length lent - 1 - (k + 1))
     one = omega arith
 
     abbrev starts' : List ℕ
     starts' = set starts (k + 1) d.beta.0
 
     abbrev chain' : Chain
-    chain' = chain_from c (m - (k + 1)) (ds ++ (d ∷ [])) d.next.0
+    chain' = chain_from c (length lent - 1 - (k + 1)) (passed ++ (d ∷ [])) d.next.0
 
     abbrev places' : List ℕ
-    places' = places_from c (m - (k + 1)) (ds ++ (d ∷ [])) d.next.0 starts'
+    places' = places_from c (length lent - 1 - (k + 1)) (passed ++ (d ∷ [])) d.next.0 starts'
 
-    abbrev fine : Bool
-    fine = form_ok c p d && region_ok first n p d && not (named ds d.name)
+    found_step : chain c ≡ pick (right && not called) (pick (eqb d.next.0 0) (Sound (passed ++ (d ∷ []))) chain') (Unsound p)
+    unfolding chain_from sound block_count
+    found_step = w.found ∙ rw (one, right_is, called_is, is, first_is)
 
-    walk_step : Ended c left (pick fine (pick (eqb d.next.0 0) (Sound (ds ++ (d ∷ []))) chain') (Unsound p)) (pick fine (pick (eqb d.next.0 0) starts' places') starts)
-    unfolding chain_from places_from sound block_count
-    walk_step = (w.rest.0 ∙ rw (one, is, first_is, count), w.rest.1 ∙ rw (one, is, first_is, count, length_ds))
+    left_step : places_left c lent ≡ pick (right && not called) (pick (eqb d.next.0 0) starts' places') starts
+    unfolding places_from sound block_count
+    left_step = w.left ∙ rw (one, right_is, called_is, is, first_is, length_passed)
 
-    module _ (b : Bool) (right : b ≡ (form_ok c p d && region_ok first n p d)) where
-      pub walk_wrong : not b ≡ true → Ended c left (Unsound p) starts
-      walk_wrong h = (walk_step.0 ∙ rw (← right, not-true b h), walk_step.1 ∙ rw (← right, not-true b h))
+    pub walk_wrong : (right && not called) ≡ false → Gives c lent (Err (record { 0 = physical p })) starts
+    walk_wrong h = gives_fault c lent starts p (found_step ∙ rw h) (left_step ∙ rw h)
 
-      module _ (b_is : not b ≡ false) (t : Bool) (called : t ≡ named ds d.name) where
-        pub walk_repeated : t ≡ true → Ended c left (Unsound p) starts
-        walk_repeated h = (walk_step.0 ∙ rw (← right, not-false b b_is, ← called, h), walk_step.1 ∙ rw (← right, not-false b b_is, ← called, h))
+    module _ (good : (right && not called) ≡ true) where
+      ok : region_ok first (length c / 512) p d ≡ true
+      ok = and_right (form_ok c p d) (region_ok first (length c / 512) p d) (sym right_is ∙ and_left right (not called) good)
 
-        module _ (fresh : t ≡ false) where
-          walk_on : Ended c left (pick (eqb d.next.0 0) (Sound (ds ++ (d ∷ []))) chain') (pick (eqb d.next.0 0) starts' places')
-          walk_on = (walk_step.0 ∙ rw (← right, not-false b b_is, ← called, fresh), walk_step.1 ∙ rw (← right, not-false b b_is, ← called, fresh))
+      -- the last one
+      pub walk_end : Suffice c (length lent) → eqb d.next.0 0 ≡ true → Gives c lent (Ok (k + 1)) starts'
+      walk_end enough z =
+          let size : length (passed ++ (d ∷ [])) ≡ k + 1 = length-append passed (d ∷ []) ∙ ap (λ (x : ℕ). x + 1) length_passed in
+          gives_sound c lent starts' (passed ++ (d ∷ [])) (k + 1) enough (sym size) (omega arith) (found_step ∙ rw (good, z)) (left_step ∙ rw (good, z))
 
-          ok : region_ok first n p d ≡ true
-          ok = and_right (form_ok c p d) (region_ok first n p d) (sym right ∙ not-false b b_is)
+      -- another follows
+      pub walked_more : eqb d.next.0 0 ≡ false → Walked c lent starts' d.next.0 (k + 1)
+      walked_more z =
+          record {
+            here = next_at;
+            few = omega arith;
+            long = length-set starts (k + 1) d.beta.0 ∙ w.long;
+            inside = λ j h. inside_by j h (ltb j (k + 1)) refl;
+            found = rw passed_more (found_step ∙ rw (good, z));
+            left = rw passed_more (left_step ∙ rw (good, z));
+          }
+        where
+          link : (d.next.0 ≡ d.beta.0) × (d.beta.0 < length c / 512)
+          link = region_next first (length c / 512) p d ok (eqb-false d.next.0 0 z)
 
-          take_more : take (k + 1) starts' ≡ take k starts ++ (p ∷ [])
-          take_more =
-              take-set-le (k + 1) starts (k + 1) d.beta.0 (omega arith)
-              ∙ rw add-one (take-suc starts k 0 (omega (arith, w.long)))
-              ∙ ap (λ (q : ℕ). take k starts ++ (q ∷ [])) w.here
+          next_at : get_or starts' (k + 1) 0 ≡ d.next.0
+          next_at = get_or-set_same starts (k + 1) d.beta.0 0 (omega (arith, w.long)) ∙ sym link.0
 
-          ds_more : descriptors_at c (take (k + 1) starts') ≡ ds ++ (d ∷ [])
-          ds_more = rw take_more (descriptors_snoc c (take k starts) p ∙ rw (← is))
+          passed_more : descriptors_at c (take (k + 1) starts') ≡ passed ++ (d ∷ [])
+          passed_more =
+              rw (take-set-le (k + 1) starts (k + 1) d.beta.0 (omega arith), add-one, take-suc starts k 0 (omega (arith, w.long)), descriptors_snoc c (take k starts), w.here, ← is)
 
-          pub walk_end : (entry : List ℕ) → length entry ≡ suc m → Suffice c (length entry) → places_left c entry ≡ left → d.next.0 ≡ 0 → Gives c entry (record { sound = true; place = physical 0; count = k + 1 }) starts'
-          walk_end entry long enough to z =
-              let size : length (ds ++ (d ∷ [])) ≡ k + 1 = length-append ds (d ∷ []) ∙ ap (λ (x : ℕ). x + 1) length_ds in
-              gives_sound c entry left enough to (ds ++ (d ∷ [])) starts' (walk_on.0 ∙ rw z, walk_on.1 ∙ rw z) (k + 1) (sym size) (omega (arith, long, more))
-
-          -- the next descriptor's block is on the card
-          pub walked_next : (d.next.0 ≡ 0 → ⊥) → 512 * d.next.0 + 512 ≤ length c
-          walked_next z = let link = region_next first n p d ok z in omega (arith, link.0, link.1, count)
-
-          pub walked_more : (d.next.0 ≡ 0 → ⊥) → Walked c left m starts' d.next.0 (k + 1)
-          walked_more z =
-              let link = region_next first n p d ok z in
-              let at_end : get_or starts' (k + 1) 0 ≡ d.next.0 = get_or-set_same starts (k + 1) d.beta.0 0 (omega (arith, w.long)) ∙ sym link.0 in
-              record {
-                few = omega arith;
-                long = length-set starts (k + 1) d.beta.0 ∙ w.long;
-                here = at_end;
-                inside = λ j l. inside_by j l at_end (walked_next z) (ltb j (k + 1)) refl;
-                rest = rw ds_more (walk_on.0 ∙ rw (ne_eqb d.next.0 0 z), walk_on.1 ∙ rw (ne_eqb d.next.0 0 z));
-              }
-            where
-              inside_by : (j : ℕ) → j ≤ k + 1 → get_or starts' (k + 1) 0 ≡ d.next.0 → 512 * d.next.0 + 512 ≤ length c → (t : Bool) → ltb j (k + 1) ≡ t → 512 * get_or starts' j 0 + 512 ≤ length c
-              inside_by j l e fits true t = rw (get_or-set_other starts (k + 1) j d.beta.0 0 (omega (arith, ltb-true j (k + 1) t))) (w.inside j (omega (arith, ltb-true j (k + 1) t)))
-              inside_by j l e fits false t = let q : j ≡ k + 1 = omega (arith, ltb-false j (k + 1) t) in rw (q, e) fits
+          inside_by : (j : ℕ) → j ≤ k + 1 → (t : Bool) → ltb j (k + 1) ≡ t → block_size * get_or starts' j 0 + block_size ≤ length c
+          inside_by j h true t = rw (get_or-set_other starts (k + 1) j d.beta.0 0 (omega (arith, ltb-true j (k + 1) t))) (w.inside j (omega (arith, ltb-true j (k + 1) t)))
+          inside_by j h false t = let e : j ≡ k + 1 = omega (arith, ltb-false j (k + 1) t) in rw (e, next_at) (omega (arith, link.0, link.1))
 
 -- the first descriptor: none has passed, so none has its name
-none_from : (c : List ℕ) (n f : ℕ) → n ≡ 0 → block_count c ≡ n → (places : List ℕ) → (chain_from c (suc f) [] 0 ≡ Unsound 0) × (places_from c (suc f) [] 0 places ≡ places)
-unfolding chain_from places_from sound
-none_from c n f h e places =
-    let z = region_none (descriptor_at c 0) (descriptor_at c 0) 0 (region_ok (descriptor_at c 0) 0 0 (descriptor_at c 0)) refl in
-    (rw (e, h, z, and_false_mid (form_ok c 0 (descriptor_at c 0))), rw (e, h, z, and_false_mid (form_ok c 0 (descriptor_at c 0))))
-
-pub walk_none : (c entry : List ℕ) → length c / 512 ≡ 0 → 1 < length entry → Suffice c (length entry) → Ended c (places_left c entry) (Unsound 0) (set entry 0 0)
-unfolding block_count places_left
-walk_none c entry h some enough =
-    let most : length entry - 1 ≡ suc (length entry - 2) = omega (arith, some) in
-    let none = none_from c (length c / 512) (length entry - 2) h refl (set entry 0 0) in
-    (sym enough ∙ rw most none.0, rw most none.1)
-
-module _ (c : List ℕ) (some : length c / 512 ≡ 0 → ⊥) (entry : List ℕ) (places : 1 < length entry) (most : ℕ) (long : length entry ≡ suc most) (enough : Suffice c (length entry)) (d : Descriptor) (is : d ≡ descriptor_at c 0) (n : ℕ) (count : n ≡ length c / 512) where
-  -- number 0 is block 0
+module _ (c lent : List ℕ) (enough : Enough c lent) where
   abbrev starts₀ : List ℕ
-  starts₀ = set entry 0 0
+  starts₀ = set lent 0 0
 
-  walked₀ : Walked c (places_left c entry) most starts₀ 0 0
-  walked₀ = walked_none c entry most some long enough
+  zeroth : get_or starts₀ 0 0 ≡ 0
+  zeroth = get_or-set_same lent 0 0 0 (omega (arith, enough.0))
 
-  more₀ : 0 < most
-  more₀ = omega (arith, places, long)
+  pub walk_none : length c / 512 ≡ 0 → Gives c lent (Err (record { 0 = physical 0 })) starts₀
+  unfolding chain chain_from places_left places_from sound block_count
+  walk_none h =
+      let most : length lent - 1 ≡ suc (length lent - 2) = omega (arith, enough.0) in
+      let none = region_none (descriptor_at c 0) (descriptor_at c 0) 0 (region_ok (descriptor_at c 0) 0 0 (descriptor_at c 0)) refl in
+      gives_fault c lent starts₀ 0 (sym enough.2 ∙ rw (most, h, none, and_false_mid (form_ok c 0 (descriptor_at c 0)))) (rw (most, h, none, and_false_mid (form_ok c 0 (descriptor_at c 0))))
 
-  pub first_wrong : (b : Bool) → b ≡ (form_ok c 0 d && region_ok d n 0 d) → not b ≡ true → Ended c (places_left c entry) (Unsound 0) starts₀
-  first_wrong b right = walk_wrong c (places_left c entry) most starts₀ 0 0 walked₀ more₀ d is d is n count b right
+  module _ (some : length c / 512 ≡ 0 → ⊥) (d : Descriptor) (is : d ≡ descriptor_at c 0) (right : Bool) (right_is : right ≡ (form_ok c 0 d && region_ok d (length c / 512) 0 d)) where
+    walked_none : Walked c lent starts₀ 0 0
+    unfolding descriptors_at places_left
+    walked_none =
+        let none : length lent - 1 - 0 ≡ length lent - 1 = omega arith in
+        record {
+          here = zeroth;
+          few = omega (arith, enough.0);
+          long = length-set lent 0 0;
+          inside = λ j h. let e : j ≡ 0 = omega arith in rw (e, zeroth) (omega (arith, some));
+          found = rw none (sym enough.2);
+          left = rw none;
+        }
 
-  module _ (right : (form_ok c 0 d && region_ok d n 0 d) ≡ true) where
-    not_named : false ≡ named (descriptors_at c (take 0 starts₀)) d.name
+    not_called : false ≡ named (descriptors_at c (take 0 starts₀)) d.name
     unfolding named index_of descriptors_at
-    not_named = refl
+    not_called = refl
 
-    pub first_end : d.next.0 ≡ 0 → Gives c entry (record { sound = true; place = physical 0; count = 1 }) (set starts₀ 1 d.beta.0)
-    first_end = walk_end c (places_left c entry) most starts₀ 0 0 walked₀ more₀ d is d is n count true (sym right) refl false not_named refl entry long enough refl
+    pub first_wrong : right ≡ false → Gives c lent (Err (record { 0 = physical 0 })) starts₀
+    first_wrong h = walk_wrong c lent starts₀ 0 0 walked_none (omega (arith, enough.0)) d is d is right right_is false not_called (rw h)
 
-    pub first_next : (d.next.0 ≡ 0 → ⊥) → 512 * d.next.0 + 512 ≤ length c
-    first_next = walked_next c (places_left c entry) most starts₀ 0 0 walked₀ more₀ d is d is n count true (sym right) refl false not_named refl
+    module _ (good : right ≡ true) where
+      pub first_end : eqb d.next.0 0 ≡ true → Gives c lent (Ok 1) (set starts₀ 1 d.beta.0)
+      first_end z = walk_end c lent starts₀ 0 0 walked_none (omega (arith, enough.0)) d is d is right right_is false not_called (rw good) enough.2 z
 
-    first_more : (d.next.0 ≡ 0 → ⊥) → Walked c (places_left c entry) most (set starts₀ 1 d.beta.0) d.next.0 1
-    first_more = walked_more c (places_left c entry) most starts₀ 0 0 walked₀ more₀ d is d is n count true (sym right) refl false not_named refl
+      pub first_more : eqb d.next.0 0 ≡ false → Walked c lent (set starts₀ 1 d.beta.0) d.next.0 1
+      first_more z = walked_more c lent starts₀ 0 0 walked_none (omega (arith, enough.0)) d is d is right right_is false not_called (rw good) z
 
-    -- where the walk stands after the first, with the places as it is to leave them by what it goes on with
-    pub first_left : (d.next.0 ≡ 0 → ⊥) → places_left c entry ≡ places_from c (most - 1) (descriptors_at c (take 1 (set starts₀ 1 d.beta.0))) d.next.0 (set starts₀ 1 d.beta.0)
-    first_left z = (first_more z).rest.1
-
-    pub first_on : (d.next.0 ≡ 0 → ⊥) → Walked c (places_from c (most - 1) (descriptors_at c (take 1 (set starts₀ 1 d.beta.0))) d.next.0 (set starts₀ 1 d.beta.0)) most (set starts₀ 1 d.beta.0) d.next.0 1
-    first_on z = let w = first_more z in record { few = w.few; long = w.long; here = w.here; inside = w.inside; rest = (w.rest.0, refl) }
-
-  -- its name has its flag
-  pub first_hashed : (words : List ℕ) → length words ≡ 32 → (hash : ℕ) → hash ≡ hash_of d.name → hash < 1024 → (words' : List ℕ) → words' ≡ with_flag words hash → Hashed c (set starts₀ 1 d.beta.0) 1 words'
-  first_hashed words clear hash hash_is low words' e =
-      hashed_starts c starts₀ 1 words' (hashed_more c starts₀ 0 words (hashed_none c starts₀ words clear) d.name (walked_name c (places_left c entry) most starts₀ 0 0 walked₀ d is) hash hash_is low words' e) 1 d.beta.0 (omega arith)
+  pub first_hashed : (d : Descriptor) → d ≡ descriptor_at c 0 → (words : List ℕ) → length words ≡ 32 → (hash : ℕ) → hash ≡ hash_of d.name → (words' : List ℕ) → words' ≡ with_flag words hash → Hashed c (set starts₀ 1 d.beta.0) 1 words'
+  first_hashed d is words long hash hash_is words' set_is = hashed_more c starts₀ 0 words (hashed_none c starts₀ words long) d (rw zeroth is) hash hash_is words' set_is d.beta.0
 
 -- the regions of a sound chain are sound
 pub regions_ok : (ch : Chain) → chain_sound ch ≡ true → (regions_of ch).sound ≡ true

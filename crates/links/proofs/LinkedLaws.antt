@@ -15,7 +15,7 @@ use Rattle.blocks.specs.Descriptor.{physical, cost_of, no_descriptor, descriptor
 use Rattle.chains.specs.Chain.{active_of, form_ok, region_ok, named, sound, Chain, Unsound, Sound, descriptors_at, chain_from, chain, descriptors, ends, starts_of, Regions, regions_of, walk_of}
 use Rattle.blocks.specs.declared.numbers.Physical.{Physical}
 use Rattle.blocks.specs.declared.descriptor.Descriptor.{Descriptor}
-use Rattle.chains.specs.declared.chain.Walk.{Walk}
+use Rattle.chains.specs.Chain.{Walk}
 use Rattle.blocks.proofs.Tests.{and_left, and_right}
 use Rattle.links.proofs.ChainLaws.{region_layout, region_volume, region_alpha, region_long, region_end, region_next, length_ends}
 use Rattle.blocks.proofs.DescriptorLaws.{cost_least}

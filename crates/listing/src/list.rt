@@ -1,128 +1,86 @@
 // A listing of the chain.
-ghost use Rattle.std.specs.Prelude.{◌≡◌, ℕ, ◌+◌, ◌*◌, ◌≤◌, ◌<◌, length, get_or};
-ghost use Rattle.calls.specs.Call.{Listing, Records};
-ghost use Rattle.calls.specs.Step.{step, done};
-ghost use Rattle.calls.specs.Listing.{filling_with, filling_by, plan_of, record_by, filled, record_count};
+ghost use Rattle.std.specs.Prelude.{◌≡◌, List, ℕ, ◌+◌, ◌*◌, ◌-◌, ◌≤◌, ◌<◌, length, take, replicate, get_or, IfOk};
+ghost use Rattle.blocks.specs.Pick.{pick};
 ghost use Rattle.blocks.specs.Bytes.{block_size};
+ghost use Rattle.chains.specs.Walk.{Enough, places_left};
+ghost use Rattle.calls.specs.declared.answer.Record.{Record as RecordOf};
+ghost use Rattle.calls.specs.Call.{Listing, Records, answered};
+ghost use Rattle.calls.specs.Parts.{SoundCard};
+ghost use Rattle.calls.specs.Ladder.{admission, first_row};
+ghost use Rattle.calls.specs.Step.{is_accepted, step, done};
+ghost use Rattle.calls.specs.Listing.{filling_as, filling_of, record_by, record_count};
 
 use admitting::area;
 use blocks::descriptor;
 use blocks::numbers::Physical;
-use blocks::sizes::STARTS_SIZE;
-use calls::answer::{Answer, Record};
-use calls::list::{Filling, Plan};
+use blocks::sizes::{FEW_STARTS, STARTS_SIZE};
+use calls::answer::{Record, Refusal};
 use indexing::index;
 use walking::chain;
 
-// What has this answer and fills so many records.
-fn filling_of(number: u32, place: u32, count: usize) -> Filling
-    ensures { result ≡ filling_with number place count }
+// All tests of a listing into `room` records, in their order: how many records it fills. The first of the places, one more than that, are then set to where the
+// regions start and where the last one ends.
+pub fn count_listed(card: &[u8], starts: &mut [u32], room: usize) -> Result<usize, Refusal>
+    requires { Enough card.now starts.old }
+    ensures value { (records : List RecordOf) → length records ≡ room → filling_as result ≡ filling_of card.now records }
+    ensures starts_after { starts.new ≡ pick (is_accepted (first_row (admission card.now))) (places_left card.now starts.old) starts.old }
+    ensures sound { IfOk result (λ n. SoundCard card.now n (take (n + 1) starts.new)) }
+    ensures upper_bound { IfOk result (λ n. (n ≤ room) × (n < length starts.old)) }
 {
-    Filling {
-        answer: Answer { number, place },
-        count,
-    }
-}
-
-// All tests of a listing into `room` records, in their order, by what the walk along the chain found.
-pub fn plan_filling(card: &[u8], sound: bool, place: Physical, count: usize, room: usize) -> Filling
-    ensures { result ≡ filling_by card.now sound place.0 count room }
-{
-    let admitted = area::admit(card);
-    if admitted.number != 0 {
-        return filling_of(admitted.number, admitted.place, 0);
-    }
-    if !sound {
-        return filling_of(6, place.0, 0);
-    }
+    area::admit(card)?;
+    let count = chain::walk_chain(card, starts)?;
     if room < count {
-        return filling_of(14, 0, 0);
+        return Err(Refusal::TooFewRecords);
     }
-    filling_of(0, 0, count)
+    Ok(count)
 }
 
-// What a listing into `room` records answers and fills, and where the regions start.
-fn make_plan(card: &[u8], room: usize) -> Plan
-    ensures { result ≡ plan_of card.now room }
+// The record of region `k`, by where the regions start and where the last one ends: of its bytes the name alone is read.
+pub fn record_of(card: &[u8], starts: &[u32], k: usize) -> Record
+    requires { (k + 1 < length starts.now) × (block_size * get_or starts.now k 0 + block_size ≤ length card.now) }
+    ensures { result ≡ record_by card.now starts.now (length starts.now - 1) k }
 {
-    let mut starts = [0u32; STARTS_SIZE];
-    let found = chain::walk_chain(card, &mut starts);
-    let f = plan_filling(card, found.sound, found.place, found.count, room);
-    let answer = f.answer;
-    Plan {
-        answer,
-        count: f.count,
-        starts,
-    }
-}
-
-// The record of region `k` of `n`, by the starts that the walk found: of its bytes the name alone is read.
-pub fn record_of(card: &[u8], starts: &[u32], n: usize, k: usize) -> Record
-    requires { (k < n) × (n < length starts.now) × (block_size * get_or starts.now k 0 + block_size ≤ length card.now) }
-    ensures { result ≡ record_by card.now starts.now n k }
-{
-    let start = starts[k];
-    let end = starts[k + 1];
-    let name = descriptor::name_at(card, Physical(start));
-    let next = index::next_of(Physical(end), k, n);
+    let alpha = Physical(starts[k]);
+    let beta = Physical(starts[k + 1]);
     Record {
-        name,
-        alpha: Physical(start),
-        beta: Physical(end),
-        next,
-    }
-}
-
-// The first `n` records are now those of the `n` regions.
-fn fill(card: &[u8], starts: &[u32], records: &mut [Record], n: usize)
-    requires { (n ≤ length records.old) × (n < length starts.now) × ((j : ℕ) → j < n → block_size * get_or starts.now j 0 + block_size ≤ length card.now) }
-    ensures { records.new ≡ filled card.now starts.now records.old n }
-{
-    let mut i = 0;
-    while i < n {
-        let r = record_of(card, starts, n, i);
-        records[i] = r;
-        i += 1;
+        name: descriptor::name_at(card, alpha),
+        alpha,
+        beta,
+        next: index::next_of(beta, k, starts.len() - 1),
     }
 }
 
 // Lists the chain: the first records are those of its descriptors, in chain order, and the others are unchanged.
-pub fn list(card: &[u8], records: &mut [Record]) -> Answer
-    ensures { done result (Records records.new) card.now ≡ step (Listing records.old) card.now }
+pub fn list(card: &[u8], records: &mut [Record]) -> Result<(), Refusal>
+    ensures { done (answered result) (Records records.new) card.now ≡ step (Listing records.old) card.now }
 {
-    let p = make_plan(card, records.len());
-    let starts = p.starts;
-    fill(card, &starts, records, p.count);
-    p.answer
+    // a short chain is walked with few places, so that a card with few snapshots does not wait until 257 are cleared
+    if chain::is_short(card) {
+        list_in::<FEW_STARTS>(card, records)
+    } else {
+        list_in::<STARTS_SIZE>(card, records)
+    }
 }
 
-// What a listing into 64 records of one's own gives.
-#[derive(Clone, Copy)]
-pub struct List64 {
-    pub answer: Answer,
-    pub records: [Record; 64],
-}
-
-// The same listing, into an array of 64 records by value: the one function that lends an array of records.
-pub fn list_64(card: &[u8], records: [Record; 64]) -> List64
-    ensures { done result.answer (Records result.records) card.now ≡ step (Listing records) card.now }
+// The same by a walk with so many places.
+fn list_in<const PLACES: usize>(card: &[u8], records: &mut [Record]) -> Result<(), Refusal>
+    requires { Enough card.now (replicate PLACES 0) }
+    ensures { done (answered result) (Records records.new) card.now ≡ step (Listing records.old) card.now }
 {
-    let mut r = records;
-    let answer = list(card, &mut r);
-    List64 { answer, records: r }
+    let mut starts = [0u32; PLACES];
+    let count = count_listed(card, &mut starts, records.len())?;
+    for (k, r) in records[..count].iter_mut().enumerate() {
+        *r = record_of(card, &starts[..count + 1], k);
+    }
+    Ok(())
 }
 
 // How many of the records a listing has filled: up to the first whose next is 0, that one too.
-pub fn count_records(records: [Record; 64]) -> usize
-    ensures { result ≡ record_count records }
+pub fn count_records(records: &[Record]) -> usize
+    ensures { result ≡ record_count records.now }
 {
-    let mut i = 0;
-    while i < 64 {
-        let r = records[i];
-        i += 1;
-        if r.next.0 == 0 {
-            return i;
-        }
+    match records.iter().position(|r| r.next.0 == 0) {
+        Some(last) => last + 1,
+        None => records.len(),
     }
-    i
 }

@@ -16,8 +16,7 @@ pub fn descriptor_block(card: &[u8], p: Physical, d: Descriptor) -> [u8; BLOCK_S
     ensures value { result ≡ descriptor_block d (tail_at card.now p.0) }
     ensures d_len { length (head_bytes d) ≡ 40 }
 {
-    let mut b = [0u8; BLOCK_SIZE];
-    bytes::get_bytes(card, BLOCK_SIZE * (p.0 as usize), &mut b);
+    let mut b: [u8; BLOCK_SIZE] = bytes::array_at(card, p.start());
     descriptor::put_head(&mut b, d);
     b
 }
@@ -43,13 +42,11 @@ pub fn table_block(card: &[u8], m: Physical, j: u32, q: Physical) -> [u8; BLOCK_
     requires { (block_size * m.0 + block_size ≤ length card.now) × (j < table_size) }
     ensures { result ≡ table_with (pick (eqb m.0 0) zero_block (block_at card.now m.0)) j q.0 }
 {
-    let at = 4 * (j as usize);
-    let mut b = [0u8; BLOCK_SIZE];
-    if m.0 == 0 {
-        bytes::put_u32(&mut b, at, q.0);
-        return b;
-    }
-    bytes::get_bytes(card, BLOCK_SIZE * (m.0 as usize), &mut b);
-    bytes::put_u32(&mut b, at, q.0);
+    let mut b: [u8; BLOCK_SIZE] = if m.is_nil() {
+        [0; BLOCK_SIZE]
+    } else {
+        bytes::array_at(card, m.start())
+    };
+    bytes::put_u32(&mut b, 4 * (j as usize), q.0);
     b
 }

@@ -3,18 +3,18 @@
 #![tactic(auto)]
 
 ghost use Rattle.std.specs.Prelude.{◌≡◌};
-ghost use Rattle.calls.specs.Call.{Ream, Read, Write, Snap, Revert, Check, Visit, SpanRead, SpanWrite, None, Block, answer};
+ghost use Rattle.calls.specs.Call.{Ream, Read, Write, Snap, Revert, Check, Visit, SpanRead, SpanWrite, None, Block, answer, answered};
 ghost use Rattle.calls.specs.Effect.{as_visited};
 ghost use Rattle.calls.specs.Step.{step};
 ghost use Rattle.blocks.specs.Descriptor.{format_of};
 ghost use Rattle.boundary.specs.Exported.{exported, exported_visit, name_in, target_in, padding_of};
 ghost use Rattle.boundary.specs.RecordBytes.{listing_of};
 
-use blocks::descriptor;
 use blocks::descriptor::Format;
 use blocks::numbers::Logical;
 use blocks::sizes::NAME_SIZE;
 use boundary::{argument, record};
+use calls::answer::{Answer, Refusal};
 use checking::check;
 use names::name;
 use reading::read;
@@ -25,6 +25,15 @@ use spanreading::span as span_read;
 use spanwriting::span as span_write;
 use visiting::visit;
 use writes::write;
+
+// Stores the place of an answer, and gives its number.
+fn give(called: Result<(), Refusal>, place: &mut u32) -> u32
+    ensures { answer result place.new ≡ answered called }
+{
+    let answer = Answer::from(called);
+    *place = answer.place;
+    answer.number
+}
 
 // Formats the card.
 #[unsafe(no_mangle)]
@@ -38,16 +47,13 @@ pub extern "C" fn mantreuy_ream(
 ) -> u32
     ensures { exported result place.new None card.new ≡ step (Ream (format_of layout volume revision (name_in name.now))) card.old }
 {
-    let name = argument::name_in(name);
     let format = Format {
         layout,
         volume,
         revision,
-        name,
+        name: argument::name_in(name),
     };
-    let a = ream::ream(card, format);
-    *place = a.place;
-    a.number
+    give(ream::ream(card, format), place)
 }
 
 // Reads a block of the active store where `snapshot` is 0, else of the snapshot that has the name.
@@ -62,10 +68,8 @@ pub extern "C" fn mantreuy_read(
 ) -> u32
     ensures { exported result place.new (Block out.new) card.now ≡ step (Read (target_in snapshot) (name_in name.now) block out.old) card.now }
 {
-    let target = argument::target_in(snapshot);
-    let a = read::read(card, target, argument::name_in(name), Logical(block), out);
-    *place = a.place;
-    a.number
+    let target = argument::target_in(snapshot, name);
+    give(read::read(card, target, Logical(block), out), place)
 }
 
 // Names the visit that a block dates from, of the active store where `snapshot` is 0, else of the snapshot that has the name: sixteen zeros for none.
@@ -80,12 +84,10 @@ pub extern "C" fn mantreuy_visit(
 ) -> u32
     ensures { exported_visit result place.new visit.new ≡ as_visited (step (Visit (target_in snapshot) (name_in name.now) block) card.now).outcome }
 {
-    let target = argument::target_in(snapshot);
-    let v = visit::visit(card, target, argument::name_in(name), Logical(block));
-    let given = v.name;
-    *visit = given;
-    *place = v.answer.place;
-    v.answer.number
+    let target = argument::target_in(snapshot, name);
+    let visited = visit::visit(card, target, Logical(block));
+    *visit = visited.ok().flatten().unwrap_or([0; NAME_SIZE]);
+    give(visited.map(|_| ()), place)
 }
 
 // Writes a block of the active store.
@@ -93,9 +95,7 @@ pub extern "C" fn mantreuy_visit(
 pub extern "C" fn mantreuy_write(card: &mut [u8], block: u32, bytes: &[u8], place: &mut u32) -> u32
     ensures { exported result place.new (Block bytes.now) card.new ≡ step (Write block bytes.now) card.old }
 {
-    let a = write::write(card, Logical(block), bytes);
-    *place = a.place;
-    a.number
+    give(write::write(card, Logical(block), bytes), place)
 }
 
 // Reads as many bytes as are lent, from byte `offset` of the volume on, of the active store where `snapshot` is 0, else of the snapshot that has the name.
@@ -110,10 +110,8 @@ pub extern "C" fn mantreuy_read_span(
 ) -> u32
     ensures { exported result place.new (Block out.new) card.now ≡ step (SpanRead (target_in snapshot) (name_in name.now) offset out.old) card.now }
 {
-    let target = argument::target_in(snapshot);
-    let a = span_read::read_span(card, target, argument::name_in(name), offset, out);
-    *place = a.place;
-    a.number
+    let target = argument::target_in(snapshot, name);
+    give(span_read::read_span(card, target, offset, out), place)
 }
 
 // Writes all the bytes that are lent, from byte `offset` of the active store on.
@@ -126,9 +124,7 @@ pub extern "C" fn mantreuy_write_span(
 ) -> u32
     ensures { exported result place.new (Block bytes.now) card.new ≡ step (SpanWrite offset bytes.now) card.old }
 {
-    let a = span_write::write_span(card, offset, bytes);
-    *place = a.place;
-    a.number
+    give(span_write::write_span(card, offset, bytes), place)
 }
 
 // Freezes the active volume under the name.
@@ -136,9 +132,7 @@ pub extern "C" fn mantreuy_write_span(
 pub extern "C" fn mantreuy_snap(card: &mut [u8], name: &[u8], place: &mut u32) -> u32
     ensures { exported result place.new None card.new ≡ step (Snap (name_in name.now)) card.old }
 {
-    let a = snap::snap(card, argument::name_in(name));
-    *place = a.place;
-    a.number
+    give(snap::snap(card, argument::name_in(name)), place)
 }
 
 // Back to the snapshot that has the name.
@@ -146,9 +140,7 @@ pub extern "C" fn mantreuy_snap(card: &mut [u8], name: &[u8], place: &mut u32) -
 pub extern "C" fn mantreuy_revert(card: &mut [u8], name: &[u8], place: &mut u32) -> u32
     ensures { exported result place.new None card.new ≡ step (Revert (name_in name.now)) card.old }
 {
-    let a = revert::revert(card, argument::name_in(name));
-    *place = a.place;
-    a.number
+    give(revert::revert(card, argument::name_in(name)), place)
 }
 
 // Lists the chain into bytes, 28 for each record.
@@ -156,9 +148,7 @@ pub extern "C" fn mantreuy_revert(card: &mut [u8], name: &[u8], place: &mut u32)
 pub extern "C" fn mantreuy_list(card: &[u8], records: &mut [u8], place: &mut u32) -> u32
     ensures { record { answer = answer result place.new; bytes = records.new } ≡ listing_of card.now records.old }
 {
-    let a = record::list_chain(card, records);
-    *place = a.place;
-    a.number
+    give(record::list_chain(card, records), place)
 }
 
 // Checks the card.
@@ -166,9 +156,7 @@ pub extern "C" fn mantreuy_list(card: &[u8], records: &mut [u8], place: &mut u32
 pub extern "C" fn mantreuy_check(card: &[u8], place: &mut u32) -> u32
     ensures { exported result place.new None card.now ≡ step Check card.now }
 {
-    let a = check::check(card);
-    *place = a.place;
-    a.number
+    give(check::check(card), place)
 }
 
 // Pads a text to a name: 0, or 4 where the text is no name or `name` has not sixteen bytes.
@@ -176,13 +164,10 @@ pub extern "C" fn mantreuy_check(card: &[u8], place: &mut u32) -> u32
 pub extern "C" fn mantreuy_pad_name(text: &[u8], name: &mut [u8]) -> u32
     ensures { record { number = result; name = name.new } ≡ padding_of text.now name.old }
 {
-    if name.len() != NAME_SIZE {
-        return 4;
-    }
     let padded = name::pad_name(text);
-    if !name::is_name(padded) {
-        return 4;
+    if name.len() != NAME_SIZE || !name::is_name(padded) {
+        return Refusal::BadName.number();
     }
-    descriptor::put_name(name, 0, padded);
+    name.copy_from_slice(&padded);
     0
 }

@@ -1,32 +1,37 @@
--- Laws of the tests of a name, as a loop over its bytes asks them: zeros last, by each byte and the one before it, and some byte that is not zero.
+-- Laws of the tests of a name, as the code makes them: how many of its bytes come first, and of a loop over its bytes each byte of a name or zero, zeros last,
+-- by each byte and the one before it, and some byte that is not zero.
 use mathlib.Core.Path.{◌≡◌, refl, sym, ap, ◌∙◌}
-use mathlib.Core.Bool.{Bool, true, false, not, ◌&&◌, ◌||◌, and_assoc}
+use mathlib.Core.Bool.{Bool, true, false, not, ◌&&◌, ◌||◌, and_assoc, cond}
 use mathlib.Core.List.{List, [], ◌∷◌}
 use Prim.Native.Nat.{ℕ, suc, ◌+◌, ◌≤◌, ◌<◌}
 use native.Mathlib.Numerals.{add-one}
 use native.Mathlib.Omega.{arith}
 use lib.ListN.{length, drop, get_or, drop_of_length-le}
 use lib.Seq.{drop-cons}
-use lib.Dec.{eqb, leb}
-use Rattle.blocks.specs.Pick.{all_zero}
-use Rattle.blocks.specs.Name.{name_byte, is_name, name_or_zero, zeros_last}
+use lib.Dec.{eqb}
+use Rattle.std.specs.List.{take_while, prefix_len}
+use Rattle.std.proofs.lemmas.List.Folds.{length-prefix_len}
+use Rattle.blocks.specs.Pick.{pick, all_zero}
+use Rattle.blocks.specs.Name.{name_byte, name_length, is_name, name_or_zero, zeros_last}
 use Rattle.blocks.proofs.BoolLaws.{no}
 use Rattle.blocks.proofs.NameLaws.{name_tests}
 
--- the tests of a byte in the order of the code
-pub byte_tests : (b : ℕ) → (((eqb b 45 || (leb 97 b && leb b 122)) || (leb 48 b && leb b 57)) || eqb b 46) ≡ name_byte b
-unfolding name_byte
-byte_tests b = by (leb 97 b && leb b 122) (leb 48 b && leb b 57) (eqb b 46) (eqb b 45)
+-- how many bytes of a name come first, as a chain counts them
+name_prefix : (a : List ℕ) → prefix_len name_byte a ≡ name_length a
+unfolding name_length
+name_prefix [] = refl
+name_prefix (b ∷ a) = by (name_byte b) (name_prefix a)
   where
-    by : (p q r s : Bool) → (((s || p) || q) || r) ≡ (p || q || r || s)
-    by true q r true = refl
-    by true q r false = refl
-    by false true r true = refl
-    by false true r false = refl
-    by false false true true = refl
-    by false false true false = refl
-    by false false false true = refl
-    by false false false false = refl
+    by : (t : Bool) → prefix_len name_byte a ≡ name_length a → cond t (1 + prefix_len name_byte a) 0 ≡ pick t (suc (name_length a)) 0
+    by true more = omega arith
+    by false more = refl
+
+pub name_taken : (a : List ℕ) → length (take_while name_byte a) ≡ name_length a
+name_taken a = length-prefix_len name_byte a ∙ name_prefix a
+
+-- whether the bytes from index i are of a name or zero
+unfoldable pub good_from : List ℕ → ℕ → Bool
+good_from a i = name_or_zero (drop i a)
 
 -- whether zeros come last in the bytes from index i, after one more byte
 unfoldable pub last_from : List ℕ → ℕ → ℕ → Bool
@@ -36,7 +41,25 @@ last_from a before i = zeros_last (before ∷ drop i a)
 unfoldable pub some_from : List ℕ → ℕ → Bool
 some_from a i = not (all_zero (drop i a))
 
+-- each with the test of the bytes before carried along
 module _ (a : List ℕ) where
+  pub good_start : name_or_zero a ≡ good_from a 0
+  unfolding good_from
+  good_start = refl
+
+  good_step : (i : ℕ) → i < length a → good_from a i ≡ ((name_byte (get_or a i 0) || eqb (get_or a i 0) 0) && good_from a (i + 1))
+  unfolding good_from name_or_zero
+  good_step i h = rw (add-one, drop-cons a i 0)
+
+  pub good_next : (i : ℕ) (z t : Bool) → i < length a → t ≡ name_byte (get_or a i 0) → name_or_zero a ≡ (z && good_from a i) → name_or_zero a ≡ ((z && (t || eqb (get_or a i 0) 0)) && good_from a (i + 1))
+  good_next i true t h e q = q ∙ good_step i h ∙ rw e
+  good_next i false t h e q = q
+
+  pub good_end : (i : ℕ) (z : Bool) → length a ≤ i → name_or_zero a ≡ (z && good_from a i) → z ≡ name_or_zero a
+  unfolding good_from name_or_zero
+  good_end i true h q = sym (q ∙ rw (drop_of_length-le a h))
+  good_end i false h q = sym q
+
   pub last_start : zeros_last a ≡ last_from a 1 0
   unfolding last_from zeros_last
   last_start = by a
@@ -49,10 +72,10 @@ module _ (a : List ℕ) where
   unfolding last_from zeros_last
   last_step before i h = rw (add-one, drop-cons a i 0)
 
-  pub last_next : (before i : ℕ) (z r : Bool) → i < length a → r ≡ (z && (not (eqb before 0) || eqb (get_or a i 0) 0)) → zeros_last a ≡ (z && last_from a before i)
-      → zeros_last a ≡ (r && last_from a (get_or a i 0) (i + 1))
-  last_next before i true r h e q = q ∙ last_step before i h ∙ rw e
-  last_next before i false r h e q = q ∙ rw e
+  pub last_next : (before i : ℕ) (z : Bool) → i < length a → zeros_last a ≡ (z && last_from a before i)
+      → zeros_last a ≡ ((z && (not (eqb before 0) || eqb (get_or a i 0) 0)) && last_from a (get_or a i 0) (i + 1))
+  last_next before i true h q = q ∙ last_step before i h
+  last_next before i false h q = q
 
   pub last_end : (before i : ℕ) (z : Bool) → length a ≤ i → zeros_last a ≡ (z && last_from a before i) → z ≡ zeros_last a
   unfolding last_from zeros_last
@@ -71,9 +94,9 @@ module _ (a : List ℕ) where
       by true y = refl
       by false y = refl
 
-  pub some_next : (i : ℕ) (z r : Bool) → i < length a → r ≡ (z || not (eqb (get_or a i 0) 0)) → not (all_zero a) ≡ (z || some_from a i) → not (all_zero a) ≡ (r || some_from a (i + 1))
-  some_next i true r h e q = q ∙ rw e
-  some_next i false r h e q = q ∙ some_step i h ∙ rw e
+  pub some_next : (i : ℕ) (z : Bool) → i < length a → not (all_zero a) ≡ (z || some_from a i) → not (all_zero a) ≡ ((z || not (eqb (get_or a i 0) 0)) || some_from a (i + 1))
+  some_next i true h q = q
+  some_next i false h q = q ∙ some_step i h
 
   pub some_end : (i : ℕ) (z : Bool) → length a ≤ i → not (all_zero a) ≡ (z || some_from a i) → z ≡ not (all_zero a)
   unfolding some_from all_zero

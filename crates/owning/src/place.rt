@@ -1,5 +1,5 @@
 // Which blocks an entry may name: the region that contains a block, where it is in place.
-ghost use Rattle.std.specs.Prelude.{◌≡◌, ◌<◌, get_or};
+ghost use Rattle.std.specs.Prelude.{◌≡◌, ◌-◌, ◌<◌, length, get_or, IfSome, unwrap_or};
 ghost use Rattle.blocks.specs.Descriptor.{cost_of};
 ghost use Rattle.entries.specs.InPlace.{region_of, owner_at};
 ghost use Rattle.entries.specs.Through.{RisingRegions};
@@ -8,42 +8,31 @@ use blocks::descriptor;
 use blocks::descriptor::Descriptor;
 use blocks::numbers::Physical;
 
-// The index of the region that contains block `p`. The regions rise, so that each step halves those that are left.
-fn region_of(starts: &[u32], count: usize, p: Physical) -> usize
-    requires { RisingRegions starts.now count 0 × (p.0 < get_or starts.now count 0) }
+// The index of the region that contains block `p`: as many as end at or below it. A region ends where the next one starts; after where they start stands where the last one ends.
+fn region_of(starts: &[u32], p: Physical) -> usize
+    requires { RisingRegions starts.now (length starts.now - 1) 0 × (p.0 < get_or starts.now (length starts.now - 1) 0) }
     ensures value { result ≡ region_of starts.now p.0 }
-    ensures upper_bound { result < count }
+    ensures upper_bound { result < length starts.now - 1 }
 {
-    let mut low = 0;
-    let mut high = count;
-    while 1 < high - low {
-        let middle = low + (high - low) / 2;
-        if starts[middle] <= p.0 {
-            low = middle;
-        } else {
-            high = middle;
-        }
-    }
-    low
+    starts[1..].partition_point(|end| *end <= p.0)
 }
 
-// The region that contains block `p`, where an entry of the descriptor `d` may name it, 0 where it is nil; and `count` where it may not.
-pub fn owner_at(starts: &[u32], count: usize, d: Descriptor, p: Physical) -> usize
-    requires { RisingRegions starts.now count d.beta.0 }
-    ensures { result ≡ owner_at starts.now (cost_of d) d.beta.0 count p.0 }
+// The region that contains block `p`, where an entry of the descriptor `d` may name it, 0 where it is nil.
+pub fn owner_at(starts: &[u32], d: Descriptor, p: Physical) -> Option<usize>
+    requires { RisingRegions starts.now (length starts.now - 1) d.beta.0 }
+    ensures value { unwrap_or result (length starts.now - 1) ≡ owner_at starts.now (cost_of d) d.beta.0 (length starts.now - 1) p.0 }
+    ensures upper_bound { IfSome result (λ k. k < length starts.now - 1) }
 {
-    let q = p.0;
-    if q == 0 {
-        return 0;
+    if p.is_nil() {
+        return Some(0);
     }
-    if d.beta.0 <= q {
-        return count;
+    if d.beta <= p {
+        return None;
     }
-    let k = region_of(starts, count, p);
-    let start = starts[k] as usize;
+    let k = region_of(starts, p);
     let cost = descriptor::opening_cost(d.layout, d.volume) as usize;
-    if (q as usize) < start + cost {
-        return count;
+    if (p.0 as usize) < (starts[k] as usize) + cost {
+        return None;
     }
-    k
+    Some(k)
 }

@@ -8,7 +8,7 @@ use native.Mathlib.Nat.{zero-add}
 use lib.ListN.{length, take}
 use lib.Seq.{take-add, length-take-le}
 use lib.Dec.{ltb, leb}
-use borrow.Author.Tests.{leb-true, leb-false, ltb-true, ltb-false, lt-ltb, le-ltb}
+use borrow.Author.Tests.{leb-true, leb-false, ltb-false}
 use Rattle.blocks.specs.Bytes.{splice, part}
 use Rattle.blocks.proofs.ByteLaws.{length_part, length_splice, splice_join}
 use Rattle.pieces.specs.Span.{touched, merged, span_block}
@@ -24,20 +24,7 @@ unfolding touched
 touched_some o zero h = absurd (h refl)
 touched_some o (suc n) h = let e : suc n - 1 ≡ n = omega arith in rw e
 
--- whether it ends past so many bytes, with no sum
-past_is : (e o n : ℕ) → o ≤ e → ltb (e - o) n ≡ ltb e (o + n)
-past_is e o n h = by (ltb e (o + n)) refl
-  where
-    by : (t : Bool) → ltb e (o + n) ≡ t → ltb (e - o) n ≡ t
-    by true t = lt-ltb (e - o) n (omega (arith, ltb-true e (o + n) t))
-    by false t = le-ltb (e - o) n (omega (arith, ltb-false e (o + n) t))
-
-pub past_given : (v o n : ℕ) → 512 * v < o → true ≡ ltb (512 * v) (o + n)
-past_given v o n h = sym (lt-ltb (512 * v) (o + n) (omega arith))
-
-pub past_tested : (v o n : ℕ) → o ≤ 512 * v → ltb (512 * v - o) n ≡ ltb (512 * v) (o + n)
-past_tested v o n h = past_is (512 * v) o n h
-
+-- a span that does not end past so many bytes
 pub past_upto : (v o n : ℕ) (b : Bool) → b ≡ ltb (512 * v) (o + n) → b ≡ false → o + n ≤ 512 * v
 past_upto v o n b e h = ltb-false (512 * v) (o + n) (sym e ∙ h)
 

@@ -13,26 +13,6 @@ pub struct Piece {
     pub count: usize,
 }
 
-// The difference, or 0 where `b` is larger.
-fn less(a: usize, b: usize) -> usize
-    ensures { result ≡ a - b }
-{
-    if a < b {
-        return 0;
-    }
-    a - b
-}
-
-// The smaller of the two.
-fn least(a: usize, b: usize) -> usize
-    ensures { result ≡ min a b }
-{
-    if a < b {
-        return a;
-    }
-    b
-}
-
 // The piece in logical block `l` of the span of `n` bytes from `offset` on.
 pub fn piece_in(offset: usize, n: usize, l: usize) -> Piece
     requires { (block_size * l < offset + n) × (offset < block_size * l + block_size) × (offset + n < 2 ^ 64) }
@@ -40,9 +20,9 @@ pub fn piece_in(offset: usize, n: usize, l: usize) -> Piece
     ensures count_bound { (result.first + result.count ≤ block_size) × (result.stands + result.count ≤ n) }
 {
     let start = BLOCK_SIZE * l;
-    let first = less(offset, start);
-    let stands = less(start, offset);
-    let count = least(BLOCK_SIZE - first, less(n, stands));
+    let first = offset.saturating_sub(start);
+    let stands = start.saturating_sub(offset);
+    let count = (BLOCK_SIZE - first).min(n - stands);
     Piece {
         first,
         stands,
@@ -51,25 +31,24 @@ pub fn piece_in(offset: usize, n: usize, l: usize) -> Piece
 }
 
 // How many blocks the span of `n` bytes from `offset` on touches.
+#[tactic(auto, using(crate::proofs::SpanLaws::touched_none, crate::proofs::SpanLaws::touched_some))]
 pub fn blocks_touched(offset: usize, n: usize) -> usize
     requires { offset + n < 2 ^ 64 }
     ensures value { result ≡ touched offset n }
     ensures result_bound { block_size * (offset / block_size + result) < offset + n + block_size }
 {
     if n == 0 {
-        return 0;
+        0
+    } else {
+        let last = offset + (n - 1);
+        last / BLOCK_SIZE - offset / BLOCK_SIZE + 1
     }
-    let last = offset + (n - 1);
-    last / BLOCK_SIZE - offset / BLOCK_SIZE + 1
 }
 
 // Whether the span of `n` bytes from `offset` on ends past a volume of so many blocks: over all numbers, with no sum that could be too large.
 pub fn is_past(volume: u32, offset: u64, n: usize) -> bool
     ensures { result ≡ ltb (block_size * volume) (offset + n) }
 {
-    let end = (BLOCK_SIZE as u64) * (volume as u64);
-    if end < offset {
-        return true;
-    }
-    end - offset < (n as u64)
+    let end = BLOCK_SIZE as u64 * u64::from(volume);
+    end < offset || end - offset < n as u64
 }

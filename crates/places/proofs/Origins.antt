@@ -15,9 +15,7 @@ use Rattle.blocks.specs.declared.descriptor.Descriptor.{Descriptor}
 use Rattle.blocks.specs.declared.descriptor.Format.{Format}
 use Rattle.entries.specs.InPlace.{owner_index, owner_of}
 use Rattle.entries.specs.Entry.{find, found_block, located_in}
-use Rattle.calls.specs.declared.answer.Target.{Target}
-use Rattle.calls.specs.declared.answer.Target.TheVariants.{Active, Snapshot}
-use Rattle.calls.specs.Call.{Call, Read, Visit, Block, Given, NoneGiven, NameGiven}
+use Rattle.calls.specs.Call.{Target, Active, Snapshot, Call, Read, Visit, Block, Given, NoneGiven, NameGiven}
 use Rattle.calls.specs.Parts.{descriptors_of, target_of, found_through}
 use Rattle.calls.specs.Check.{Passes}
 use Rattle.calls.specs.Effect.{given_at}

@@ -11,8 +11,7 @@ use Rattle.blocks.specs.declared.descriptor.Descriptor.{Descriptor}
 use Rattle.blocks.proofs.BoolLaws.{no}
 use Rattle.pieces.specs.Span.{span_block, touched, merged}
 use Rattle.chains.specs.Chain.{active_of}
-use Rattle.entries.specs.declared.find.Found.{Found}
-use Rattle.entries.specs.declared.find.Found.TheVariants.{Misplaced, Entry}
+use Rattle.entries.specs.Found.{Found, Misplaced, Entry}
 use Rattle.calls.specs.Parts.{descriptors_of, snapshots_of, found_through, block_found}
 use Rattle.calls.specs.Stores.{staying}
 use Rattle.claims.specs.Kinds.{Kind, Formats, Leaves, Writes, WritesSpan, Snaps, Reverts}

@@ -17,8 +17,7 @@ use Rattle.chains.specs.Chain.{Sound, chain, chain_sound, active_of}
 use Rattle.links.proofs.LinkedLaws.{active_at}
 use Rattle.entries.specs.InPlace.{owner_index}
 use Rattle.entries.specs.Entry.{table_of, table_is_new, need}
-use Rattle.entries.specs.declared.find.Found.{Found}
-use Rattle.entries.specs.declared.find.Found.TheVariants.{Misplaced, Entry}
+use Rattle.entries.specs.Found.{Found, Misplaced, Entry}
 use Rattle.entries.proofs.EntryLaws.{placed_below, find_placed}
 use Rattle.entries.proofs.FoundLaws.{found_holder, found_own, found_placed}
 use Rattle.entries.proofs.TableLaws.{group_below}

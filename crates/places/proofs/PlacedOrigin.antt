@@ -16,10 +16,8 @@ use Rattle.chains.specs.Chain.{Sound, chain, chain_sound, named, active_of, inde
 use Rattle.chains.proofs.NamedLaws.{index_below}
 use Rattle.entries.specs.InPlace.{owner_index, owner_of}
 use Rattle.entries.specs.Entry.{found_block}
-use Rattle.entries.specs.declared.find.Found.{Found}
-use Rattle.entries.specs.declared.find.Found.TheVariants.{Misplaced, Entry}
-use Rattle.calls.specs.declared.answer.Target.{Target}
-use Rattle.calls.specs.declared.answer.Target.TheVariants.{Active, Snapshot}
+use Rattle.entries.specs.Found.{Found, Misplaced, Entry}
+use Rattle.calls.specs.Call.{Target, Active, Snapshot}
 use Rattle.calls.specs.Parts.{descriptors_of, snapshots_of, is_snapshot, target_of, found_through}
 use Rattle.calls.proofs.CardLaws.{chain_is}
 use Rattle.calls.proofs.ActiveLaws.{chain_some, volume_at, target_member}

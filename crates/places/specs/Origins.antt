@@ -4,8 +4,7 @@ use Rattle.blocks.specs.Pick.{pick}
 use Rattle.blocks.specs.Bytes.{block_count}
 use Rattle.blocks.specs.Name.{no_name}
 use Rattle.blocks.specs.declared.descriptor.Format.{Format}
-use Rattle.calls.specs.declared.answer.Target.{Target}
-use Rattle.calls.specs.Call.{Call, Read, Visit, Block, Given, NoneGiven, NameGiven}
+use Rattle.calls.specs.Call.{Target, Call, Read, Visit, Block, Given, NoneGiven, NameGiven}
 use Rattle.calls.specs.Check.{Passes}
 use Rattle.calls.specs.Meaning.{answer_of}
 use Rattle.calls.specs.Step.{step, after, is_accepted}

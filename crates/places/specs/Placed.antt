@@ -12,12 +12,9 @@ use Rattle.pieces.specs.Span.{span_block, touched, merged}
 use Rattle.chains.specs.Chain.{most_descriptors, chain, chain_sound, named, active_of}
 use Rattle.entries.specs.InPlace.{owner_index, owner_of}
 use Rattle.entries.specs.Entry.{table_of, found_block, need}
-use Rattle.entries.specs.declared.find.Found.{Found}
-use Rattle.entries.specs.declared.find.Found.TheVariants.{Misplaced, Entry}
+use Rattle.entries.specs.Found.{Found, Misplaced, Entry}
 use Rattle.calls.specs.declared.answer.Answer.{Answer}
-use Rattle.calls.specs.declared.answer.Target.{Target}
-use Rattle.calls.specs.declared.answer.Target.TheVariants.{Active, Snapshot}
-use Rattle.calls.specs.Call.{Call, Read, SpanRead, SpanWrite, Check, Visit, Block, Given, NoneGiven, NameGiven}
+use Rattle.calls.specs.Call.{Target, Active, Snapshot, Call, Read, SpanRead, SpanWrite, Check, Visit, Block, Given, NoneGiven, NameGiven}
 use Rattle.calls.specs.Parts.{descriptors_of, snapshots_of, is_snapshot, target_of, found_through, is_misplaced}
 use Rattle.calls.specs.Check.{Passes}
 use Rattle.calls.specs.Ladder.{Row, row, first_row, format_rows}

@@ -12,23 +12,16 @@ use copying::copy;
 // Makes block `to` as the pass does, stopped after `k` bytes: the descriptor is that in the block `head`, bytes 40 to 511 come from block `from`. It gives 1;
 // 0, and nothing is stored, where `head` is no block, `k` is above 512, or a block is not on the card.
 #[unsafe(no_mangle)]
+#[tactic(auto, using(std::proofs::lemmas::Bool::Decides::nat_tests), unfolding(crate::specs::Prefix::prefix_of, blocks::specs::Bytes::block_count))]
 pub extern "C" fn store_prefix(card: &mut [u8], from: u32, to: u32, head: &[u8], k: u32) -> u32
     ensures { record { number = result; card = card.new } ≡ prefix_of card.old from «to» head.now k }
 {
-    if head.len() != BLOCK_SIZE {
-        return 0;
-    }
-    if BLOCK_SIZE < k as usize {
-        return 0;
-    }
+    let k = k as usize;
     let n = card.len() / BLOCK_SIZE;
-    if n <= from as usize {
-        return 0;
-    }
-    if n <= to as usize {
+    if head.len() != BLOCK_SIZE || BLOCK_SIZE < k || n <= from as usize || n <= to as usize {
         return 0;
     }
     let d = descriptor::read_descriptor(head, Physical(0));
-    copy::store_descriptor_upto(card, Physical(from), Physical(to), d, k as usize);
+    copy::store_descriptor_upto(card, Physical(from), Physical(to), d, k);
     1
 }

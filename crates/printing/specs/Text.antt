@@ -53,6 +53,10 @@ decimal n = digits most_digits n
 unfoldable pub name_text : List ℕ → List ℕ
 name_text name = take (name_length name) name
 
+-- bytes that are enough for what a line prints
+abbrev pub line_room : ℕ
+line_room = 8192
+
 -- bytes that are enough for an answer, for the byte of a read and for a record
 abbrev pub answer_room : ℕ
 answer_room = 40

@@ -1,69 +1,109 @@
-// Text put into a lent area: each function writes from index `at` and returns the index after what it wrote.
-ghost use Rattle.std.specs.Prelude.{◌≡◌, ◌∷◌, [], ◌++◌, ◌+◌, ◌≤◌, ◌<◌, length};
-ghost use Rattle.blocks.specs.Bytes.{splice};
-ghost use Rattle.blocks.specs.Name.{name_size};
-ghost use Rattle.printing.specs.Text.{most_digits, decimal, name_text};
-
-use blocks::bytes;
+// What a line prints, as text in fixed memory.
 use blocks::sizes::NAME_SIZE;
 use names::name;
+use std::marker::Model;
 
-// The text as it is.
-pub fn put_text(out: &mut [u8], at: usize, text: &[u8]) -> usize
-    requires { at + length text.now ≤ length out.old }
-    ensures { (result ≡ at + length text.now) × (out.new ≡ splice out.old at text.now) }
-{
-    bytes::put_bytes(out, at, text);
-    at + text.len()
+// Bytes that are enough for what a line prints.
+pub const LINE_ROOM: usize = 8192;
+
+// A text of at most `N` bytes: the first `length` of its bytes. Its methods put the parts, and no `Display`: `fmt::Write` promises the text where it gives `Ok`, and what a
+// line prints is stated of every line.
+#[derive(Drop)]
+pub struct FixedText<const N: usize> {
+    bytes: [u8; N],
+    length: usize,
 }
 
-// One decimal digit.
-fn put_digit(out: &mut [u8], at: usize, d: u32) -> usize
-    requires { (d < 10) × (at + 1 ≤ length out.old) }
-    ensures { (result ≡ at + length ((48 + d) ∷ [])) × (out.new ≡ splice out.old at ((48 + d) ∷ [])) }
-{
-    let digit = [(48 + d) as u8];
-    put_text(out, at, &digit)
+// A text with room for what a line prints.
+pub type Text = FixedText<LINE_ROOM>;
+
+// A contract sees a text as the list of its bytes.
+impl<const N: usize> Model for FixedText<N> {
+    ghost use Rattle.std.specs.Prelude.{List, ℕ, ◌≤◌, take};
+
+    ghost Value = { List ℕ };
+
+    ghost view = { λ t. take t.length t.bytes };
+
+    ghost invariant = { λ t. t.length ≤ N };
 }
 
-// A number in decimal: the digits of a tenth of it, then its last digit.
-fn put_decimal(out: &mut [u8], at: usize, v: u32) -> usize
-    requires { at + most_digits ≤ length out.old }
-    ensures value { (result ≡ at + length (decimal v)) × (out.new ≡ splice out.old at (decimal v)) }
-    ensures upper_bound { result ≤ at + most_digits }
-{
-    if v < 10 {
-        return put_digit(out, at, v);
+impl<const N: usize> FixedText<N> {
+    ghost use Rattle.std.specs.Prelude.{◌≡◌, ◌∷◌, [], ◌++◌, ◌+◌, ◌≤◌, ◌<◌, length};
+    ghost use Rattle.blocks.specs.Name.{name_size};
+    ghost use Rattle.printing.specs.Text.{most_digits, decimal, name_text};
+
+    // The empty text.
+    pub fn new() -> Self
+        ensures { result ≡ [] }
+    {
+        FixedText {
+            bytes: [0; N],
+            length: 0,
+        }
     }
-    let next = put_decimal(out, at, v / 10);
-    put_digit(out, next, v % 10)
-}
 
-// A key and a number in decimal.
-pub fn put_field(out: &mut [u8], at: usize, key: &[u8], v: u32) -> usize
-    requires { at + length key.now + most_digits ≤ length out.old }
-    ensures value { (result ≡ at + length (key.now ++ decimal v)) × (out.new ≡ splice out.old at (key.now ++ decimal v)) }
-    ensures upper_bound { result ≤ at + length key.now + most_digits }
-{
-    let next = put_text(out, at, key);
-    put_decimal(out, next, v)
-}
+    // The bytes of the text.
+    pub fn as_bytes(&self) -> &[u8]
+        ensures { result.now ≡ self.now }
+    {
+        &self.bytes[..self.length]
+    }
 
-// The bytes that a list starts with and that a name may have.
-fn put_unpadded(out: &mut [u8], at: usize, name: &[u8]) -> usize
-    requires { at + length name.now ≤ length out.old }
-    ensures value { (result ≡ at + length (name_text name.now)) × (out.new ≡ splice out.old at (name_text name.now)) }
-    ensures upper_bound { result ≤ at + length name.now }
-{
-    let n = name::name_length(name);
-    put_text(out, at, &name[..n])
-}
+    // Takes all bytes off.
+    pub fn clear(&mut self)
+        ensures { self.new ≡ [] }
+    {
+        self.length = 0;
+    }
 
-// A name without the zero bytes that pad it.
-pub fn put_name_text(out: &mut [u8], at: usize, name: [u8; NAME_SIZE]) -> usize
-    requires { at + name_size ≤ length out.old }
-    ensures value { (result ≡ at + length (name_text name)) × (out.new ≡ splice out.old at (name_text name)) }
-    ensures upper_bound { result ≤ at + name_size }
-{
-    put_unpadded(out, at, &name)
+    // Puts bytes at the end as they are.
+    pub fn put(&mut self, text: &[u8])
+        requires { length self.old + length text.now ≤ N }
+        ensures { self.new ≡ self.old ++ text.now }
+    {
+        let end = self.length + text.len();
+        let bytes = &mut self.bytes[..];
+        bytes[self.length..end].copy_from_slice(text);
+        self.length = end;
+    }
+
+    // Puts one decimal digit at the end.
+    fn put_digit(&mut self, d: u32)
+        requires { (d < 10) × (length self.old + 1 ≤ N) }
+        ensures { self.new ≡ self.old ++ ((48 + d) ∷ []) }
+    {
+        self.put(&[b'0' + d as u8]);
+    }
+
+    // Puts a number in decimal at the end: the digits of a tenth of it, then its last digit.
+    fn put_decimal(&mut self, v: u32)
+        requires { length self.old + most_digits ≤ N }
+        ensures value { self.new ≡ self.old ++ decimal v }
+        ensures upper_bound { length self.new ≤ length self.old + most_digits }
+    {
+        if 10 <= v {
+            self.put_decimal(v / 10);
+        }
+        self.put_digit(v % 10);
+    }
+
+    // Puts a key and a number in decimal at the end.
+    pub fn put_field(&mut self, key: &[u8], v: u32)
+        requires { length self.old + length key.now + most_digits ≤ N }
+        ensures value { self.new ≡ self.old ++ key.now ++ decimal v }
+        ensures upper_bound { length self.new ≤ length self.old + length key.now + most_digits }
+    {
+        self.put(key);
+        self.put_decimal(v);
+    }
+
+    // Puts a name at the end, without the zero bytes that pad it.
+    pub fn put_name(&mut self, name: [u8; NAME_SIZE])
+        requires { length self.old + name_size ≤ N }
+        ensures value { self.new ≡ self.old ++ name_text name }
+        ensures upper_bound { length self.new ≤ length self.old + name_size }
+    {
+        self.put(&name[..name::name_length(&name)]);
+    }
 }

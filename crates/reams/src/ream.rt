@@ -2,7 +2,7 @@
 ghost use Rattle.std.specs.Prelude.{◌≡◌, ◌+◌, ◌*◌, ◌≤◌, ◌<◌, length};
 ghost use Rattle.blocks.specs.Bytes.{store_all, block_size};
 ghost use Rattle.blocks.specs.Descriptor.{cost_in, clearing, opening};
-ghost use Rattle.calls.specs.Call.{Ream, None};
+ghost use Rattle.calls.specs.Call.{Ream, None, answered};
 ghost use Rattle.calls.specs.Step.{step, done};
 
 use admitting::area;
@@ -10,8 +10,7 @@ use blocks::descriptor::{Descriptor, Format};
 use blocks::numbers::Physical;
 use blocks::sizes::{BLOCK_SIZE, MOST_VOLUME, REVISION_START};
 use blocks::{bytes, descriptor};
-use calls::answer;
-use calls::answer::Answer;
+use calls::answer::Refusal;
 use names::name;
 
 // The `n` blocks from block `first` are zeros.
@@ -19,49 +18,34 @@ fn clear_blocks(card: &mut [u8], first: Physical, n: u32)
     requires { (block_size * (first.0 + n) ≤ length card.old) × (first.0 + n < 4294967296) }
     ensures { card.new ≡ store_all card.old (clearing first.0 n) }
 {
-    let mut i: u32 = 0;
-    while i < n {
-        let p = Physical(first.0 + i);
-        bytes::clear_block(card, p);
-        i += 1;
+    for i in 0..n {
+        bytes::clear_block(card, Physical(first.0 + i));
     }
 }
 
 // Formats the card.
-pub fn ream(card: &mut [u8], format: Format) -> Answer
-    ensures { done result None card.new ≡ step (Ream format) card.old }
+pub fn ream(card: &mut [u8], format: Format) -> Result<(), Refusal>
+    ensures { done (answered result) None card.new ≡ step (Ream format) card.old }
 {
-    let admitted = area::admit(card);
-    if admitted.number != 0 {
-        return admitted;
+    area::admit(card)?;
+    if format.layout == 0 || 2 < format.layout {
+        return Err(Refusal::BadLayout);
     }
-    let layout = format.layout;
-    let volume = format.volume;
-    if layout == 0 {
-        return answer::BAD_LAYOUT;
-    }
-    if 2 < layout {
-        return answer::BAD_LAYOUT;
-    }
-    if volume == 0 {
-        return answer::BAD_VOLUME;
-    }
-    if MOST_VOLUME < volume {
-        return answer::BAD_VOLUME;
+    if format.volume == 0 || MOST_VOLUME < format.volume {
+        return Err(Refusal::BadVolume);
     }
     if 1 < format.revision {
-        return answer::BAD_REVISION;
+        return Err(Refusal::BadRevision);
     }
-    let name = format.name;
-    if !name::is_name(name) {
-        return answer::BAD_NAME;
+    if !name::is_name(format.name) {
+        return Err(Refusal::BadName);
     }
-    let cost = descriptor::opening_cost(layout, volume);
+    let cost = descriptor::opening_cost(format.layout, format.volume);
     if card.len() / BLOCK_SIZE < cost as usize {
-        return answer::CARD_TOO_SMALL;
+        return Err(Refusal::CardTooSmall);
     }
     open_card(card, format, cost);
-    answer::ACCEPTED
+    Ok(())
 }
 
 // Clears the blocks of the opening in one run, then stores the first descriptor and the revision after it.

@@ -35,8 +35,3 @@ module _ (c c₁ : List ℕ) (d : Descriptor) (k : ℕ) (some : 1 ≤ k) (below 
       ∙ upto_whole c₁ d.beta.0 (descriptor_block o (tail_at c₁ a)) long (omega (arith, length_is))
       ∙ rw (tail_found, o_is, done, k_is)
       (sym (stored_append c (copying c (a + 1) (d.beta.0 + 1) (cost_of d - 1)) (store d.beta.0 (descriptor_block (reopened_of d) (tail_at c a)) ∷ []) ∙ stored_one (store_all c (copying c (a + 1) (d.beta.0 + 1) (cost_of d - 1))) d.beta.0 (descriptor_block (reopened_of d) (tail_at c a))))
-
--- a descriptor that opens alone has no tables to copy
-pub none_copied : (c : List ℕ) (from to k : ℕ) → k ≡ 1 → c ≡ store_all c (copying c from to (k - 1))
-unfolding copying store_all
-none_copied c from to k e = rw e

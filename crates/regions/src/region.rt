@@ -13,16 +13,8 @@ pub fn open_region(card: &mut [u8], d: Descriptor, cost: u32)
     requires { (cost ≡ cost_of d) × (d.alpha.0 + cost ≤ d.beta.0) × (block_size * (d.beta.0 + cost) ≤ length card.old) × (d.beta.0 + cost < 4294967296) × (1 ≤ cost) }
     ensures { card.new ≡ store_all card.old (reopening card.old d []) }
 {
-    let alpha = d.alpha;
-    let beta = d.beta;
-    let opened = d.reopened();
-    // A descriptor alone. The pass is called in two places, so the compiler keeps it a function of its own, and puts `open_region` where that is called.
-    if cost == 1 {
-        copy::store_descriptor_upto(card, alpha, beta, opened, BLOCK_SIZE);
-        return;
-    }
-    let from = Physical(alpha.0 + 1);
-    let to = Physical(beta.0 + 1);
+    let from = Physical(d.alpha.0 + 1);
+    let to = Physical(d.beta.0 + 1);
     copy::copy_blocks(card, from, to, cost - 1);
-    copy::store_descriptor_upto(card, alpha, beta, opened, BLOCK_SIZE);
+    copy::store_descriptor_upto(card, d.alpha, d.beta, d.reopened(), BLOCK_SIZE);
 }

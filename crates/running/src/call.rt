@@ -1,164 +1,71 @@
 // A line of a work sheet that asks for a call on the card.
-ghost use Rattle.std.specs.Prelude.{◌≡◌, ◌*◌, ◌≤◌, length};
-ghost use Rattle.blocks.specs.Bytes.{block_size};
-ghost use Rattle.blocks.specs.Name.{no_name};
-ghost use Rattle.cutter.specs.Grammar.{sheet_blocks};
-ghost use Rattle.sheet.specs.Sheet.{after_call};
+ghost use Rattle.std.specs.Prelude.{◌≡◌, ◌≤◌, false};
+ghost use Rattle.calls.specs.Listing.{sheet_records};
+ghost use Rattle.cutter.specs.declared.line.SheetCall.{SheetCall};
+ghost use Rattle.sheet.specs.Sheet.{added, count_of, after_call, left_by};
 
 use blocks::numbers::Logical;
 use blocks::sizes::{BLOCK_SIZE, NAME_SIZE};
-use calls::answer::{Record, Target};
-use calls::list::SHEET_RECORDS;
+use calls::answer::{Refusal, Target};
 use checking::check;
-use cutter::line::SheetCall;
 use listing::list;
 use reading::read;
 use reverts::revert;
-use sheet::run::{Addition, Ran};
+use sheet::run::Addition;
+use sheet::state::Sheet;
 use snaps::snap;
 use writes::write;
 
 // A write of a block full of one byte.
-pub fn run_write(
-    area: &mut [u8],
-    blocks: u32,
-    records: [Record; SHEET_RECORDS],
-    l: Logical,
-    fill: u8,
-) -> Ran
-    requires { (length area.old ≡ block_size * sheet_blocks) × (blocks ≤ sheet_blocks) }
-    ensures { record { ran = result; area = area.new } ≡ after_call (record { area = area.old; blocks = blocks; records = records }) (SheetCall.Write l fill) no_name }
+pub fn run_write(sheet: &mut Sheet, l: Logical, fill: u8) -> Result<Addition, Refusal>
+    ensures { left_by result false sheet.new ≡ after_call sheet.old (SheetCall.Write l fill) }
 {
-    let end = BLOCK_SIZE * (blocks as usize);
-    let block = [fill; BLOCK_SIZE];
-    let answer = write::write(&mut area[..end], l, &block);
-    Ran {
-        answer,
-        blocks,
-        addition: Addition::Nothing,
-        records,
-        ended: false,
-    }
+    let end = sheet.card_size();
+    write::write(&mut sheet.area[..end], l, &[fill; BLOCK_SIZE])?;
+    Ok(Addition::Nothing)
 }
 
 // A read, which adds the first byte.
-pub fn run_read(
-    area: &[u8],
-    blocks: u32,
-    records: [Record; SHEET_RECORDS],
-    target: Target,
-    l: Logical,
-    name: [u8; NAME_SIZE],
-) -> Ran
-    requires { (length area.now ≡ block_size * sheet_blocks) × (blocks ≤ sheet_blocks) }
-    ensures { record { ran = result; area = area.now } ≡ after_call (record { area = area.now; blocks = blocks; records = records }) (SheetCall.Read target l) name }
+pub fn run_read(sheet: &Sheet, target: Target, l: Logical) -> Result<Addition, Refusal>
+    ensures { left_by result false sheet.now ≡ after_call sheet.now (SheetCall.Read target l) }
 {
-    let end = BLOCK_SIZE * (blocks as usize);
-    let mut block = [0u8; BLOCK_SIZE];
-    let answer = read::read(&area[..end], target, name, l, &mut block);
-    let number = answer.number;
-    let first = block[0];
-    if number != 0 {
-        return Ran {
-            answer,
-            blocks,
-            addition: Addition::Nothing,
-            records,
-            ended: false,
-        };
-    }
-    Ran {
-        answer,
-        blocks,
-        addition: Addition::Byte(first),
-        records,
-        ended: false,
-    }
+    let mut block = [0; BLOCK_SIZE];
+    read::read(sheet.card(), target, l, &mut block)?;
+    Ok(Addition::Byte(block[0]))
 }
 
 // A snapshot under the name.
-pub fn run_snap(
-    area: &mut [u8],
-    blocks: u32,
-    records: [Record; SHEET_RECORDS],
-    name: [u8; NAME_SIZE],
-) -> Ran
-    requires { (length area.old ≡ block_size * sheet_blocks) × (blocks ≤ sheet_blocks) }
-    ensures { record { ran = result; area = area.new } ≡ after_call (record { area = area.old; blocks = blocks; records = records }) (SheetCall.Snap) name }
+pub fn run_snap(sheet: &mut Sheet, name: [u8; NAME_SIZE]) -> Result<Addition, Refusal>
+    ensures { left_by result false sheet.new ≡ after_call sheet.old (SheetCall.Snap name) }
 {
-    let end = BLOCK_SIZE * (blocks as usize);
-    let answer = snap::snap(&mut area[..end], name);
-    Ran {
-        answer,
-        blocks,
-        addition: Addition::Nothing,
-        records,
-        ended: false,
-    }
+    let end = sheet.card_size();
+    snap::snap(&mut sheet.area[..end], name)?;
+    Ok(Addition::Nothing)
 }
 
 // A rollback to the snapshot of the name.
-pub fn run_revert(
-    area: &mut [u8],
-    blocks: u32,
-    records: [Record; SHEET_RECORDS],
-    name: [u8; NAME_SIZE],
-) -> Ran
-    requires { (length area.old ≡ block_size * sheet_blocks) × (blocks ≤ sheet_blocks) }
-    ensures { record { ran = result; area = area.new } ≡ after_call (record { area = area.old; blocks = blocks; records = records }) (SheetCall.Revert) name }
+pub fn run_revert(sheet: &mut Sheet, name: [u8; NAME_SIZE]) -> Result<Addition, Refusal>
+    ensures { left_by result false sheet.new ≡ after_call sheet.old (SheetCall.Revert name) }
 {
-    let end = BLOCK_SIZE * (blocks as usize);
-    let answer = revert::revert(&mut area[..end], name);
-    Ran {
-        answer,
-        blocks,
-        addition: Addition::Nothing,
-        records,
-        ended: false,
-    }
+    let end = sheet.card_size();
+    revert::revert(&mut sheet.area[..end], name)?;
+    Ok(Addition::Nothing)
 }
 
 // A listing, which adds a record for each descriptor.
-pub fn run_list(area: &[u8], blocks: u32, records: [Record; SHEET_RECORDS]) -> Ran
-    requires { (length area.now ≡ block_size * sheet_blocks) × (blocks ≤ sheet_blocks) }
-    ensures { record { ran = result; area = area.now } ≡ after_call (record { area = area.now; blocks = blocks; records = records }) (SheetCall.List) no_name }
+pub fn run_list(sheet: &mut Sheet) -> Result<Addition, Refusal>
+    ensures value { left_by result false sheet.new ≡ after_call sheet.old (SheetCall.List) }
+    ensures upper_bound { count_of (added result) ≤ sheet_records }
 {
-    let end = BLOCK_SIZE * (blocks as usize);
-    let found = list::list_64(&area[..end], records);
-    let answer = found.answer;
-    let filled = found.records;
-    let number = answer.number;
-    if number != 0 {
-        return Ran {
-            answer,
-            blocks,
-            addition: Addition::Nothing,
-            records: filled,
-            ended: false,
-        };
-    }
-    let count = list::count_records(filled);
-    Ran {
-        answer,
-        blocks,
-        addition: Addition::FirstRecords(count),
-        records: filled,
-        ended: false,
-    }
+    let end = sheet.card_size();
+    list::list(&sheet.area[..end], &mut sheet.records)?;
+    Ok(Addition::FirstRecords(list::count_records(&sheet.records)))
 }
 
 // A check.
-pub fn run_check(area: &[u8], blocks: u32, records: [Record; SHEET_RECORDS]) -> Ran
-    requires { (length area.now ≡ block_size * sheet_blocks) × (blocks ≤ sheet_blocks) }
-    ensures { record { ran = result; area = area.now } ≡ after_call (record { area = area.now; blocks = blocks; records = records }) (SheetCall.Check) no_name }
+pub fn run_check(sheet: &Sheet) -> Result<Addition, Refusal>
+    ensures { left_by result false sheet.now ≡ after_call sheet.now (SheetCall.Check) }
 {
-    let end = BLOCK_SIZE * (blocks as usize);
-    let answer = check::check(&area[..end]);
-    Ran {
-        answer,
-        blocks,
-        addition: Addition::Nothing,
-        records,
-        ended: false,
-    }
+    check::check(sheet.card())?;
+    Ok(Addition::Nothing)
 }

@@ -14,8 +14,7 @@ use Rattle.blocks.specs.Descriptor.{table_size, phi_size, table_count}
 use Rattle.blocks.specs.declared.descriptor.Descriptor.{Descriptor}
 use Rattle.entries.specs.Entry.{entry_at, phi_at, table_of}
 use Rattle.entries.specs.Naming.{Naming, table_namings, tables_namings, phi_namings, namings, first_fault, check_one}
-use Rattle.entries.specs.declared.check.Verdict.{Verdict}
-use Rattle.entries.specs.declared.check.Verdict.TheVariants.{Passed}
+use Rattle.entries.specs.Found.{Verdict, Passed}
 use Rattle.calls.specs.declared.answer.Answer.{Answer}
 use Rattle.calls.specs.Call.{Call, Ream, Read, Write, Snap, Revert, Listing, Check, Visit, SpanRead, SpanWrite}
 use Rattle.calls.specs.Parts.{descriptors_of}

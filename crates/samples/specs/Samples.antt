@@ -4,8 +4,7 @@ use Rattle.blocks.specs.Bytes.{le32, zero_block}
 use Rattle.blocks.specs.Name.{padded, no_name}
 use Rattle.blocks.specs.Descriptor.{physical, tail_size, descriptor_block}
 use Rattle.blocks.specs.declared.descriptor.Descriptor.{Descriptor}
-use Rattle.calls.specs.declared.answer.Target.TheVariants.{Active, Snapshot}
-use Rattle.calls.specs.Call.{Call, Read, Visit, answer}
+use Rattle.calls.specs.Call.{Active, Snapshot, Call, Read, Visit, answer}
 use Rattle.claims.specs.Bench.{Only, Beta, Bytes, Named, Value, ones, fs, mon, tue, lent}
 
 -- a descriptor by its numbers

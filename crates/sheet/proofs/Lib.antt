@@ -3,5 +3,4 @@ pub mod RunningSheet
 pub mod ExampleSheet
 pub mod ShortSheets
 pub mod SheetLaws
-pub mod PrintLaws
 pub mod TurnLaws

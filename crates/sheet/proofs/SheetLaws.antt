@@ -4,195 +4,124 @@ use mathlib.Core.Bool.{Bool, true, false}
 use mathlib.Core.List.{List, ◌++◌}
 use Prim.Native.Nat.{ℕ, ◌*◌, ◌≤◌}
 use native.Mathlib.Omega.{arith}
-use lib.ListN.{length, take, drop, get_or, replicate, take-append-drop}
-use borrow.Author.Tests.{eq-eqb, ne_eqb}
+use lib.ListN.{length, take, drop, take-append-drop}
+use Rattle.std.proofs.Common.{Option, None as none, Some as some, Result, Ok, Err, is_none}
+use Rattle.std.proofs.lemmas.Result.{err_from_is_err_and}
+use Rattle.std.specs.Option.{ok_or}
+use Rattle.std.specs.Result.{IsErrAnd, result_ok}
 use Rattle.blocks.specs.Pick.{pick}
-use Rattle.blocks.specs.Bytes.{zero_block}
-use Rattle.blocks.specs.Name.{no_name}
-use Rattle.blocks.specs.declared.numbers.Logical.{Logical}
 use Rattle.calls.specs.declared.answer.Answer.{Answer}
-use Rattle.calls.specs.declared.answer.Target.{Target}
 use Rattle.calls.specs.declared.answer.Record.{Record}
-use Rattle.calls.specs.Call.{Ream, Read, Write, Snap, Revert, Listing, Check, Lent, None, Block, Records, answer}
+use Rattle.calls.specs.declared.answer.Refusal.{Refusal}
+use Rattle.calls.specs.declared.answer.Refusal.TheVariants.{BadLine}
+use Rattle.calls.specs.Call.{Listing, Lent, Records, accepted, refused}
 use Rattle.calls.specs.Step.{Done, step, is_accepted, done}
 use Rattle.calls.specs.Listing.{record_count}
 use Rattle.calls.proofs.StepLaws.{step_answer}
 use Rattle.calls.proofs.ListingLaws.{list_room, list_count}
+use Rattle.calls.proofs.ResultLaws.{refused_test}
 use Rattle.cutter.specs.declared.line.SheetCall.{SheetCall}
-use Rattle.cutter.specs.declared.line.SheetCall.TheVariants as line
-use Rattle.cutter.specs.declared.line.Line.{Line}
 use Rattle.sheet.specs.declared.run.Addition.{Addition}
-use Rattle.sheet.specs.declared.run.Addition.TheVariants.{Nothing, Byte, FirstRecords}
-use Rattle.sheet.specs.declared.run.Ran.{Ran}
-use Rattle.sheet.specs.Sheet.{State, LineResult, card_of, with_card, is_malformed, call_of, blocks_of, size_of, addition_of, count_of, records_after, first_byte_of, after_call, after_line}
-use Rattle.blocks.specs.Descriptor.{as_format}
+use Rattle.sheet.specs.declared.run.Addition.TheVariants.{Nothing}
+use Rattle.sheet.specs.State.{State}
+use Rattle.sheet.specs.Sheet.{LineResult, left_by, added, card_of, with_card, call_of, blocks_of, addition_of, count_of, records_after, after_call, after_line}
 
-abbrev pub state : List ℕ → ℕ → List Record → State
-state area blocks records = record { area = area; blocks = blocks; records = records }
-
-abbrev pub line_result : Answer → ℕ → Addition → List Record → List ℕ → LineResult
+abbrev line_result : Answer → ℕ → Addition → List Record → List ℕ → LineResult
 line_result a blocks addition records area = record { ran = record { answer = a; blocks = blocks; addition = addition; records = records; ended = false }; area = area }
 
--- a call that was made on the first n blocks of the area
-module _ (area : List ℕ) (blocks : ℕ) (records : List Record) (call : SheetCall) (name : List ℕ) (a : Answer) (lent : Lent) (card : List ℕ)
-    (made : done a lent card ≡ step (call_of call name records) (card_of area (blocks_of call blocks))) where
+-- a call that was made on the first n blocks of the area: s is the sheet as the code sees its parts, and w as it was given
+module _ (s w : State) (view : s ≡ w) (call : SheetCall) (lent : Lent) (card : List ℕ) where
   abbrev n : ℕ
-  n = blocks_of call blocks
+  n = blocks_of call s.blocks
 
-  abbrev by_test : Bool → LineResult
-  by_test b = line_result a (pick b n blocks) (pick b (addition_of call lent (card_of area n)) Nothing) (records_after lent records) (with_card area n card)
+  abbrev Made : Answer → Type 0
+  Made a = done a lent card ≡ step (call_of call s.records) (card_of s.area n)
 
-  made_after : by_test (is_accepted a) ≡ after_call (state area blocks records) call name
+  made_after : (a : Answer) → Made a
+      → line_result a (pick (is_accepted a) n s.blocks) (pick (is_accepted a) (addition_of call lent (card_of s.area n)) Nothing) (records_after lent s.records) (with_card s.area n card) ≡ after_call s call
   unfolding after_call
-  made_after =
-      ap (λ (d : Done). line_result d.outcome.answer (pick (is_accepted d.outcome.answer) n blocks) (pick (is_accepted d.outcome.answer) (addition_of call d.outcome.lent (card_of area n)) Nothing)
-      (records_after d.outcome.lent records) (with_card area n d.card)) made
+  made_after a made =
+      ap (λ (d : Done). line_result d.outcome.answer (pick (is_accepted d.outcome.answer) n s.blocks) (pick (is_accepted d.outcome.answer) (addition_of call d.outcome.lent (card_of s.area n)) Nothing)
+      (records_after d.outcome.lent s.records) (with_card s.area n d.card)) made
 
-  pub accepted_after : a.number ≡ 0 → line_result a n (addition_of call lent (card_of area n)) (records_after lent records) (with_card area n card) ≡ after_call (state area blocks records) call name
-  accepted_after e = sym (ap by_test (eq-eqb a.number 0 e)) ∙ made_after
+  pub call_accepted : Made accepted → (addition : Addition) → addition ≡ addition_of call lent (card_of s.area n)
+      → left_by (Ok addition) false (record { area = with_card s.area n card; blocks = n; records = records_after lent s.records }) ≡ after_call w call
+  call_accepted made addition e = rw (e, ← view) (made_after accepted made)
 
-  pub refused_after : (a.number ≡ 0 → ⊥) → line_result a blocks Nothing (records_after lent records) (with_card area n card) ≡ after_call (state area blocks records) call name
-  refused_after e = sym (ap by_test (ne_eqb a.number 0 e)) ∙ made_after
+  pub call_refused : (e : Refusal) → Made (refused e) → (q : Result Addition Refusal) → IsErrAnd q (λ (f : Refusal). f ≡ e)
+      → left_by q false (record { area = with_card s.area n card; blocks = s.blocks; records = records_after lent s.records }) ≡ after_call w call
+  call_refused e made q h =
+      let f = err_from_is_err_and q h in
+      rw (f.1, f.2, ← view)
+      (ap (λ (b : Bool). line_result (refused e) (pick b n s.blocks) (pick b (addition_of call lent (card_of s.area n)) Nothing) (records_after lent s.records) (with_card s.area n card)) (sym (refused_test e))
+      ∙ made_after (refused e) made)
 
-  -- one that shows nothing and leaves the card where it is
-  plain_by : (b : Bool) (k : ℕ) (s : Addition) (rs : List Record) → k ≡ blocks → s ≡ Nothing → rs ≡ records
-      → line_result a blocks Nothing records (with_card area k card) ≡ line_result a (pick b k blocks) (pick b s Nothing) rs (with_card area k card)
-  plain_by true k s rs e f g = rw (f, g, e)
-  plain_by false k s rs e f g = rw g
+-- a call on the card, which ends at byte `end`, and which stays as large as it is
+module _ (s w : State) (view : s ≡ w) (end : ℕ) (size : end ≡ 512 * w.blocks) (call : SheetCall) (own : blocks_of call s.blocks ≡ s.blocks) (lent : Lent) (card : List ℕ) where
+  ends : end ≡ 512 * blocks_of call s.blocks
+  ends = size ∙ sym (ap (λ (t : State). 512 * t.blocks) view) ∙ ap (λ (b : ℕ). 512 * b) (sym own)
 
-  pub plain_after : n ≡ blocks → addition_of call lent (card_of area n) ≡ Nothing → records_after lent records ≡ records → line_result a blocks Nothing records (with_card area n card) ≡ after_call (state area blocks records) call name
-  plain_after e f g = plain_by (is_accepted a) n (addition_of call lent (card_of area n)) (records_after lent records) e f g ∙ made_after
+  pub card_accepted : done accepted lent card ≡ step (call_of call s.records) (take end s.area) → (addition : Addition) → addition ≡ addition_of call lent (take end s.area)
+      → left_by (Ok addition) false (record { area = card ++ drop end s.area; blocks = s.blocks; records = records_after lent s.records }) ≡ after_call w call
+  card_accepted made addition e = rw (← own, ends) (call_accepted s w view call lent card (rw ends at made) addition (rw ends at e))
 
--- the calls of a sheet
-module _ (area : List ℕ) (blocks : ℕ) (records : List Record) (a : Answer) (card : List ℕ) where
-  module _ (layout size volume : ℕ) (name : List ℕ) (made : done a None card ≡ step (Ream (as_format layout volume name)) (take (512 * size) area)) where
-    pub ream_refused : (a.number ≡ 0 → ⊥) → line_result a blocks Nothing records (card ++ drop (512 * size) area) ≡ after_call (state area blocks records) (line.Ream layout size volume) name
-    unfolding call_of blocks_of records_after
-    ream_refused e = refused_after area blocks records (line.Ream layout size volume) name a None card made e
+  pub card_refused : (e : Refusal) → done (refused e) lent card ≡ step (call_of call s.records) (take end s.area) → (q : Result Addition Refusal) → IsErrAnd q (λ (f : Refusal). f ≡ e)
+      → left_by q false (record { area = card ++ drop end s.area; blocks = s.blocks; records = records_after lent s.records }) ≡ after_call w call
+  card_refused e made q h = rw ends (call_refused s w view call lent card e (rw ends at made) q h)
 
-    pub ream_accepted : a.number ≡ 0 → line_result a size Nothing records (card ++ drop (512 * size) area) ≡ after_call (state area blocks records) (line.Ream layout size volume) name
-    unfolding call_of blocks_of records_after addition_of
-    ream_accepted e = accepted_after area blocks records (line.Ream layout size volume) name a None card made e
+-- the same of a call that leaves the card as it is
+module _ (s w : State) (view : s ≡ w) (call : SheetCall) (own : blocks_of call s.blocks ≡ s.blocks) (lent : Lent) (card : List ℕ) (is : card ≡ card_of s.area w.blocks) where
+  whole : card ++ drop (512 * w.blocks) s.area ≡ s.area
+  whole = ap (λ (c : List ℕ). c ++ drop (512 * w.blocks) s.area) is ∙ take-append-drop (512 * w.blocks) s.area
 
-  pub write_done : (l : Logical) (fill : ℕ) (block : List ℕ) → block ≡ replicate 512 fill → done a (Block block) card ≡ step (Write l.0 block) (take (512 * blocks) area)
-      → line_result a blocks Nothing records (card ++ drop (512 * blocks) area) ≡ after_call (state area blocks records) (line.Write l fill) no_name
-  unfolding call_of blocks_of records_after addition_of
-  write_done l fill block e made =
-      plain_after area blocks records (line.Write l fill) no_name a (Block block) card (rw (← e) made) refl refl refl
+  pub kept_accepted : done accepted lent card ≡ step (call_of call s.records) card → (addition : Addition) → addition ≡ addition_of call lent card
+      → left_by (Ok addition) false (record { area = s.area; blocks = s.blocks; records = records_after lent s.records }) ≡ after_call w call
+  kept_accepted made addition e =
+      ap (λ (a : List ℕ). left_by (Ok addition) false (record { area = a; blocks = s.blocks; records = records_after lent s.records })) (sym whole)
+      ∙ card_accepted s w view (512 * w.blocks) refl call own lent card (made ∙ ap (step (call_of call s.records)) is) addition (e ∙ ap (addition_of call lent) is)
 
-  pub snap_done : (name : List ℕ) → done a None card ≡ step (Snap name) (take (512 * blocks) area)
-      → line_result a blocks Nothing records (card ++ drop (512 * blocks) area) ≡ after_call (state area blocks records) line.Snap name
-  unfolding call_of blocks_of records_after addition_of
-  snap_done name made = plain_after area blocks records line.Snap name a None card made refl refl refl
+  pub kept_refused : (e : Refusal) → done (refused e) lent card ≡ step (call_of call s.records) card → (q : Result Addition Refusal) → IsErrAnd q (λ (f : Refusal). f ≡ e)
+      → left_by q false (record { area = s.area; blocks = s.blocks; records = records_after lent s.records }) ≡ after_call w call
+  kept_refused e made q h =
+      ap (λ (a : List ℕ). left_by q false (record { area = a; blocks = s.blocks; records = records_after lent s.records })) (sym whole)
+      ∙ card_refused s w view (512 * w.blocks) refl call own lent card e (made ∙ ap (step (call_of call s.records)) is) q h
 
-  pub revert_done : (name : List ℕ) → done a None card ≡ step (Revert name) (take (512 * blocks) area)
-      → line_result a blocks Nothing records (card ++ drop (512 * blocks) area) ≡ after_call (state area blocks records) line.Revert name
-  unfolding call_of blocks_of records_after addition_of
-  revert_done name made = plain_after area blocks records line.Revert name a None card made refl refl refl
-
--- those that leave the card as it is
-module _ (area : List ℕ) (blocks : ℕ) (records : List Record) (a : Answer) where
-  abbrev card : List ℕ
-  card = take (512 * blocks) area
-
-  whole : card ++ drop (512 * blocks) area ≡ area
-  whole = take-append-drop (512 * blocks) area
-
-  same_area : (r : Ran) (x : LineResult) → record { ran = r; area = card ++ drop (512 * blocks) area } ≡ x → record { ran = r; area = area } ≡ x
-  same_area r x e = sym (ap (λ (l : List ℕ). record { ran = r; area = l }) whole) ∙ e
-
-  pub check_done : done a None card ≡ step Check card → line_result a blocks Nothing records area ≡ after_call (state area blocks records) line.Check no_name
-  unfolding call_of blocks_of records_after addition_of
-  check_done made = same_area _ _ (plain_after area blocks records line.Check no_name a None card made refl refl refl)
-
-  module _ (target : Target) (l : Logical) (name block block' : List ℕ) (zeros : block ≡ zero_block) (made : done a (Block block') card ≡ step (Read target name l.0 block) card) where
-    read_made : done a (Block block') card ≡ step (Read target name l.0 zero_block) card
-    read_made = rw (← zeros) made
-
-    pub read_refused : (a.number ≡ 0 → ⊥) → line_result a blocks Nothing records area ≡ after_call (state area blocks records) (line.Read target l) name
-    unfolding call_of blocks_of records_after
-    read_refused e = same_area _ _ (refused_after area blocks records (line.Read target l) name a (Block block') card read_made e)
-
-    pub read_accepted : a.number ≡ 0 → (first : ℕ) → first ≡ get_or block' 0 0 → line_result a blocks (Byte first) records area ≡ after_call (state area blocks records) (line.Read target l) name
-    unfolding call_of blocks_of records_after addition_of first_byte_of
-    read_accepted e first f = rw f (same_area _ _ (accepted_after area blocks records (line.Read target l) name a (Block block') card read_made e))
-
-  module _ (filled : List Record) (count : ℕ) (made : done a (Records filled) card ≡ step (Listing records) card) where
-    pub list_refused : (a.number ≡ 0 → ⊥) → line_result a blocks Nothing filled area ≡ after_call (state area blocks records) line.List no_name
-    unfolding call_of blocks_of records_after
-    list_refused e = same_area _ _ (refused_after area blocks records line.List no_name a (Records filled) card made e)
-
-    pub list_accepted : a.number ≡ 0 → count ≡ record_count filled → line_result a blocks (FirstRecords count) filled area ≡ after_call (state area blocks records) line.List no_name
-    unfolding call_of blocks_of records_after addition_of
-    list_accepted e f = rw (f, list_count card records filled a made e) (same_area _ _ (accepted_after area blocks records line.List no_name a (Records filled) card made e))
-
--- what bounds a line's outcome
-pick_most : (b : Bool) (x y m : ℕ) → x ≤ m → y ≤ m → pick b x y ≤ m
-pick_most true x y m h k = h
-pick_most false x y m h k = k
-
-blocks_most : (call : SheetCall) (n : ℕ) → n ≤ 64 → size_of call ≤ 64 → blocks_of call n ≤ 64
-unfolding size_of blocks_of
-blocks_most line.Malformed n h k = h
-blocks_most (line.Ream layout size volume) n h k = k
-blocks_most (line.Write l fill) n h k = h
-blocks_most (line.Read target l) n h k = h
-blocks_most line.Snap n h k = h
-blocks_most line.Revert n h k = h
-blocks_most line.List n h k = h
-blocks_most line.Check n h k = h
-
-call_blocks : (s : State) (call : SheetCall) (name : List ℕ) → s.blocks ≤ 64 → size_of call ≤ 64 → (after_call s call name).ran.blocks ≤ 64
-unfolding after_call
-call_blocks s call name h k =
-    let d = step (call_of call name s.records) (card_of s.area (blocks_of call s.blocks)) in
-    pick_most (is_accepted d.outcome.answer) (blocks_of call s.blocks) s.blocks 64 (blocks_most call s.blocks h k) h
-
-count_by : (b : Bool) (s : Addition) (m : ℕ) → (b ≡ true → count_of s ≤ m) → count_of (pick b s Nothing) ≤ m
+-- what bounds the records that a call adds, where it is no listing
+count_by : (b : Bool) (x : Addition) (m : ℕ) → count_of x ≤ m → count_of (pick b x Nothing) ≤ m
 unfolding count_of
-count_by true s m h = h refl
-count_by false s m h = omega arith
+count_by true x m h = h
+count_by false x m h = omega arith
 
-addition_most : (call : SheetCall) (lent : Lent) (name card : List ℕ) (records : List Record) → is_accepted (step (call_of call name records) card).outcome.answer ≡ true → count_of (addition_of call lent card) ≤ length records
-unfolding call_of addition_of count_of
-addition_most line.Malformed lent name card records h = omega arith
-addition_most (line.Ream layout size volume) lent name card records h = omega arith
-addition_most (line.Write l fill) lent name card records h = omega arith
-addition_most (line.Read target l) lent name card records h = omega arith
-addition_most line.Snap lent name card records h = omega arith
-addition_most line.Revert lent name card records h = omega arith
-addition_most line.List lent name card records h = list_room card records (sym (ap is_accepted (step_answer (Listing records) card)) ∙ h)
-addition_most line.Check lent name card records h = omega arith
-
-call_count : (s : State) (call : SheetCall) (name : List ℕ) → count_of (after_call s call name).ran.addition ≤ length s.records
+pub count_plain : (s t : State) (call : SheetCall) → ((lent : Lent) (card : List ℕ) → count_of (addition_of call lent card) ≤ 64) → (q : Result Addition Refusal) → left_by q false t ≡ after_call s call → count_of (added q) ≤ 64
 unfolding after_call
-call_count s call name =
+count_plain s t call h q e =
     let card = card_of s.area (blocks_of call s.blocks) in
-    let d = step (call_of call name s.records) card in
-    count_by (is_accepted d.outcome.answer) (addition_of call d.outcome.lent card) (length s.records) (λ h. addition_most call d.outcome.lent name card s.records h)
+    let d = step (call_of call s.records) card in
+    subst (λ (a : LineResult). count_of a.ran.addition ≤ 64) (sym e) (count_by (is_accepted d.outcome.answer) (addition_of call d.outcome.lent card) 64 (h d.outcome.lent card))
 
-pub bounded_call : (area : List ℕ) (blocks : ℕ) (records : List Record) (call : SheetCall) (name : List ℕ) (r : Ran) (x : List ℕ) → blocks ≤ 64 → size_of call ≤ 64 → length records ≡ 64
-    → record { ran = r; area = x } ≡ after_call (state area blocks records) call name → (r.blocks ≤ 64) × (count_of r.addition ≤ 64)
-bounded_call area blocks records call name r x h k long e = (
-  subst (λ (a : LineResult). a.ran.blocks ≤ 64) (sym e) (call_blocks (state area blocks records) call name h k),
-  subst (λ (a : LineResult). count_of a.ran.addition ≤ 64) (sym e) (omega (arith, call_count (state area blocks records) call name, long)),
-)
+pub count_refused : (q : Result Addition Refusal) (e : Refusal) → IsErrAnd q (λ (f : Refusal). f ≡ e) → count_of (added q) ≤ 64
+unfolding count_of
+count_refused (Ok a) e h = absurd h
+count_refused (Err f) e h = omega arith
 
--- a line's call depends on the name only where it has one
-call_same : (s : State) (call : SheetCall) (name other : List ℕ) → call_of call name s.records ≡ call_of call other s.records → after_call s call name ≡ after_call s call other
-unfolding after_call
-call_same s call name other e = rw e
+-- an accepted listing adds no more records than it was lent
+pub count_listed : (card : List ℕ) (records filled : List Record) → done accepted (Records filled) card ≡ step (Listing records) card → length records ≡ 64 → record_count filled ≤ 64
+count_listed card records filled made long =
+    omega (arith, list_count card records filled accepted made refl, list_room card records (sym (ap is_accepted (step_answer (Listing records) card)) ∙ ap (λ (d : Done). is_accepted d.outcome.answer) (sym made)), long)
 
--- a line that is of the form is its call
-pub line_done : (area : List ℕ) (blocks : ℕ) (records : List Record) (number : ℕ) (l : Line) (call : SheetCall) → l.call ≡ call → blocks ≤ 64 → size_of l.call ≤ 64 → length records ≡ 64
-    → is_malformed call ≡ false → (name : List ℕ) → call_of call name records ≡ call_of call l.name records → (r : Ran) (x : List ℕ) → record { ran = r; area = x } ≡ after_call (state area blocks records) call name
-    → (record { ran = r; area = x } ≡ after_line (state area blocks records) number l) × ((r.blocks ≤ 64) × (count_of r.addition ≤ 64))
+-- a line that is of the form is its call, by what `ok_or` gives
+module _ (line : Option SheetCall) (r : Result SheetCall Refusal) (part : line ≡ result_ok r) where
+  pub line_is : (x call : SheetCall) → r ≡ Ok x → x ≡ call → line ≡ some call
+  line_is x call e f = part ∙ ap result_ok e ∙ ap (λ (c : SheetCall). some c) f
+
+  pub line_malformed : (s : State) (number : ℕ) (e : Refusal) → r ≡ ok_or line (BadLine number) → r ≡ Err e → (q : Result Addition Refusal) → IsErrAnd q (λ (f : Refusal). f ≡ e) → left_by q (is_none line) s ≡ after_line s number line
+  unfolding after_line
+  line_malformed s number e value was q h = by line value
+    where
+      by : (l : Option SheetCall) → r ≡ ok_or l (BadLine number) → left_by q (is_none l) s ≡ after_line s number l
+      by none v = let f = err_from_is_err_and q h in let z : ◌≡◌ {A = Result SheetCall Refusal} (Err (BadLine number)) (Err e) = sym v ∙ was in let y : BadLine number ≡ e = cc in rw (f.1, f.2, ← y)
+      by (some c) v = let z : ◌≡◌ {A = Result SheetCall Refusal} (Ok c) (Err e) = sym v ∙ was in absurd cc
+
+pub line_done : (s t : State) (number : ℕ) (line : Option SheetCall) (call : SheetCall) → line ≡ some call → (q : Result Addition Refusal) → left_by q false t ≡ after_call s call → left_by q (is_none line) t ≡ after_line s number line
 unfolding after_line
-line_done area blocks records number l call is h k long m name same r x e =
-    let f = e ∙ call_same (state area blocks records) call name l.name same in
-    (rw (is, m) f, bounded_call area blocks records call l.name r x h (subst (λ (y : SheetCall). size_of y ≤ 64) is k) long f)
-
-pub line_malformed : (area : List ℕ) (blocks : ℕ) (records : List Record) (number : ℕ) (l : Line) → is_malformed l.call ≡ true
-    → record { ran = record { answer = answer 15 number; blocks = blocks; addition = Nothing; records = records; ended = true }; area = area } ≡ after_line (state area blocks records) number l
-unfolding after_line
-line_malformed area blocks records number l e = rw e
+line_done s t number line call is q e = rw is e

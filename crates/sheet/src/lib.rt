@@ -1,5 +1,6 @@
-// The work sheet: its definitions and laws, and the types that these name. It has no function of its own.
+// The work sheet: its definitions and laws, and the types that these name.
 #![tactic(auto)]
 
-pub mod run; // what a line leaves
-pub mod next; // what a turn leaves
+pub mod state; // a sheet between two lines
+pub mod start; // a sheet at its start, and its card
+pub mod run; // what a line adds to its answer

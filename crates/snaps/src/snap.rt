@@ -1,11 +1,12 @@
 // A snapshot of the active volume.
-ghost use Rattle.std.specs.Prelude.{◌≡◌, false, ◌+◌, ◌*◌, ◌≤◌, ◌<◌, length};
+ghost use Rattle.std.specs.Prelude.{◌≡◌, false, ◌+◌, ◌*◌, ◌≤◌, ◌<◌, length, replicate};
 ghost use Rattle.blocks.specs.Bytes.{store_all, block_size};
 ghost use Rattle.blocks.specs.Descriptor.{cost_of};
-ghost use Rattle.calls.specs.Call.{Snap, None};
-ghost use Rattle.calls.specs.Parts.{area_bad, SoundCard};
+ghost use Rattle.chains.specs.Walk.{Enough};
+ghost use Rattle.calls.specs.Call.{Snap, None, answered};
+ghost use Rattle.calls.specs.Parts.{area_bad};
 ghost use Rattle.calls.specs.Stores.{snapping};
-ghost use Rattle.calls.specs.Effect.{no_site, site_of};
+ghost use Rattle.calls.specs.Effect.{site_of, site_as};
 ghost use Rattle.calls.specs.Step.{step, done};
 
 use admitting::area;
@@ -13,8 +14,8 @@ use blocks::descriptor;
 use blocks::descriptor::Descriptor;
 use blocks::numbers::Physical;
 use blocks::sizes::{BLOCK_SIZE, FEW_STARTS, MOST_SNAPSHOTS, NAME_SIZE, STARTS_SIZE};
-use calls::answer;
-use calls::answer::{Answer, Site};
+use calls::answer::Refusal;
+use calls::chain::Chain;
 use indexing::index;
 use names::name;
 use regions::region;
@@ -25,96 +26,58 @@ fn take_snapshot(card: &mut [u8], d: Descriptor, cost: u32, name: [u8; NAME_SIZE
     requires { (cost ≡ cost_of d) × (d.alpha.0 + cost ≤ d.beta.0) × (block_size * (d.beta.0 + cost) ≤ length card.old) × (d.beta.0 + cost < 4294967296) × (1 ≤ cost) }
     ensures { card.new ≡ store_all card.old (snapping card.old d name) }
 {
-    let alpha = d.alpha;
-    let beta = d.beta;
-    let closed = d.renamed(name).linked(beta);
+    let closed = d.renamed(name).linked(d.beta);
     region::open_region(card, d, cost);
-    descriptor::put_descriptor(card, alpha, closed);
+    descriptor::put_descriptor(card, d.alpha, closed);
 }
 
-// A snapshot that is refused by chain, name or number of snapshots is taken nowhere: its answer, and zero.
-fn no_site(a: Answer) -> Site
-    ensures { result ≡ no_site a }
+// Where a snapshot is taken: at the active descriptor, which the walk finds with so many places.
+fn site_in<const PLACES: usize>(card: &[u8], name: [u8; NAME_SIZE]) -> Result<Physical, Refusal>
+    requires { (area_bad card.now ≡ false) × Enough card.now (replicate PLACES 0) }
+    ensures { site_as result ≡ site_of card.now name }
 {
-    Site {
-        answer: a,
-        alpha: Physical(0),
-    }
-}
-
-// Where a snapshot is taken on a card with a sound chain.
-fn site_through(card: &[u8], starts: &[u32], count: usize, name: [u8; NAME_SIZE]) -> Site
-    requires { SoundCard card.now count starts.now }
-    ensures { result ≡ site_of card.now name }
-{
-    if index::is_named(card, starts, count, name) {
-        return no_site(answer::NAME_IN_USE);
+    let mut starts = [0u32; PLACES];
+    let count = chain::walk_chain(card, &mut starts)?;
+    let chain = Chain {
+        card,
+        starts: &starts[..count + 1],
+    };
+    if index::is_named(card, &chain.starts[..count], name) {
+        return Err(Refusal::NameInUse);
     }
     if MOST_SNAPSHOTS < count {
-        return no_site(answer::TOO_MANY_SNAPSHOTS);
+        return Err(Refusal::TooManySnapshots);
     }
-    let alpha = starts[count - 1];
-    Site {
-        answer: answer::ACCEPTED,
-        alpha: Physical(alpha),
-    }
+    Ok(chain.start(count - 1))
 }
 
-// Where a snapshot is taken on a card with a chain of any length.
-fn site_long(card: &[u8], name: [u8; NAME_SIZE]) -> Site
+// Where a snapshot is taken. A short chain is walked with few places.
+fn site(card: &[u8], name: [u8; NAME_SIZE]) -> Result<Physical, Refusal>
     requires { area_bad card.now ≡ false }
-    ensures { result ≡ site_of card.now name }
+    ensures { site_as result ≡ site_of card.now name }
 {
-    let mut starts = [0u32; STARTS_SIZE];
-    let found = chain::walk_chain(card, &mut starts);
-    if !found.sound {
-        let place = found.place.0;
-        return no_site(Answer { number: 6, place });
+    if chain::is_short(card) {
+        site_in::<FEW_STARTS>(card, name)
+    } else {
+        site_in::<STARTS_SIZE>(card, name)
     }
-    let count = found.count;
-    site_through(card, &starts[..count + 1], count, name)
-}
-
-// Where a snapshot is taken. A short chain is walked here with few places.
-fn site(card: &[u8], name: [u8; NAME_SIZE]) -> Site
-    requires { area_bad card.now ≡ false }
-    ensures { result ≡ site_of card.now name }
-{
-    if !chain::is_short(card) {
-        return site_long(card, name);
-    }
-    let mut starts = [0u32; FEW_STARTS];
-    let found = chain::walk_chain(card, &mut starts);
-    if !found.sound {
-        let place = found.place.0;
-        return no_site(Answer { number: 6, place });
-    }
-    let count = found.count;
-    site_through(card, &starts[..count + 1], count, name)
 }
 
 // Freezes the active volume under the name: where that is done is found before anything is stored.
-pub fn snap(card: &mut [u8], name: [u8; NAME_SIZE]) -> Answer
-    ensures { done result None card.new ≡ step (Snap name) card.old }
+pub fn snap(card: &mut [u8], name: [u8; NAME_SIZE]) -> Result<(), Refusal>
+    ensures { done (answered result) None card.new ≡ step (Snap name) card.old }
 {
-    let admitted = area::admit(card);
-    if admitted.number != 0 {
-        return admitted;
-    }
+    area::admit(card)?;
     if !name::is_name(name) {
-        return answer::BAD_NAME;
+        return Err(Refusal::BadName);
     }
-    let at = site(card, name);
-    let answer = at.answer;
-    if answer.number != 0 {
-        return answer;
-    }
-    let d = descriptor::read_descriptor(card, at.alpha);
-    let cost = descriptor::opening_cost(d.layout, d.volume);
+    let alpha = site(card, name)?;
+    let d = descriptor::read_descriptor(card, alpha);
+    let cost = d.cost();
     let end = (d.beta.0 as usize) + (cost as usize);
     if card.len() / BLOCK_SIZE < end {
-        return answer::NO_ROOM;
+        return Err(Refusal::NoRoom);
     }
     take_snapshot(card, d, cost, name);
-    answer::ACCEPTED
+    Ok(())
 }

@@ -8,8 +8,7 @@ use lib.ListN.{length}
 use Rattle.blocks.specs.declared.numbers.Physical.{Physical}
 use Rattle.blocks.specs.declared.descriptor.Descriptor.{Descriptor}
 use Rattle.pieces.specs.Span.{span_block, touched}
-use Rattle.entries.specs.declared.check.Verdict.{Verdict}
-use Rattle.entries.specs.declared.check.Verdict.TheVariants.{Passed, Fault}
+use Rattle.entries.specs.Found.{Verdict, Passed, Fault}
 use Rattle.calls.specs.Call.{answer, accepted}
 use Rattle.calls.specs.Check.{is_fault, fault_holder}
 use Rattle.calls.specs.Spans.{misplaced_from, span_verdict, span_bytes}

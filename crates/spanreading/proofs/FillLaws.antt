@@ -1,25 +1,24 @@
 -- The pieces of a span as they are filled: one piece out of a block or of zeros, put where it stands, and all of them joined.
 use mathlib.Core.Path.{◌≡◌, refl, sym, ap, ◌∙◌}
+use mathlib.Core.Bool.{true, false}
 use mathlib.Core.List.{List, ◌∷◌, ◌++◌}
 use Prim.Native.Nat.{ℕ, zero, suc, ◌+◌, ◌*◌, ◌-◌, ◌≤◌, ◌<◌, min}
 use native.Mathlib.Omega.{arith}
-use lib.ListN.{length, take, drop, set, replicate, length-append, length-replicate}
-use lib.Seq.{take_at}
+use lib.ListN.{length, take, drop, replicate, length-append}
 use lib.Dec.{eqb}
-use borrow.Author.Tests.{eq-eqb, ne_eqb}
 use Rattle.blocks.specs.Pick.{pick}
 use Rattle.blocks.specs.Bytes.{part, splice, block_at, zero_block}
 use Rattle.blocks.specs.Descriptor.{physical}
 use Rattle.blocks.specs.declared.numbers.Physical.{Physical}
 use Rattle.blocks.specs.declared.descriptor.Descriptor.{Descriptor}
-use Rattle.blocks.proofs.ByteLaws.{copied, copied_all, cleared_more, length_part, part_part, part_put, splice_start, splice_whole, splice_join}
+use Rattle.blocks.proofs.ByteLaws.{length_part, part_part, part_put, splice_whole, splice_join}
 use Rattle.pieces.specs.declared.piece.Piece.{Piece}
 use Rattle.pieces.specs.Span.{span_block, touched, piece_of, piece_in}
 use Rattle.pieces.proofs.RunLaws.{splice_none}
 use Rattle.pieces.proofs.SpanLaws.{begins, ends, reached, reached_none, reached_all, stands_is, next_is, in_block, in_bytes}
 use Rattle.entries.specs.Entry.{found_block}
-use Rattle.entries.specs.declared.find.Found.{Found}
-use Rattle.entries.specs.declared.find.Found.TheVariants.{Misplaced, Entry}
+use Rattle.entries.specs.Found.{Found, Misplaced, Entry, entry_in}
+use Rattle.entries.specs.declared.find.Slot.{Slot}
 use Rattle.entries.specs.Through.{Through}
 use Rattle.entries.proofs.EntryLaws.{found_inside}
 use Rattle.calls.specs.Parts.{descriptors_of, found_through, block_found}
@@ -27,32 +26,21 @@ use Rattle.calls.specs.Spans.{gathered, span_bytes}
 use Rattle.calls.proofs.CellLaws.{found_long}
 
 -- a piece of zeros
-part_zeros : (k first n : ℕ) → first + n ≤ k → part (replicate {A = ℕ} k 0) first n ≡ replicate n 0
+pub part_zeros : (k first n : ℕ) → first + n ≤ k → part (replicate {A = ℕ} k 0) first n ≡ replicate n 0
 part_zeros k zero zero h = refl
 part_zeros (suc k) zero (suc n) h = ap (λ (xs : List ℕ). 0 ∷ xs) (part_zeros k 0 n (omega arith))
 part_zeros zero zero (suc n) h = absurd (omega arith)
 part_zeros zero (suc first) n h = absurd (omega arith)
 part_zeros (suc k) (suc first) n h = part_zeros k first n (omega arith)
 
-pub piece_nil : (c : List ℕ) (p first n : ℕ) (out : List ℕ) → p ≡ 0 → first + n ≤ 512 → out ≡ replicate n 0 → out ≡ part (pick (eqb p 0) zero_block (block_at c p)) first n
-piece_nil c p first n out z h e = e ∙ rw (eq-eqb p 0 z) (sym (part_zeros 512 first n h))
-
--- a part by way of a copy of its own
-module _ (from copy : List ℕ) (few : length from ≤ 512) (is : copy ≡ splice zero_block 0 from) where
-  copied_part : take (length from) copy ≡ from
-  copied_part = ap (take (length from)) (is ∙ splice_start zero_block from) ∙ take_at from (drop (length from) zero_block) (length from) refl
-
-  pub copied_count : length from ≡ length (take (length from) copy)
-  copied_count = sym (ap length copied_part)
-
-  pub copied_out : (out out' : List ℕ) → length out ≡ length from → out' ≡ splice out 0 (take (length from) copy) → out' ≡ from
-  copied_out out out' same e = e ∙ ap (splice out 0) copied_part ∙ splice_whole out from (sym same)
+pub piece_nil : (c : List ℕ) (p first n : ℕ) (out : List ℕ) → eqb p 0 ≡ true → first + n ≤ 512 → out ≡ replicate n 0 → out ≡ part (pick (eqb p 0) zero_block (block_at c p)) first n
+piece_nil c p first n out nil h e = e ∙ rw nil (sym (part_zeros 512 first n h))
 
 -- a piece of a block
-module _ (c : List ℕ) (p first n : ℕ) (some : p ≡ 0 → ⊥) (fits : 512 * p + 512 ≤ length c) (h : first + n ≤ 512) where
+module _ (c : List ℕ) (p first n : ℕ) (some : eqb p 0 ≡ false) (fits : 512 * p + 512 ≤ length c) (h : first + n ≤ 512) where
   block_piece : part (pick (eqb p 0) zero_block (block_at c p)) first n ≡ part c (512 * p + first) n
   unfolding block_at
-  block_piece = rw (ne_eqb p 0 some) (part_part c (512 * p) 512 first n h fits)
+  block_piece = rw some (part_part c (512 * p) 512 first n h fits)
 
   pub piece_part : (out : List ℕ) → out ≡ part c (512 * p + first) (512 * p + first + n - (512 * p + first)) → out ≡ part (pick (eqb p 0) zero_block (block_at c p)) first n
   piece_part out e = let size : 512 * p + first + n - (512 * p + first) ≡ n = omega arith in e ∙ rw size (sym block_piece)
@@ -63,17 +51,10 @@ unfolding block_found found_block
 block_by c (Misplaced h) = refl
 block_by c (Entry m p) = refl
 
--- what an entry that is not in place names, and what one that was found does
-pub block_none : (f : Found) (h : Physical) → f ≡ Misplaced h → physical 0 ≡ physical (found_block f)
+-- and it is the block that the slot names
+pub slot_block : (c : List ℕ) (d : Descriptor) (l : ℕ) (s : Slot) → entry_in s ≡ found_through c d l → s.entry ≡ physical (found_block (found_through c d l))
 unfolding found_block
-block_none f h e = rw e
-
-pub block_some : (f : Found) (m p : Physical) → f ≡ Entry m p → p ≡ physical (found_block f)
-unfolding found_block
-block_some f m p e = rw e
-
-pub block_found_lem : (c : List ℕ) (d : Descriptor) (l : ℕ) (f : Found) → f ≡ found_through c d l → (p : Physical) → p ≡ physical (found_block f) → p ≡ physical (found_block (found_through c d l))
-block_found_lem c d l f is p e = e ∙ ap (λ (x : Found). physical (found_block x)) is
+slot_block c d l s e = ap (λ (x : Found). physical (found_block x)) e
 
 -- a piece put where it stands
 pub piece_put : (c : List ℕ) (f : Found) (o l : ℕ) (out y : List ℕ) (p : Physical) → p ≡ physical (found_block f) → 512 * l < o + length out → o < 512 * l + 512
@@ -136,16 +117,6 @@ module _ (c : List ℕ) (d : Descriptor) (o n : ℕ) (end : 512 * d.beta.0 ≤ l
   gathered_all i k t a b out after long e =
       let is : i ≡ touched o n = omega arith in
       e ∙ rw is (splice_whole out (gathered c d o n (touched o n)) (gathered_length (touched o n) (omega arith) ∙ reached_all o n ∙ sym long))
-
--- bytes cleared one by one, and all of them
-pub cleared_next : (out x : List ℕ) (i : ℕ) → i < length out → x ≡ copied out 0 (replicate (length out) 0) i → set x i 0 ≡ copied out 0 (replicate (length out) 0) (i + 1)
-cleared_next out x i h e = let z : 0 + i ≡ i = omega arith in rw z at (cleared_more out x 0 (length out) i (omega arith) h e)
-
-pub cleared_all : (out x : List ℕ) (i : ℕ) → i ≤ length out → length out ≤ i → x ≡ copied out 0 (replicate (length out) 0) i → x ≡ replicate (length out) 0
-cleared_all out x i a b e =
-    let zeros : List ℕ = replicate (length out) 0 in
-    let long : length zeros ≡ length out = length-replicate {A = ℕ} (length out) 0 in
-    e ∙ copied_all out 0 zeros i (omega (arith, long)) ∙ splice_whole out zeros long
 
 -- the block that an entry names is on the card, and a piece of it is no longer than a block
 module _ (c starts : List ℕ) (count : ℕ) (d : Descriptor) (t : Through c starts count d) (l : ℕ) where

@@ -2,10 +2,10 @@
 use mathlib.Core.Path.{◌≡◌, refl, sym, ap, ◌∙◌}
 use mathlib.Core.Bool.{Bool, true, false, not, ◌&&◌}
 use mathlib.Core.List.{List}
-use Prim.Native.Nat.{ℕ, zero, suc, ◌+◌, ◌-◌, ◌/◌, ◌%◌, ◌≤◌, ◌<◌, min}
+use Prim.Native.Nat.{ℕ, zero, suc, ◌+◌, ◌-◌, ◌/◌, ◌%◌, ◌≤◌, ◌<◌}
 use native.Mathlib.Omega.{arith}
 use lib.Dec.{eqb}
-use borrow.Author.Tests.{eq-eqb, ne_eqb}
+use borrow.Author.Tests.{ne_eqb}
 use Rattle.blocks.specs.Pick.{pick}
 use Rattle.blocks.specs.Descriptor.{physical}
 use Rattle.blocks.specs.declared.numbers.Physical.{Physical}
@@ -13,10 +13,7 @@ use Rattle.blocks.specs.declared.descriptor.Descriptor.{Descriptor}
 use Rattle.blocks.proofs.BoolLaws.{no}
 use Rattle.entries.specs.InPlace.{is_in_place}
 use Rattle.entries.specs.Entry.{entry_at, table_of, entry_found, find}
-use Rattle.entries.specs.declared.check.Verdict.{Verdict}
-use Rattle.entries.specs.declared.check.Verdict.TheVariants.{Passed, Fault}
-use Rattle.entries.specs.declared.find.Found.{Found}
-use Rattle.entries.specs.declared.find.Found.TheVariants.{Misplaced, Entry}
+use Rattle.entries.specs.Found.{Found, Misplaced, Entry, Verdict, Passed, Fault}
 use Rattle.entries.proofs.FoundLaws.{found_holder}
 use Rattle.entries.proofs.TableLaws.{table_own}
 use Rattle.calls.specs.Parts.{descriptors_of, found_through, is_misplaced, holder_of}
@@ -59,9 +56,9 @@ module _ (c : List ℕ) (d : Descriptor) (l : ℕ) (m p : Physical) (is : found_
       (shared_by ds d n (entry_at c n (l % 128)) (entry_at c n (k % 128)) m p (eqb d.layout 1) (is_in_place ds d n) (eqb n 0) (set_own (eqb d.layout 1) refl) refl is)
 
   -- in a table block that is nil, and in one that is set
-  nil_at : m.0 ≡ 0 → (k : ℕ) → k / 128 ≡ l / 128 → is_misplaced (found_through c d k) ≡ false
+  nil_at : eqb m.0 0 ≡ true → (k : ℕ) → k / 128 ≡ l / 128 → is_misplaced (found_through c d k) ≡ false
   unfolding is_misplaced
-  nil_at z k g = rw (shared k g, eq-eqb m.0 0 z)
+  nil_at z k g = rw (shared k g, z)
 
   set_by : (q : ℕ) (t : Bool) → (is_misplaced (pick t (Entry (physical m.0) (physical q)) (Misplaced (physical m.0))) ≡ not t)
       × (t ≡ false → holder_of (pick t (Entry (physical m.0) (physical q)) (Misplaced (physical m.0))) ≡ m.0)
@@ -69,24 +66,24 @@ module _ (c : List ℕ) (d : Descriptor) (l : ℕ) (m p : Physical) (is : found_
   set_by q true = (refl, λ e. no (sym e))
   set_by q false = (refl, λ e. refl)
 
-  set_at : (m.0 ≡ 0 → ⊥) → (k : ℕ) → k / 128 ≡ l / 128
+  set_at : (eqb m.0 0 ≡ false) → (k : ℕ) → k / 128 ≡ l / 128
       → (is_misplaced (found_through c d k) ≡ not (is_in_place ds d (entry_at c m.0 (k % 128)))) × (is_in_place ds d (entry_at c m.0 (k % 128)) ≡ false → holder_of (found_through c d k) ≡ m.0)
   unfolding entry_found
-  set_at z k g = rw (shared k g, ne_eqb m.0 0 z) (set_by (entry_at c m.0 (k % 128)) (is_in_place ds d (entry_at c m.0 (k % 128))))
+  set_at z k g = rw (shared k g, z) (set_by (entry_at c m.0 (k % 128)) (is_in_place ds d (entry_at c m.0 (k % 128))))
 
   -- the k blocks of the group from block j on
-  nil_from : m.0 ≡ 0 → (k j : ℕ) → j / 128 ≡ l / 128 → j % 128 + k ≤ 128 → misplaced_from c d j k ≡ Passed
+  nil_from : eqb m.0 0 ≡ true → (k j : ℕ) → j / 128 ≡ l / 128 → j % 128 + k ≤ 128 → misplaced_from c d j k ≡ Passed
   unfolding misplaced_from
   nil_from z zero j g h = refl
   nil_from z (suc zero) j g h = rw (nil_at z j g)
   nil_from z (suc (suc k)) j g h = rw (nil_at z j g) (nil_from z (suc k) (suc j) (omega arith) (omega arith))
 
-  set_step : (m.0 ≡ 0 → ⊥) → (j : ℕ) → j / 128 ≡ l / 128 → (later : Verdict) (rest t : Bool) → is_in_place ds d (entry_at c m.0 (j % 128)) ≡ t → later ≡ pick rest Passed (Fault m)
+  set_step : (eqb m.0 0 ≡ false) → (j : ℕ) → j / 128 ≡ l / 128 → (later : Verdict) (rest t : Bool) → is_in_place ds d (entry_at c m.0 (j % 128)) ≡ t → later ≡ pick rest Passed (Fault m)
       → pick (is_misplaced (found_through c d j)) (Fault (physical (holder_of (found_through c d j)))) later ≡ pick (t && rest) Passed (Fault m)
   set_step z j g later rest true e q = rw ((set_at z j g).0, e) q
   set_step z j g later rest false e q = rw ((set_at z j g).0, e, (set_at z j g).1 e)
 
-  set_from : (m.0 ≡ 0 → ⊥) → (k j : ℕ) → j / 128 ≡ l / 128 → j % 128 + k ≤ 128 → misplaced_from c d j k ≡ pick (placed_from c d m.0 (j % 128) k) Passed (Fault m)
+  set_from : (eqb m.0 0 ≡ false) → (k j : ℕ) → j / 128 ≡ l / 128 → j % 128 + k ≤ 128 → misplaced_from c d j k ≡ pick (placed_from c d m.0 (j % 128) k) Passed (Fault m)
   unfolding misplaced_from placed_from
   set_from z zero j g h = refl
   set_from z (suc zero) j g h = set_step z j g Passed true (is_in_place ds d (entry_at c m.0 (j % 128))) refl refl
@@ -100,14 +97,14 @@ module _ (c : List ℕ) (d : Descriptor) (l : ℕ) (m p : Physical) (is : found_
   unfolding misplaced_from is_misplaced
   past_first k n e = rw (e, is)
 
-  pub rest_nil : m.0 ≡ 0 → (k : ℕ) → 0 < k → l % 128 + k ≤ 128 → Passed ≡ misplaced_from c d l k
+  pub rest_nil : eqb m.0 0 ≡ true → (k : ℕ) → 0 < k → l % 128 + k ≤ 128 → Passed ≡ misplaced_from c d l k
   rest_nil z k s h = sym (by (k - 1) (omega arith))
     where
       by : (n : ℕ) → k ≡ suc n → misplaced_from c d l k ≡ Passed
       by zero e = past_first k 0 e ∙ nothing c d (suc l)
       by (suc n) e = past_first k (suc n) e ∙ nil_from z (suc n) (suc l) (omega arith) (omega arith)
 
-  rest_set : (m.0 ≡ 0 → ⊥) → (k : ℕ) → 0 < k → l % 128 + k ≤ 128 → misplaced_from c d l k ≡ pick (placed_from c d m.0 (l % 128 + 1) (k - 1)) Passed (Fault m)
+  pub rest_set : (eqb m.0 0 ≡ false) → (k : ℕ) → 0 < k → l % 128 + k ≤ 128 → misplaced_from c d l k ≡ pick (placed_from c d m.0 (l % 128 + 1) (k - 1)) Passed (Fault m)
   rest_set z k s h = by (k - 1) refl
     where
       by : (n : ℕ) → k - 1 ≡ n → misplaced_from c d l k ≡ pick (placed_from c d m.0 (l % 128 + 1) (k - 1)) Passed (Fault m)
@@ -116,28 +113,11 @@ module _ (c : List ℕ) (d : Descriptor) (l : ℕ) (m p : Physical) (is : found_
           let f : suc l % 128 ≡ l % 128 + 1 = omega arith in
           past_first k (suc n) (omega arith) ∙ set_from z (suc n) (suc l) (omega arith) (omega (arith, f)) ∙ rw (e, f)
 
-  pub rest_placed : (m.0 ≡ 0 → ⊥) → (k : ℕ) → 0 < k → l % 128 + k ≤ 128 → (b : Bool) → b ≡ placed_from c d m.0 (l % 128 + 1) (k - 1) → b ≡ true → Passed ≡ misplaced_from c d l k
-  rest_placed z k s h b e t = sym (rest_set z k s h ∙ rw (← e, t))
-
-  pub rest_fault : (m.0 ≡ 0 → ⊥) → (k : ℕ) → 0 < k → l % 128 + k ≤ 128 → (b : Bool) → b ≡ placed_from c d m.0 (l % 128 + 1) (k - 1) → b ≡ false → Fault m ≡ misplaced_from c d l k
-  rest_fault z k s h b e t = sym (rest_set z k s h ∙ rw (← e, t))
-
 -- the first entry of a group that is not in place
 pub first_fault_lem : (c : List ℕ) (d : Descriptor) (l k : ℕ) → 0 < k → (f : Found) → f ≡ found_through c d l → (h : Physical) → f ≡ Misplaced h → Fault h ≡ misplaced_from c d l k
 unfolding misplaced_from is_misplaced holder_of
 first_fault_lem c d l zero s f is h e = absurd (omega arith)
 first_fault_lem c d l (suc k) s f is h e = rw (← is, e)
-
--- what is left of a group: some block, all of the group, none at or past the end
-module _ (l end : ℕ) (h : l < end) (k : ℕ) (is : k ≡ min (128 - l % 128) (end - l)) where
-  pub group_some : 0 < k
-  group_some = omega (arith, is)
-
-  pub group_shared : l % 128 + k ≤ 128
-  group_shared = omega (arith, is)
-
-  pub group_within : l + k ≤ end
-  group_within = omega (arith, is)
 
 -- group after group
 split : (c : List ℕ) (d : Descriptor) (a b l : ℕ) → misplaced_from c d l (a + b) ≡ or_else (misplaced_from c d l a) (misplaced_from c d (l + a) b)

@@ -11,10 +11,9 @@ use Rattle.blocks.specs.Name.{is_name}
 use Rattle.blocks.specs.Descriptor.{physical, descriptor_at}
 use Rattle.blocks.specs.declared.descriptor.Descriptor.{Descriptor}
 use Rattle.chains.specs.Chain.{chain, descriptors, descriptors_at, active_of, named, Regions, walk_of}
-use Rattle.chains.specs.declared.chain.Walk.{Walk}
+use Rattle.chains.specs.Chain.{Walk}
 use Rattle.calls.specs.declared.answer.Answer.{Answer}
-use Rattle.calls.specs.declared.answer.Target.{Target}
-use Rattle.calls.specs.Call.{Call, SpanRead, Block, answer, accepted}
+use Rattle.calls.specs.Call.{Target, Call, SpanRead, Block, answer, accepted}
 use Rattle.calls.specs.Parts.{snapshots_of, is_snapshot, target_index, SoundCard}
 use Rattle.calls.specs.Check.{is_fault, fault_holder}
 use Rattle.calls.specs.Ladder.{first_row, admission, row, span_row, span_read_rows}

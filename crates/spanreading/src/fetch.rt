@@ -1,11 +1,11 @@
 // The bytes of a span through a descriptor: all its entries are looked at before a byte is filled.
-ghost use Rattle.std.specs.Prelude.{◌≡◌, false, List, ℕ, ◌+◌, ◌*◌, ◌≤◌, ◌<◌, ◌^◌, length, replicate, eqb};
+ghost use Rattle.std.specs.Prelude.{◌≡◌, false, List, ℕ, ◌+◌, ◌*◌, ◌-◌, ◌≤◌, ◌<◌, ◌^◌, length, eqb};
 ghost use Rattle.blocks.specs.Pick.{pick};
 ghost use Rattle.blocks.specs.Bytes.{zero_block, block_at, block_size, part, splice};
-ghost use Rattle.blocks.specs.Descriptor.{physical};
 ghost use Rattle.chains.specs.Chain.{chain as chain_of, descriptors};
 ghost use Rattle.entries.specs.Through.{Through};
-ghost use Rattle.entries.specs.Entry.{found_block, find as finding};
+ghost use Rattle.entries.specs.Entry.{find as finding};
+ghost use Rattle.calls.specs.Call.{answered};
 ghost use Rattle.calls.specs.Parts.{is_misplaced, block_found};
 ghost use Rattle.calls.specs.Check.{is_fault};
 ghost use Rattle.calls.specs.Spans.{span_verdict, span_bytes};
@@ -13,37 +13,24 @@ ghost use Rattle.pieces.specs.Span.{piece_of, piece_in};
 ghost use Rattle.spanreading.specs.Fetched.{fetched};
 
 use crate::groups;
-use blocks::bytes;
 use blocks::descriptor::Descriptor;
 use blocks::numbers::{Logical, Physical};
 use blocks::sizes::BLOCK_SIZE;
-use calls::answer;
-use calls::answer::Answer;
-use entries::check::Verdict;
-use entries::find::Found;
+use calls::answer::Refusal;
+use calls::chain::Chain;
 use finding::find;
 use pieces::piece;
 
-// All bytes are now zero.
-fn clear(out: &mut [u8])
-    ensures { out.new ≡ replicate (length out.old) 0 }
-{
-    let mut i = 0;
-    while i < out.len() {
-        out[i] = 0;
-        i += 1;
-    }
-}
-
-// Copies a part of a block into what is lent for it, by way of a copy of its own, of which the compiler makes one move.
+// Copies a part of a block into what is lent for it, by way of a copy of its own, of which the compiler makes one move: from slice to slice it takes 23
+// instructions more.
 fn put_part(out: &mut [u8], from: &[u8])
     requires { (length out.old ≡ length from.now) × (length from.now ≤ block_size) }
     ensures { out.new ≡ from.now }
 {
-    let n = from.len();
     let mut copy = [0u8; BLOCK_SIZE];
-    bytes::put_bytes(&mut copy, 0, from);
-    bytes::put_bytes(out, 0, &copy[..n]);
+    let part = &mut copy[..from.len()];
+    part.copy_from_slice(from);
+    out.copy_from_slice(part);
 }
 
 // The caller's bytes are now those of block `p` from its byte `first` on, or zeros where it is nil.
@@ -51,22 +38,14 @@ fn fill_piece(card: &[u8], p: Physical, first: usize, out: &mut [u8])
     requires { (first + length out.old ≤ block_size) × ((p.0 ≡ 0 → ⊥) → block_size * p.0 + block_size ≤ length card.now) }
     ensures { out.new ≡ part (pick (eqb p.0 0) zero_block (block_at card.now p.0)) first (length out.old) }
 {
-    if p.0 == 0 {
-        clear(out);
+    if p.is_nil() {
+        // `fill` takes 8 to 10 instructions more, and so spans of 700 bytes up to 1.24 times the baseline in place of 1.17
+        let zeros = [0u8; BLOCK_SIZE];
+        out.copy_from_slice(&zeros[..out.len()]);
         return;
     }
-    let at = BLOCK_SIZE * (p.0 as usize) + first;
+    let at = p.start() + first;
     put_part(out, &card[at..at + out.len()]);
-}
-
-// The block that an entry names, nil where the entry is nil or not in place.
-fn block_of(found: Found) -> Physical
-    ensures { result ≡ physical (found_block found) }
-{
-    match found {
-        Found::Misplaced(_) => Physical(0),
-        Found::Entry(_, p) => p,
-    }
 }
 
 // The piece of the span in logical block `l`, put where it stands among the caller's bytes.
@@ -74,13 +53,14 @@ fn fetch_piece(card: &[u8], d: Descriptor, l: usize, offset: usize, out: &mut [u
     requires { ((starts : List ℕ) × (count : ℕ) × Through card.now starts count d) × (l < d.volume) × (is_misplaced (finding card.now (descriptors (chain_of card.now)) d l) ≡ false) × (block_size * l < offset + length out.old) × (offset < block_size * l + block_size) × (offset + length out.old < 2 ^ 64) }
     ensures { out.new ≡ splice out.old (piece_of offset (length out.old) l).stands (piece_in (block_found card.now (finding card.now (descriptors (chain_of card.now)) d l)) offset (length out.old) l) }
 {
-    let number = l as u32;
-    let found = find::entry_of(card, d, Logical(number));
-    let p = block_of(found);
+    let slot = find::entry_of(card, d, Logical(l as u32));
     let q = piece::piece_in(offset, out.len(), l);
-    let start = q.stands;
-    let end = start + q.count;
-    fill_piece(card, p, q.first, &mut out[start..end]);
+    fill_piece(
+        card,
+        slot.entry,
+        q.first,
+        &mut out[q.stands..q.stands + q.count],
+    );
 }
 
 // The caller's bytes are now those of the volume from `offset` on: each is copied once. All entries on the way are in place.
@@ -89,35 +69,19 @@ fn gather(card: &[u8], d: Descriptor, offset: usize, out: &mut [u8])
     ensures { out.new ≡ span_bytes card.now d offset (length out.old) }
 {
     let first = offset / BLOCK_SIZE;
-    let blocks = piece::blocks_touched(offset, out.len());
-    let mut i = 0;
-    while i < blocks {
+    for i in 0..piece::blocks_touched(offset, out.len()) {
         fetch_piece(card, d, first + i, offset, out);
-        i += 1;
     }
 }
 
 // Fills the caller's bytes with those of the volume from `offset` on, or gives the refusal of the first entry that is not in place.
-pub fn fetch(
-    card: &[u8],
-    starts: &[u32],
-    count: usize,
-    d: Descriptor,
-    offset: usize,
-    out: &mut [u8],
-) -> Answer
-    requires { Through card.now starts.now count d × (offset + length out.old ≤ block_size * d.volume) }
-    ensures { record { answer = result; bytes = out.new } ≡ fetched card.now d offset out.old }
+pub fn fetch(chain: Chain, d: Descriptor, offset: usize, out: &mut [u8]) -> Result<(), Refusal>
+    requires { Through chain.card.now chain.starts.now (length chain.starts.now - 1) d × (offset + length out.old ≤ block_size * d.volume) }
+    ensures { record { answer = answered result; bytes = out.new } ≡ fetched chain.entry.card.now d offset out.old }
 {
     let first = offset / BLOCK_SIZE;
     let end = first + piece::blocks_touched(offset, out.len());
-    let v = groups::misplaced(&*card, &*starts, count, d, first as u32, end as u32);
-    if let Verdict::Fault(h) = v {
-        return Answer {
-            number: 10,
-            place: h.0,
-        };
-    }
-    gather(card, d, offset, out);
-    answer::ACCEPTED
+    groups::blocks_in_place(chain, d, first as u32, end as u32)?;
+    gather(chain.card, d, offset, out);
+    Ok(())
 }

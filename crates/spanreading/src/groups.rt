@@ -1,119 +1,61 @@
-// Groups of 128 logical blocks, those of one table block: which of their entries are in place. The table block is looked for once in a group.
-ghost use Rattle.std.specs.Prelude.{◌≡◌, ◌+◌, ◌*◌, ◌-◌, ◌%◌, ◌≤◌, ◌<◌, min, length};
+// Groups of 128 logical blocks, those of one table block: whether their entries are in place. The table block is looked for once in a group.
+ghost use Rattle.std.specs.Prelude.{◌≡◌, ◌+◌, ◌*◌, ◌-◌, ◌%◌, ◌≤◌, ◌<◌, length};
+ghost use Rattle.blocks.specs.Pick.{pick};
 ghost use Rattle.blocks.specs.Bytes.{block_size};
 ghost use Rattle.blocks.specs.Descriptor.{table_size};
-ghost use Rattle.chains.specs.Chain.{chain as chain_of, descriptors};
 ghost use Rattle.entries.specs.Through.{Through};
-ghost use Rattle.entries.specs.Entry.{find as finding};
+ghost use Rattle.entries.specs.Found.{Passed, Fault, verdict_as};
 ghost use Rattle.calls.specs.Spans.{misplaced_from};
 ghost use Rattle.spanreading.specs.Fetched.{placed_from};
 
 use blocks::descriptor::Descriptor;
 use blocks::numbers::{Logical, Physical};
 use blocks::sizes::TABLE_SIZE;
-use entries::check::Verdict;
-use entries::find::Found;
+use calls::chain::Chain;
+use entries::find::Misplaced;
 use finding::find;
 
 // Whether `k` entries of table block `m` from entry `j` on are in place.
-fn are_placed(
-    card: &[u8],
-    starts: &[u32],
-    count: usize,
+fn entries_in_place(
+    chain: Chain,
     d: Descriptor,
     m: Physical,
     j: u32,
     k: u32,
-) -> bool
-    requires { Through card.now starts.now count d × (block_size * m.0 + block_size ≤ length card.now) × (j + k ≤ table_size) }
-    ensures { result ≡ placed_from card.now d m.0 j k }
+) -> Result<(), Misplaced>
+    requires { Through chain.card.now chain.starts.now (length chain.starts.now - 1) d × (block_size * m.0 + block_size ≤ length chain.card.now) × (j + k ≤ table_size) }
+    ensures { verdict_as result ≡ pick (placed_from chain.entry.card.now d m.0 j k) Passed (Fault m) }
 {
-    let mut i = 0;
-    while i < k {
-        let at = find::locate_in(&*card, &*starts, count, d, m, j + i);
-        let found = at.found;
-        if let Found::Misplaced(_) = found {
-            return false;
-        }
-        i += 1;
+    for i in 0..k {
+        find::locate_in(chain, d, m, j + i)?;
     }
-    true
+    Ok(())
 }
 
-// The first of `k` logical blocks of one group, from `l` on, whose entry is not in place. Where that of the first is, its table block serves the others.
-fn misplaced_in_group(
-    card: &[u8],
-    starts: &[u32],
-    count: usize,
-    d: Descriptor,
-    l: u32,
-    k: u32,
-) -> Verdict
-    requires { Through card.now starts.now count d × (0 < k) × (l % table_size + k ≤ table_size) × (l + k ≤ d.volume) }
-    ensures { result ≡ misplaced_from card.now d l k }
+// Whether the entries of `k` logical blocks of one group, from `l` on, are in place. The table block of the first serves the others, and where there is none they are
+// nil as it is.
+fn group_in_place(chain: Chain, d: Descriptor, l: u32, k: u32) -> Result<(), Misplaced>
+    requires { Through chain.card.now chain.starts.now (length chain.starts.now - 1) d × (0 < k) × (l % table_size + k ≤ table_size) × (l + k ≤ d.volume) }
+    ensures { verdict_as result ≡ misplaced_from chain.entry.card.now d l k }
 {
-    let at = find::locate(&*card, &*starts, count, d, Logical(l));
-    let found = at.found;
-    match found {
-        Found::Misplaced(h) => Verdict::Fault(h),
-        Found::Entry(m, _) => rest_of_group(card, starts, count, d, m, l, k),
+    let (slot, _) = find::locate(chain, d, Logical(l))?;
+    if slot.table.is_nil() {
+        return Ok(());
     }
+    entries_in_place(chain, d, slot.table, l % TABLE_SIZE + 1, k - 1)
 }
 
-// The same of the others, given the table block of the first, which is in place.
-fn rest_of_group(
-    card: &[u8],
-    starts: &[u32],
-    count: usize,
-    d: Descriptor,
-    m: Physical,
-    l: u32,
-    k: u32,
-) -> Verdict
-    requires { Through card.now starts.now count d × (0 < k) × (l % table_size + k ≤ table_size) × (l + k ≤ d.volume) × ((p : Physical) × (finding card.now (descriptors (chain_of card.now)) d l ≡ Found.Entry m p)) }
-    ensures { result ≡ misplaced_from card.now d l k }
-{
-    if m.0 == 0 {
-        return Verdict::Passed;
-    }
-    if are_placed(card, starts, count, d, m, l % TABLE_SIZE + 1, k - 1) {
-        return Verdict::Passed;
-    }
-    Verdict::Fault(m)
-}
-
-// How many logical blocks there are from `l` up to `end` that are of the group of `l`.
-fn group_left(l: u32, end: u32) -> u32
-    requires { l < end }
-    ensures { result ≡ min (table_size - l % table_size) (end - l) }
-{
-    let left = TABLE_SIZE - l % TABLE_SIZE;
-    if end - l < left {
-        return end - l;
-    }
-    left
-}
-
-// The first of the logical blocks from `first` up to `end` whose entry is not in place, group by group.
-pub fn misplaced(
-    card: &[u8],
-    starts: &[u32],
-    count: usize,
-    d: Descriptor,
-    first: u32,
-    end: u32,
-) -> Verdict
-    requires { Through card.now starts.now count d × (first ≤ end) × (end ≤ d.volume) }
-    ensures { result ≡ misplaced_from card.now d first (end - first) }
+// Whether the entries of the logical blocks from `first` up to `end` are in place, group by group.
+pub fn blocks_in_place(chain: Chain, d: Descriptor, first: u32, end: u32) -> Result<(), Misplaced>
+    requires { Through chain.card.now chain.starts.now (length chain.starts.now - 1) d × (first ≤ end) × (end ≤ d.volume) }
+    ensures { verdict_as result ≡ misplaced_from chain.entry.card.now d first (end - first) }
 {
     let mut l = first;
+    // no `for`: a turn takes as many blocks as are left of the group
     while l < end {
-        let k = group_left(l, end);
-        let v = misplaced_in_group(&*card, &*starts, count, d, l, k);
-        if let Verdict::Fault(h) = v {
-            return Verdict::Fault(h);
-        }
+        let k = (TABLE_SIZE - l % TABLE_SIZE).min(end - l);
+        group_in_place(chain, d, l, k)?;
         l += k;
     }
-    Verdict::Passed
+    Ok(())
 }

@@ -4,8 +4,7 @@ use Rattle.std.specs.Prelude.{◌≡◌, List, [], ◌∷◌, ◌++◌, ℕ, rep
 use Rattle.blocks.specs.Bytes.{le32, zero_block}
 use Rattle.blocks.specs.Name.{no_name}
 use Rattle.blocks.specs.Descriptor.{as_format}
-use Rattle.calls.specs.declared.answer.Target.TheVariants.{Active, Snapshot}
-use Rattle.calls.specs.Call.{Call, Write, Check, SpanRead, SpanWrite, answer}
+use Rattle.calls.specs.Call.{Active, Snapshot, Call, Write, Check, SpanRead, SpanWrite, answer}
 use Rattle.calls.specs.Step.{after}
 use Rattle.claims.specs.History.{formatted}
 use Rattle.claims.specs.Bench.{Beta, Value, Differs, area, ones, fs, mon, tue, lent}

@@ -47,12 +47,6 @@ module _ (c starts : List ℕ) (count : ℕ) (d : Descriptor) (a : ActiveCard c 
   pub active_some : 0 < count
   active_some = card_some c r (sym a.sound.regions) a.sound.area refl
 
-  pub active_few : count ≤ 256
-  active_few = card_few c r (sym a.sound.regions) a.sound.area refl
-
-  pub active_room : count < length starts
-  active_room = (through_rising c starts count d active_ready).long
-
   pub active_sound : chain_sound (chain c) ≡ true
   active_sound = card_sound c r (sym a.sound.regions) refl
 

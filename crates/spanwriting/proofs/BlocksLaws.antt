@@ -39,9 +39,9 @@ module _ (c starts : List ℕ) (count : ℕ) (active : Descriptor) (o : ℕ) (by
     passed : WritePassed card (span_block o i) (merged_on card o bytes (span_block o i))
     passed = rw card_is (passed_write c o bytes span_passed i h)
 
-    pub piece_next : (places : List ℕ) (d : Descriptor) → ActiveCard card places count d → PieceReady card places count d (o / 512 + i) o bytes
+    pub piece_next : (places : List ℕ) (n : ℕ) (d : Descriptor) → ActiveCard card places n d → PieceReady card places n d (o / 512 + i) o bytes
     unfolding write_need
-    piece_next places d a =
+    piece_next places n d a =
         record {
           card = a;
           below = subst (λ (x : Descriptor). span_block o i < x.volume) (sym a.active) passed.below;
@@ -64,11 +64,3 @@ card_all c o bytes i n e a b card is = let f : i ≡ touched o (length bytes) = 
 -- the blocks that a span touches are of the volume in which it ends
 pub touched_upto : (o n v blocks : ℕ) → o + n ≤ 512 * v → blocks ≡ touched o n → 512 * (o / 512 + blocks) < o + n + 512 → o / 512 + blocks ≤ v
 touched_upto o n v blocks h e k = omega (arith, h, k)
-
--- so are its bytes, and what it takes is few blocks
-pub small_upto : (v o n : ℕ) (b : Bool) → b ≡ ltb (512 * v) (o + n) → b ≡ false → v ≤ 14336 → o + n < 18446744073709551616
-small_upto v o n b e h k = omega (arith, past_upto v o n b e h, k)
-
-pub sum_small : (beta taken blocks v o n : ℕ) (b : Bool) → b ≡ ltb (512 * v) (o + n) → b ≡ false → v ≤ 14336 → taken ≤ 2 * blocks → 512 * (o / 512 + blocks) < o + n + 512 → 512 * beta ≤ 33554432
-    → beta + taken < 18446744073709551616
-sum_small beta taken blocks v o n b e h k t m f = omega (arith, past_upto v o n b e h, k, t, m, f)

@@ -2,11 +2,13 @@
 use mathlib.Core.Path.{◌≡◌, refl, sym, ap, ◌∙◌, subst}
 use mathlib.Core.Bool.{Bool, true, false}
 use mathlib.Core.List.{List}
-use Prim.Native.Nat.{ℕ, ◌+◌, ◌*◌, ◌-◌, ◌/◌, ◌≤◌, ◌<◌, min}
+use Prim.Native.Nat.{ℕ, ◌+◌, ◌*◌, ◌-◌, ◌/◌, ◌≤◌, ◌<◌, ◌^◌, min}
 use native.Mathlib.Omega.{arith}
-use lib.ListN.{length, set, length-replicate}
+use lib.ListN.{length, set, length-replicate, length-set}
 use lib.Dec.{eqb}
 use borrow.Author.Tests.{eq-eqb, ne_eqb}
+use Rattle.std.specs.Prelude.{Result, Ok, Err}
+use Rattle.std.specs.Result.{IsOk}
 use Rattle.blocks.specs.Pick.{pick}
 use Rattle.blocks.specs.Bytes.{part, splice, block_at, zero_block, block_count, store_all}
 use Rattle.blocks.specs.Descriptor.{extended_of}
@@ -19,8 +21,9 @@ use Rattle.pieces.specs.Span.{piece_of, merged}
 use Rattle.pieces.proofs.SpanLaws.{in_block, in_bytes, merged_long}
 use Rattle.entries.specs.Through.{Through, WriteReady}
 use Rattle.entries.specs.Entry.{locate, need, need_by, writing}
-use Rattle.entries.specs.declared.find.Found.TheVariants.{Misplaced, Entry}
-use Rattle.entries.specs.declared.find.Located.{Located}
+use Rattle.entries.specs.Found.{Located, entry_in, located_as}
+use Rattle.entries.specs.declared.find.Misplaced.{Misplaced as MisplacedEntry}
+use Rattle.entries.specs.declared.find.Slot.{Slot}
 use Rattle.entries.proofs.EntryLaws.{through_end}
 use Rattle.entries.proofs.OwnerLaws.{located_found, need_active}
 use Rattle.entries.proofs.PutLaws.{write_ready}
@@ -35,12 +38,12 @@ use Rattle.spanwriting.specs.Planned.{ActiveCard, PieceReady}
 use Rattle.spanwriting.proofs.ActiveCards.{active_ready, active_sound, active_after}
 
 -- a block or zeros, with bytes laid over
-pub overlaid_nil : (c block bytes out : List ℕ) (p first : ℕ) → p ≡ 0 → block ≡ zero_block → out ≡ splice block first bytes → out ≡ splice (pick (eqb p 0) zero_block (block_at c p)) first bytes
-overlaid_nil c block bytes out p first z b e = e ∙ rw (eq-eqb p 0 z, b)
+pub overlaid_nil : (c block bytes out : List ℕ) (p first : ℕ) → true ≡ eqb p 0 → block ≡ zero_block → out ≡ splice block first bytes → out ≡ splice (pick (eqb p 0) zero_block (block_at c p)) first bytes
+overlaid_nil c block bytes out p first z b e = e ∙ rw (sym z, b)
 
-pub overlaid_block : (c block bytes out : List ℕ) (p first : ℕ) → (p ≡ 0 → ⊥) → block ≡ part c (512 * p) 512 → out ≡ splice block first bytes → out ≡ splice (pick (eqb p 0) zero_block (block_at c p)) first bytes
+pub overlaid_block : (c block bytes out : List ℕ) (p first : ℕ) → false ≡ eqb p 0 → block ≡ part c (512 * p) 512 → out ≡ splice block first bytes → out ≡ splice (pick (eqb p 0) zero_block (block_at c p)) first bytes
 unfolding block_at
-overlaid_block c block bytes out p first n b e = e ∙ rw (ne_eqb p 0 n, b)
+overlaid_block c block bytes out p first z b e = e ∙ rw (sym z, b)
 
 -- the piece that is laid over, as it is lent
 module _ (block : List ℕ) (whole : length block ≡ 512) (o : ℕ) (bytes : List ℕ) (l : ℕ) (h : 512 * l < o + length bytes) (k : o < 512 * l + 512) (q : Piece) (is : q ≡ piece_of o (length bytes) l) where
@@ -89,36 +92,36 @@ named_long : {c : List ℕ} {d : Descriptor} {m p l : ℕ} {b : List ℕ} → Wr
 named_long {p = p} r = named_by r (eqb p 0) refl
 
 -- the piece through an entry: what is lent to the write, and what it stores
-module _ (c : List ℕ) (d : Descriptor) (m p : Physical) (l o : ℕ) (bytes : List ℕ)
-    (ready : WriteReady c d m.0 p.0 l (merged (pick (eqb p.0 0) zero_block (block_at c p.0)) o bytes l)) (h : 512 * l < o + length bytes) (k : o < 512 * l + 512)
+module _ (c : List ℕ) (d : Descriptor) (slot : Slot) (l o : ℕ) (bytes : List ℕ)
+    (ready : WriteReady c d slot.table.0 slot.entry.0 l (merged (pick (eqb slot.entry.0 0) zero_block (block_at c slot.entry.0)) o bytes l)) (h : 512 * l < o + length bytes) (k : o < 512 * l + 512)
     (q : Piece) (is : q ≡ piece_of o (length bytes) l) where
   abbrev old : List ℕ
-  old = pick (eqb p.0 0) zero_block (block_at c p.0)
+  old = pick (eqb slot.entry.0 0) zero_block (block_at c slot.entry.0)
 
   abbrev lent : List ℕ
   lent = part bytes q.stands (q.stands + q.count - q.stands)
 
-  pub put_fits : (q.first + length lent ≤ 512) × ((p.0 ≡ 0 → ⊥) → 512 * p.0 + 512 ≤ length c)
+  pub put_fits : (q.first + length lent ≤ 512) × ((slot.entry.0 ≡ 0 → ⊥) → 512 * slot.entry.0 + 512 ≤ length c)
   put_fits = (piece_fits old (named_long ready) o bytes l h k q is, λ n. entry_long ready n)
 
   whole_is : q.count ≡ 512 → lent ≡ merged old o bytes l
   whole_is e = merged_whole old (named_long ready) o bytes l h k q is e
 
-  pub whole_ready : q.count ≡ 512 → WriteReady c d m.0 p.0 l lent
+  pub whole_ready : q.count ≡ 512 → WriteReady c d slot.table.0 slot.entry.0 l lent
   whole_ready e = ready_as lent (merged old o bytes l) (whole_is e) ready
 
-  pub whole_stored : q.count ≡ 512 → (card : List ℕ) → card ≡ store_all c (writing c d (Entry m p) l lent) → card ≡ store_all c (writing c d (Entry m p) l (merged old o bytes l))
-  whole_stored e card s = s ∙ ap (λ (b : List ℕ). store_all c (writing c d (Entry m p) l b)) (whole_is e)
+  pub whole_stored : q.count ≡ 512 → (card : List ℕ) → card ≡ store_all c (writing c d (entry_in slot) l lent) → card ≡ store_all c (writing c d (entry_in slot) l (merged old o bytes l))
+  whole_stored e card s = s ∙ ap (λ (b : List ℕ). store_all c (writing c d (entry_in slot) l b)) (whole_is e)
 
   module _ (block : List ℕ) (overlaid : block ≡ splice old q.first lent) where
     block_is : block ≡ merged old o bytes l
     block_is = overlaid ∙ merged_part old (named_long ready) o bytes l h k q is
 
-    pub part_ready : WriteReady c d m.0 p.0 l block
+    pub part_ready : WriteReady c d slot.table.0 slot.entry.0 l block
     part_ready = ready_as block (merged old o bytes l) block_is ready
 
-    pub part_stored : (card : List ℕ) → card ≡ store_all c (writing c d (Entry m p) l block) → card ≡ store_all c (writing c d (Entry m p) l (merged old o bytes l))
-    part_stored card s = s ∙ ap (λ (b : List ℕ). store_all c (writing c d (Entry m p) l b)) block_is
+    pub part_stored : (card : List ℕ) → card ≡ store_all c (writing c d (entry_in slot) l block) → card ≡ store_all c (writing c d (entry_in slot) l (merged old o bytes l))
+    part_stored card s = s ∙ ap (λ (b : List ℕ). store_all c (writing c d (entry_in slot) l b)) block_is
 
 -- the write of a block of the span
 module _ (c starts : List ℕ) (count : ℕ) (d : Descriptor) (l o : ℕ) (bytes : List ℕ) (ready : PieceReady c starts count d l o bytes) where
@@ -146,49 +149,55 @@ module _ (c starts : List ℕ) (count : ℕ) (d : Descriptor) (l o : ℕ) (bytes
         room = subst (λ (x : Descriptor). x.beta.0 + write_need c l ≤ block_count c) a.active ready.room;
       }
 
-  module _ (at : Located) (is : at ≡ locate c (descriptors_of c) d l) where
-    found_is : at.found ≡ found_through c d l
-    found_is = located_found c _ d l at is
+  located_is : (at : Located) → at ≡ locate c (descriptors_of c) d l → at.found ≡ found_through c d l
+  located_is at is = located_found c _ d l at is
 
-    pub never_misplaced : (h : Physical) → at.found ≡ Misplaced h → ⊥
-    unfolding is_misplaced
-    never_misplaced h e = let f : found_through c d l ≡ Misplaced h = sym found_is ∙ e in no (sym ready.placed ∙ ap is_misplaced f)
+  -- its entry is in place
+  pub piece_located : (r : Result (Slot × ℕ) MisplacedEntry) → located_as r ≡ locate c (descriptors_of c) d l → IsOk r
+  unfolding is_misplaced
+  piece_located (Ok found) is = refl
+  piece_located (Err e) is = absurd (no (sym ready.placed ∙ ap is_misplaced (sym (located_is _ is))))
 
-    need_is : (n : ℕ) → n ≡ need_by (count - 1) d.alpha.0 at.found at.owner → n ≡ write_need c l
+  module _ (slot : Slot) (owner : ℕ) (is : ◌≡◌ {A = Located} (record { found = entry_in slot; owner = owner }) (locate c (descriptors_of c) d l)) (n : ℕ) (taken : n ≡ need_by (count - 1) d.alpha.0 (entry_in slot) owner) where
+    found_entry : found_through c d l ≡ entry_in slot
+    found_entry = sym (located_is _ is)
+
+    need_is : n ≡ need d.alpha.0 (found_through c d l)
+    need_is = taken ∙ need_active c (descriptors_of c) (through_linked c starts count d t) count (through_count c starts count d t) d a.active l _ is
+
+    written_is : n ≡ write_need c l
     unfolding write_need
-    need_is n e =
-        e ∙ need_active c (descriptors_of c) (through_linked c starts count d t) count (through_count c starts count d t) d a.active l at is
-        ∙ ap (λ (x : Descriptor). need x.alpha.0 (found_through c x l)) a.active
+    written_is = need_is ∙ ap (λ (x : Descriptor). need x.alpha.0 (found_through c x l)) a.active
 
-    module _ (m p : Physical) (entry : at.found ≡ Entry m p) (n : ℕ) (taken : n ≡ need_by (count - 1) d.alpha.0 at.found at.owner) where
-      found_entry : found_through c d l ≡ Entry m p
-      found_entry = sym found_is ∙ entry
+    merged_is : merged_on c o bytes l ≡ merged (pick (eqb slot.entry.0 0) zero_block (block_at c slot.entry.0)) o bytes l
+    unfolding merged_on block_found
+    merged_is = rw (← a.active, found_entry)
 
-      merged_is : merged_on c o bytes l ≡ merged (pick (eqb p.0 0) zero_block (block_at c p.0)) o bytes l
-      unfolding merged_on block_found
-      merged_is = rw (← a.active, found_entry)
+    piece_room : d.beta.0 + n ≤ length c / 512
+    unfolding block_count
+    piece_room = omega (arith, ready.room, written_is)
 
-      pub piece_ready : WriteReady c d m.0 p.0 l (merged (pick (eqb p.0 0) zero_block (block_at c p.0)) o bytes l)
-      piece_ready = write_ready c starts count d t l _ (ap length (sym merged_is) ∙ merged_block) ready.below (found_through c d l) refl m p found_entry
+    -- what the write through it asks, and what the card is after it
+    pub piece_ready : WriteReady c d slot.table.0 slot.entry.0 l (merged (pick (eqb slot.entry.0 0) zero_block (block_at c slot.entry.0)) o bytes l) × (n ≡ need d.alpha.0 (entry_in slot)) × (d.beta.0 + n ≤ length c / 512)
+        × (512 * l < o + length bytes) × (o < 512 * l + 512) × (o + length bytes < 2 ^ 64)
+    piece_ready = (
+      write_ready c starts count d t l _ (ap length (sym merged_is) ∙ merged_block) ready.below (found_through c d l) refl slot.table slot.entry found_entry,
+      need_is ∙ ap (need d.alpha.0) found_entry,
+      piece_room,
+      ready.begins,
+      ready.ends,
+      ready.small,
+    )
 
-      pub piece_need : n ≡ need d.alpha.0 (Entry m p)
-      piece_need =
-          taken ∙ need_active c (descriptors_of c) (through_linked c starts count d t) count (through_count c starts count d t) d a.active l at is
-          ∙ ap (need d.alpha.0) found_entry
+    pub piece_small : d.beta.0 + n < 4294967296
+    piece_small = omega (arith, ready.room, written_is, card_most c a.sound.area)
 
-      pub piece_room : d.beta.0 + n ≤ length c / 512
-      unfolding block_count
-      piece_room = omega (arith, ready.room, need_is n taken)
+    pub piece_done : (card : List ℕ) → card ≡ store_all c (writing c d (entry_in slot) l (merged (pick (eqb slot.entry.0 0) zero_block (block_at c slot.entry.0)) o bytes l)) → card ≡ store_all c (write_stores c l (merged_on c o bytes l))
+    unfolding write_stores
+    piece_done card e = e ∙ rw (← a.active, found_entry, merged_is)
 
-      pub piece_small : d.beta.0 + n < 4294967296
-      piece_small = omega (arith, ready.room, need_is n taken, card_most c a.sound.area)
-
-      stores_are : store_all c (writing c d (Entry m p) l (merged (pick (eqb p.0 0) zero_block (block_at c p.0)) o bytes l)) ≡ store_all c (write_stores c l (merged_on c o bytes l))
-      unfolding write_stores
-      stores_are = rw (← a.active, found_entry, merged_is)
-
-      pub piece_done : (e : Descriptor) → e ≡ extended_of d n → (card : List ℕ) → card ≡ store_all c (writing c d (Entry m p) l (merged (pick (eqb p.0 0) zero_block (block_at c p.0)) o bytes l))
-          → (card ≡ store_all c (write_stores c l (merged_on c o bytes l))) × ActiveCard card (set starts count e.beta.0) count e
-      piece_done e is card card_is =
-          let q = card_is ∙ stores_are in
-          (q, active_after c starts count d a l (merged_on c o bytes l) piece_passed n (need_is n taken) e is card q)
+    pub piece_after : (card : List ℕ) → card ≡ store_all c (write_stores c l (merged_on c o bytes l)) → (e : Descriptor) → e ≡ extended_of d n → count ≡ length starts - 1
+        → ActiveCard card (set starts count e.beta.0) (length (set starts count e.beta.0) - 1) e
+    piece_after card card_is e is long =
+        subst (λ (k : ℕ). ActiveCard card (set starts count e.beta.0) k e) (omega (arith, long, length-set starts count e.beta.0))
+        (active_after c starts count d a l (merged_on c o bytes l) piece_passed n written_is e is card card_is)

@@ -1,26 +1,26 @@
 -- What a block of a span takes, as the code counts it.
 use mathlib.Core.Path.{◌≡◌, refl, sym, ap, ◌∙◌, subst}
 use mathlib.Core.Bool.{Bool, true, false, ◌||◌}
-use mathlib.Core.List.{List}
-use Prim.Native.Nat.{ℕ, suc, ◌+◌, ◌/◌, ◌%◌, ◌≤◌, ◌<◌, min}
+use mathlib.Core.List.{List, map}
+use Prim.Native.Nat.{ℕ, zero, suc, ◌+◌, ◌*◌, ◌/◌, ◌%◌, ◌≤◌, ◌<◌, min}
 use native.Mathlib.Omega.{arith}
 use lib.Dec.{eqb}
 use borrow.Author.Tests.{eq-eqb, ne_eqb}
+use Rattle.std.specs.List.{sum, range_with_len}
+use Rattle.std.proofs.lemmas.List.FromFn.{sum_by-map-range_with_len_more}
 use Rattle.blocks.specs.Pick.{pick}
+use Rattle.pieces.specs.Span.{span_block}
 use Rattle.blocks.specs.declared.descriptor.Descriptor.{Descriptor}
 use Rattle.blocks.proofs.BoolLaws.{no}
 use Rattle.chains.specs.Chain.{active_of}
 use Rattle.entries.specs.Entry.{need}
-use Rattle.entries.specs.declared.find.Found.{Found}
+use Rattle.entries.specs.Found.{Found}
 use Rattle.entries.proofs.EntryLaws.{need_most}
 use Rattle.calls.specs.Parts.{descriptors_of, found_through, is_misplaced}
 use Rattle.calls.specs.Check.{Passes}
 use Rattle.calls.specs.Stores.{write_need}
 use Rattle.calls.proofs.CellLaws.{active_placed}
 use Rattle.spanwriting.specs.Planned.{counted_at, planned_need}
-
-least_one : (n : ℕ) → n ≤ 2 → (n ≡ 2 → ⊥) → n ≡ min n 1
-least_one n h z = omega arith
 
 -- the entry of a block of the volume is in place, on a card that passes
 pub in_place : (c : List ℕ) → Passes c → (d : Descriptor) → d ≡ active_of (descriptors_of c) → (l : ℕ) → l < d.volume → is_misplaced (found_through c d l) ≡ false
@@ -35,10 +35,6 @@ module _ (c : List ℕ) (d : Descriptor) (active : d ≡ active_of (descriptors_
   unfolding write_need
   counts = taken ∙ ap (need d.alpha.0) is ∙ ap (λ (x : Descriptor). need x.alpha.0 (found_through c x l)) active
 
-  pub counts_most : n ≤ 2
-  unfolding write_need
-  counts_most = omega (arith, counts, need_most (active_of (descriptors_of c)).alpha.0 (found_through c (active_of (descriptors_of c)) l))
-
   pub counted_first : i ≡ 0 → n ≡ counted_at c o i
   unfolding counted_at
   counted_first z = counts ∙ rw (eq-eqb i 0 z)
@@ -52,21 +48,32 @@ module _ (c : List ℕ) (d : Descriptor) (active : d ≡ active_of (descriptors_
   unfolding counted_at
   counted_group z = counts ∙ group_by (eqb (l % 128) 0) (eq-eqb (l % 128) 0 z) (eqb i 0) (write_need c l) (min (write_need c l) 1)
 
-  pub counted_two : (i ≡ 0 → ⊥) → (l % 128 ≡ 0 → ⊥) → n ≡ 2 → 1 ≡ counted_at c o i
+  pub counted_later : (i ≡ 0 → ⊥) → (l % 128 ≡ 0 → ⊥) → min n 1 ≡ counted_at c o i
   unfolding counted_at
-  counted_two z g e = rw (ne_eqb i 0 z, ne_eqb (l % 128) 0 g, ← counts, e)
+  counted_later z g = rw (ne_eqb i 0 z, ne_eqb (l % 128) 0 g, ← counts)
 
-  pub counted_one : (i ≡ 0 → ⊥) → (l % 128 ≡ 0 → ⊥) → (n ≡ 2 → ⊥) → n ≡ counted_at c o i
-  unfolding counted_at
-  counted_one z g e = rw (ne_eqb i 0 z, ne_eqb (l % 128) 0 g, ← counts) (least_one n counts_most e)
-
-pub planned_none : (c : List ℕ) (o : ℕ) → 0 ≡ planned_need c o 0
+-- the sum over the first n blocks, and how large it is at most
+pub planned_sum : (c : List ℕ) (o n : ℕ) → sum (map (counted_at c o) (range_with_len 0 n)) ≡ planned_need c o n
 unfolding planned_need
-planned_none c o = refl
+planned_sum c o zero = refl
+planned_sum c o (suc n) =
+    let e : suc n ≡ n + 1 = omega arith in
+    ap (λ (k : ℕ). sum (map (counted_at c o) (range_with_len 0 k))) e
+    ∙ sum_by-map-range_with_len_more (λ x. x) (counted_at c o) 0 n n (omega arith)
+    ∙ ap (λ (k : ℕ). k + counted_at c o n) (planned_sum c o n)
 
-pub planned_more : (c : List ℕ) (o i n total : ℕ) → total ≡ planned_need c o i → n ≡ counted_at c o i → total + n ≡ planned_need c o (i + 1)
+most_by : (b : Bool) (n : ℕ) → n ≤ 2 → pick b n (min n 1) ≤ 2
+most_by true n h = h
+most_by false n h = omega (arith, h)
+
+counted_most : (c : List ℕ) (o i : ℕ) → counted_at c o i ≤ 2
+unfolding counted_at write_need
+counted_most c o i =
+    let l = span_block o i in
+    let d = active_of (descriptors_of c) in
+    most_by (eqb i 0 || eqb (l % 128) 0) (need d.alpha.0 (found_through c d l)) (need_most d.alpha.0 (found_through c d l))
+
+pub planned_most : (c : List ℕ) (o n : ℕ) → planned_need c o n ≤ 2 * n
 unfolding planned_need
-planned_more c o i n total e h = let f : i + 1 ≡ suc i = omega arith in rw (f, e, h)
-
-pub planned_all : (c : List ℕ) (o i blocks total : ℕ) → i ≤ blocks → blocks ≤ i → total ≡ planned_need c o i → total ≡ planned_need c o blocks
-planned_all c o i blocks total a b e = let f : i ≡ blocks = omega arith in e ∙ rw f
+planned_most c o zero = omega arith
+planned_most c o (suc n) = omega (arith, planned_most c o n, counted_most c o n)

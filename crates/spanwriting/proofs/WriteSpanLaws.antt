@@ -13,9 +13,8 @@ use Rattle.blocks.specs.declared.descriptor.Descriptor.{Descriptor}
 use Rattle.pieces.specs.Span.{touched}
 use Rattle.pieces.proofs.SpanLaws.{past_upto}
 use Rattle.chains.specs.Chain.{chain, chain_sound, active_of, Regions, regions_of, walk_of}
-use Rattle.chains.specs.declared.chain.Walk.{Walk}
-use Rattle.entries.specs.declared.check.Verdict.{Verdict}
-use Rattle.entries.specs.declared.check.Verdict.TheVariants.{Passed, Fault}
+use Rattle.chains.specs.Chain.{Walk}
+use Rattle.entries.specs.Found.{Verdict, Passed, Fault}
 use Rattle.calls.specs.Call.{Call, SpanWrite, Block, answer, accepted}
 use Rattle.calls.specs.Parts.{area_bad, descriptors_of, SoundCard}
 use Rattle.calls.specs.Check.{check_card, is_fault, fault_holder, Passes}
@@ -30,9 +29,9 @@ use Rattle.claims.proofs.CheckClaims.{faultless_passes}
 use Rattle.spanwriting.specs.Planned.{planned_need, ActiveCard, SpanReady}
 use Rattle.spanwriting.proofs.PlannedLaws.{planned_room}
 
-pub span_6 : (c : List ℕ) (o : ℕ) (bytes : List ℕ) → area_bad c ≡ false → (w : Walk) → w ≡ walk_of (chain c) → not w.sound ≡ true → done (answer 6 w.place.0) (Block bytes) c ≡ step (SpanWrite o bytes) c
-unfolding answer_of rows_of span_write_rows lent_of
-span_6 c o bytes area w walked h = step_refused (SpanWrite o bytes) c 6 w.place.0 (card_admitted c area _ ∙ chain_given _ c w walked h) refl
+pub span_6 : (c : List ℕ) (o : ℕ) (bytes : List ℕ) → area_bad c ≡ false → (w : Walk) → w ≡ walk_of (chain c) → not w.sound ≡ true → answer_of (SpanWrite o bytes) c ≡ answer 6 w.place.0
+unfolding answer_of rows_of span_write_rows
+span_6 c o bytes area w walked h = card_admitted c area _ ∙ chain_given _ c w walked h
 
 -- the descriptor in the last start is the active one
 pub active_card : (c : List ℕ) (count : ℕ) (starts : List ℕ) → SoundCard c count starts → (d : Descriptor) → d ≡ descriptor_at c (get_or starts (count - 1) 0) → ActiveCard c starts count d
@@ -70,9 +69,9 @@ module _ (c : List ℕ) (o : ℕ) (bytes : List ℕ) (count : ℕ) (starts : Lis
     volume_is : ltb (512 * (active_of (descriptors_of c)).volume) (o + length bytes) ≡ b
     volume_is = ap (λ (x : Descriptor). ltb (512 * x.volume) (o + length bytes)) (sym active_is) ∙ sym tested
 
-    pub span_16 : b ≡ true → done (answer 16 0) (Block bytes) c ≡ step call c
-    unfolding lent_of span_write_rows
-    span_16 e = step_refused call c 16 0 (past ∙ row_given (span_row c o (length bytes)) (drop 2 (span_write_rows c o bytes)) (volume_is ∙ e)) refl
+    pub span_16 : b ≡ true → answer_of call c ≡ answer 16 0
+    unfolding span_write_rows
+    span_16 e = past ∙ row_given (span_row c o (length bytes)) (drop 2 (span_write_rows c o bytes)) (volume_is ∙ e)
 
     module _ (ends : b ≡ false) where
       upto : o + length bytes ≤ 512 * d.volume
@@ -83,11 +82,11 @@ module _ (c : List ℕ) (o : ℕ) (bytes : List ℕ) (count : ℕ) (starts : Lis
       to_check = past ∙ row_passed (span_row c o (length bytes)) (drop 2 (span_write_rows c o bytes)) (volume_is ∙ ends)
 
       module _ (v : Verdict) (is : v ≡ check_card c) where
-        pub span_10 : (h : Physical) → v ≡ Fault h → done (answer 10 h.0) (Block bytes) c ≡ step call c
-        unfolding lent_of span_write_rows is_fault fault_holder
+        pub span_10 : (h : Physical) → v ≡ Fault h → answer_of call c ≡ answer 10 h.0
+        unfolding span_write_rows is_fault fault_holder
         span_10 h e =
             let f : check_card c ≡ Fault h = sym is ∙ e in
-            step_refused call c 10 h.0 (to_check ∙ row_given (fault_row c) (drop 3 (span_write_rows c o bytes)) (ap is_fault f) ∙ ap (λ (x : Verdict). answer 10 (fault_holder x)) f) refl
+            to_check ∙ row_given (fault_row c) (drop 3 (span_write_rows c o bytes)) (ap is_fault f) ∙ ap (λ (x : Verdict). answer 10 (fault_holder x)) f
 
         module _ (passed : v ≡ Passed) where
           faultless : is_fault (check_card c) ≡ false
@@ -110,9 +109,9 @@ module _ (c : List ℕ) (o : ℕ) (bytes : List ℕ) (count : ℕ) (starts : Lis
                 planned_room c passes o bytes (subst (λ (x : Descriptor). o + length bytes ≤ 512 * x.volume) active_is upto) n (planned ∙ ap (planned_need c o) counted)
                 ∙ ap (λ (x : Descriptor). ltb (block_count c) (x.beta.0 + n)) (sym active_is)
 
-            pub span_11 : length c / 512 < d.beta.0 + n → done (answer 11 0) (Block bytes) c ≡ step call c
-            unfolding lent_of block_count
-            span_11 h = step_refused call c 11 0 (to_room ∙ row_given _ _ (room_is ∙ lt-ltb (length c / 512) (d.beta.0 + n) h)) refl
+            pub span_11 : length c / 512 < d.beta.0 + n → answer_of call c ≡ answer 11 0
+            unfolding block_count
+            span_11 h = to_room ∙ row_given _ _ (room_is ∙ lt-ltb (length c / 512) (d.beta.0 + n) h)
 
             module _ (fits : d.beta.0 + n ≤ length c / 512) where
               roomy : wants (write_span_need c o bytes) ≡ false
@@ -128,6 +127,11 @@ module _ (c : List ℕ) (o : ℕ) (bytes : List ℕ) (count : ℕ) (starts : Lis
                     room = subst (λ (x : Descriptor). x.beta.0 + write_span_need c o bytes ≤ block_count c) (sym active_is) (ltb-false (block_count c) _ roomy);
                   }
 
-              pub span_0 : (card : List ℕ) → card ≡ store_all c (write_span_stores c o bytes) → done accepted (Block bytes) card ≡ step call c
-              unfolding filled_of stores_of given_of span_write_rows
-              span_0 card e = step_accepted call c (to_room ∙ last_passed (row (wants (write_span_need c o bytes)) 11 0) roomy) (Block bytes) refl card e refl
+              pub span_0 : answer_of call c ≡ accepted
+              unfolding span_write_rows
+              span_0 = to_room ∙ last_passed (row (wants (write_span_need c o bytes)) 11 0) roomy
+
+-- what is done once they are passed
+pub span_done : (c : List ℕ) (o : ℕ) (bytes : List ℕ) → accepted ≡ answer_of (SpanWrite o bytes) c → (card : List ℕ) → card ≡ store_all c (write_span_stores c o bytes) → done accepted (Block bytes) card ≡ step (SpanWrite o bytes) c
+unfolding filled_of stores_of given_of
+span_done c o bytes ok card e = step_accepted (SpanWrite o bytes) c (sym ok) (Block bytes) refl card e refl

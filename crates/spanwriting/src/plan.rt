@@ -14,23 +14,16 @@ use needing::need;
 // before takes nothing, its table block is there already, since on a card that passes an entry at or above alpha has its table block at or above alpha.
 fn block_need(card: &[u8], d: Descriptor, offset: usize, i: usize) -> u32
     requires { ((starts : List ℕ) × (count : ℕ) × ActiveCard card.now starts count d) × Passes card.now × (offset / block_size + i < d.volume) }
-    ensures value { result ≡ counted_at card.now offset i }
-    ensures upper_bound { result ≤ 2 }
+    ensures { result ≡ counted_at card.now offset i }
 {
-    let alpha = d.alpha;
     let l = (offset / BLOCK_SIZE + i) as u32;
-    let found = find::entry_of(card, d, Logical(l));
-    let taken = need::need_of(alpha, found);
-    if i == 0 {
-        return taken;
+    let slot = find::entry_of(card, d, Logical(l));
+    let taken = need::need_of(d.alpha, Ok(slot));
+    if i == 0 || l % TABLE_SIZE == 0 {
+        taken
+    } else {
+        taken.min(1)
     }
-    if l % TABLE_SIZE == 0 {
-        return taken;
-    }
-    if taken == 2 {
-        return 1;
-    }
-    taken
 }
 
 // What the first `blocks` blocks of the span take.
@@ -39,12 +32,7 @@ pub fn span_need(card: &[u8], d: Descriptor, offset: usize, blocks: usize) -> us
     ensures value { result ≡ planned_need card.now offset blocks }
     ensures upper_bound { result ≤ 2 * blocks }
 {
-    let mut total: usize = 0;
-    let mut i = 0;
-    while i < blocks {
-        let taken = block_need(card, d, offset, i);
-        total += taken as usize;
-        i += 1;
-    }
-    total
+    (0..blocks)
+        .map(|i| block_need(card, d, offset, i) as usize)
+        .sum()
 }

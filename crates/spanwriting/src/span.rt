@@ -1,108 +1,92 @@
 // A write of a span of bytes to the active store.
-ghost use Rattle.std.specs.Prelude.{◌≡◌, false};
+ghost use Rattle.std.specs.Prelude.{◌≡◌, false, ◌-◌, length, replicate, IfOk};
 ghost use Rattle.blocks.specs.Bytes.{store_all};
-ghost use Rattle.chains.specs.Walk.{Enough, places_left};
-ghost use Rattle.calls.specs.Call.{SpanWrite, Block};
-ghost use Rattle.calls.specs.Parts.{area_bad, SoundCard};
+ghost use Rattle.chains.specs.Walk.{Enough};
+ghost use Rattle.calls.specs.Call.{SpanWrite, Block, answered};
+ghost use Rattle.calls.specs.Parts.{area_bad};
 ghost use Rattle.calls.specs.Spans.{write_span_stores};
+ghost use Rattle.calls.specs.Meaning.{answer_of};
 ghost use Rattle.calls.specs.Step.{step, done};
-ghost use Rattle.spanwriting.specs.Planned.{ActiveCard, SpanReady};
+ghost use Rattle.spanwriting.specs.Planned.{SpanReady};
 
 use crate::{piece, plan};
 use admitting::area;
-use blocks::descriptor;
 use blocks::descriptor::Descriptor;
-use blocks::numbers::Physical;
+use blocks::numbers::Logical;
 use blocks::sizes::{BLOCK_SIZE, FEW_STARTS, STARTS_SIZE};
-use calls::answer;
-use calls::answer::Answer;
+use calls::answer::Refusal;
+use calls::chain::Chain;
 use checking::check;
-use entries::check::Verdict;
 use pieces::piece as pieces_of;
 use walking::chain;
+
+// The active descriptor, where the span may be written through it: the tests that follow that of the chain.
+fn admit_span(chain: Chain, offset: u64, bytes: &[u8]) -> Result<Descriptor, Refusal>
+    requires { area_bad chain.card.now ≡ false }
+    ensures answer { answered result ≡ answer_of (SpanWrite offset bytes.now) chain.entry.card.now }
+    ensures ready { IfOk result (λ d. SpanReady chain.entry.card.now chain.entry.starts.now (length chain.entry.starts.now - 1) d offset bytes.now) }
+{
+    let d = chain.active();
+    if pieces_of::is_past(d.volume, offset, bytes.len()) {
+        return Err(Refusal::PastTheEnd);
+    }
+    check::check_regions(chain)?;
+    let at = offset as usize;
+    let taken = plan::span_need(
+        chain.card,
+        d,
+        at,
+        pieces_of::blocks_touched(at, bytes.len()),
+    );
+    if chain.card.len() / BLOCK_SIZE < (d.beta.0 as usize) + taken {
+        return Err(Refusal::NoRoom);
+    }
+    Ok(d)
+}
 
 // Writes the blocks of a span one after the other, rising, once all tests are done.
 fn write_blocks(
     card: &mut [u8],
     starts: &mut [u32],
-    count: usize,
     active: Descriptor,
     offset: usize,
     bytes: &[u8],
 )
-    requires { SpanReady card.old starts.old count active offset bytes.now }
+    requires { SpanReady card.old starts.old (length starts.old - 1) active offset bytes.now }
     ensures { card.new ≡ store_all card.old (write_span_stores card.old offset bytes.now) }
 {
     let first = offset / BLOCK_SIZE;
-    let blocks = pieces_of::blocks_touched(offset, bytes.len());
     let mut d = active;
-    let mut i = 0;
-    while i < blocks {
-        d = piece::write_piece(card, starts, count, d, first + i, offset, bytes);
-        i += 1;
+    for i in 0..pieces_of::blocks_touched(offset, bytes.len()) {
+        d = piece::write_piece(card, starts, d, Logical((first + i) as u32), offset, bytes);
     }
 }
 
-// Writes a span on a card with a sound chain: the tests that follow that of the chain, and then the blocks.
-fn write_through(
-    card: &mut [u8],
-    starts: &mut [u32],
-    count: usize,
-    offset: u64,
-    bytes: &[u8],
-) -> Answer
-    requires { SoundCard card.old count starts.old }
-    ensures { done result (Block bytes.now) card.new ≡ step (SpanWrite offset bytes.now) card.old }
+// Writes a span where the chain is walked with so many places: the tests from that of the chain on, and then the blocks.
+fn write_in<const PLACES: usize>(card: &mut [u8], offset: u64, bytes: &[u8]) -> Result<(), Refusal>
+    requires { (area_bad card.old ≡ false) × Enough card.old (replicate PLACES 0) }
+    ensures { done (answered result) (Block bytes.now) card.new ≡ step (SpanWrite offset bytes.now) card.old }
 {
-    let start = starts[count - 1];
-    let d = descriptor::read_descriptor(&*card, Physical(start));
-    if pieces_of::is_past(d.volume, offset, bytes.len()) {
-        return answer::PAST_THE_END;
-    }
-    let v = check::check_regions(&*card, &*starts, count);
-    if let Verdict::Fault(h) = v {
-        return Answer {
-            number: 10,
-            place: h.0,
-        };
-    }
-    let at = offset as usize;
-    let blocks = pieces_of::blocks_touched(at, bytes.len());
-    let taken = plan::span_need(&*card, d, at, blocks);
-    let beta = d.beta.0;
-    if card.len() / BLOCK_SIZE < (beta as usize) + taken {
-        return answer::NO_ROOM;
-    }
-    write_blocks(card, starts, count, d, at, bytes);
-    answer::ACCEPTED
+    let mut places = [0u32; PLACES];
+    let count = chain::walk_chain(&*card, &mut places)?;
+    let starts = &mut places[..count + 1];
+    let chain = Chain {
+        card: &*card,
+        starts: &*starts,
+    };
+    let d = admit_span(chain, offset, bytes)?;
+    write_blocks(card, starts, d, offset as usize, bytes);
+    Ok(())
 }
 
-// Writes a span with enough lent places for the walk: the tests from that of the chain on.
-fn write_with(card: &mut [u8], starts: &mut [u32], offset: u64, bytes: &[u8]) -> Answer
-    requires { (area_bad card.old ≡ false) × Enough card.old starts.old }
-    ensures { done result (Block bytes.now) card.new ≡ step (SpanWrite offset bytes.now) card.old }
+// Writes all the bytes that are lent to the active store from `offset` on, or refuses them all. A short chain is walked with few places.
+pub fn write_span(card: &mut [u8], offset: u64, bytes: &[u8]) -> Result<(), Refusal>
+    ensures { done (answered result) (Block bytes.now) card.new ≡ step (SpanWrite offset bytes.now) card.old }
 {
-    let found = chain::walk_chain(&*card, starts);
-    if !found.sound {
-        let place = found.place.0;
-        return Answer { number: 6, place };
+    area::admit(card)?;
+    if chain::is_short(card) {
+        write_in::<FEW_STARTS>(card, offset, bytes)
+    } else {
+        write_in::<STARTS_SIZE>(card, offset, bytes)
     }
-    let count = found.count;
-    write_through(card, &mut starts[..count + 1], count, offset, bytes)
-}
-
-// Writes all the bytes that are lent to the active store from `offset` on, or refuses them all.
-pub fn write_span(card: &mut [u8], offset: u64, bytes: &[u8]) -> Answer
-    ensures { done result (Block bytes.now) card.new ≡ step (SpanWrite offset bytes.now) card.old }
-{
-    let admitted = area::admit(card);
-    if admitted.number != 0 {
-        return admitted;
-    }
-    if !chain::is_short(card) {
-        let mut starts = [0u32; STARTS_SIZE];
-        return write_with(card, &mut starts, offset, bytes);
-    }
-    let mut starts = [0u32; FEW_STARTS];
-    write_with(card, &mut starts, offset, bytes)
 }

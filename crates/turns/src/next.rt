@@ -1,60 +1,38 @@
 // One turn of the sheet program: the next line, cut, run and printed.
-ghost use Rattle.std.specs.Prelude.{◌≡◌, ◌*◌, ◌≤◌, ◌<◌, length, replicate};
-ghost use Rattle.blocks.specs.Bytes.{block_size, splice};
-ghost use Rattle.calls.specs.Effect.{no_record};
-ghost use Rattle.calls.specs.Listing.{sheet_records};
-ghost use Rattle.cutter.specs.Grammar.{sheet_blocks};
-ghost use Rattle.sheet.specs.Sheet.{line_room, turn_of};
+ghost use Rattle.std.specs.Prelude.{◌≡◌, ◌≤◌, ◌<◌, length};
+ghost use Rattle.printing.specs.Text.{line_room};
+ghost use Rattle.sheet.specs.Sheet.{turn_of};
 
 use answers::print;
-use blocks::numbers::Physical;
-use blocks::sizes::NAME_SIZE;
-use calls::answer::Record;
-use calls::list::SHEET_RECORDS;
 use cutting::line;
 use lines::run;
-use sheet::next::Turn;
+use printing::text::FixedText;
+use sheet::state::Sheet;
 
-// The records of a sheet at its start.
-pub fn no_records() -> [Record; SHEET_RECORDS]
-    ensures { result ≡ replicate sheet_records no_record }
-{
-    let none = Record {
-        name: [0u8; NAME_SIZE],
-        alpha: Physical(0),
-        beta: Physical(0),
-        next: Physical(0),
-    };
-    [none; SHEET_RECORDS]
+// What a turn leaves besides the sheet and what it prints: where the next line starts, and whether the sheet ends.
+#[derive(Clone, Copy)]
+pub struct Turn {
+    pub next: usize,
+    pub ended: bool,
 }
 
-// Runs the line of the number that starts at `at`; what it prints stands at the start of `out`.
-pub fn run_next(
-    sheet: &[u8],
+// Runs the line of the number that starts at byte `at` of the lines; what it prints is all that `out` holds then.
+pub fn run_next<const N: usize>(
+    lines: &[u8],
     at: usize,
     number: u32,
-    area: &mut [u8],
-    blocks: u32,
-    records: [Record; SHEET_RECORDS],
-    out: &mut [u8],
+    sheet: &mut Sheet,
+    out: &mut FixedText<N>,
 ) -> Turn
-    requires { (at < length sheet.now) × (length area.old ≡ block_size * sheet_blocks) × (blocks ≤ sheet_blocks) × (line_room ≤ length out.old) }
-    ensures value { (result ≡ (turn_of (record { area = area.old; blocks = blocks; records = records }) number sheet.now at).turn) × (area.new ≡ (turn_of (record { area = area.old; blocks = blocks; records = records }) number sheet.now at).area) × (out.new ≡ splice out.old 0 (turn_of (record { area = area.old; blocks = blocks; records = records }) number sheet.now at).text) }
-    ensures at_lt_next { (at < result.next) × (result.next ≤ length sheet.now) × (result.length ≤ line_room) × (result.blocks ≤ sheet_blocks) }
+    requires { (at < length lines.now) × (line_room ≤ N) }
+    ensures value { (record { next = result.next; length = length out.new; blocks = sheet.new.blocks; records = sheet.new.records; ended = result.ended } ≡ (turn_of sheet.old number lines.now at).turn) × (sheet.new.area ≡ (turn_of sheet.old number lines.now at).area) × (out.new ≡ (turn_of sheet.old number lines.now at).text) }
+    ensures at_lt_next { (at < result.next) × (result.next ≤ length lines.now) × (length out.new ≤ line_room) }
 {
-    let cut = line::cut_next(sheet, at);
-    let l = cut.line;
-    let next = cut.next;
-    let ran = run::run_line(area, blocks, records, number, l);
-    let size = ran.blocks;
-    let kept = ran.records;
-    let ended = ran.ended;
-    let length = print::print_ran(out, ran);
+    let cut = line::cut_next(lines, at);
+    let outcome = run::run_line(sheet, number, cut.call);
+    print::print_line(out, outcome, &sheet.records);
     Turn {
-        next,
-        length,
-        blocks: size,
-        records: kept,
-        ended,
+        next: cut.next,
+        ended: cut.call.is_none(),
     }
 }

@@ -3,8 +3,7 @@
 use Rattle.std.specs.Prelude.{List, [], ◌∷◌, ◌++◌, replicate}
 use Rattle.blocks.specs.Bytes.{zero_block}
 use Rattle.blocks.specs.Name.{no_name}
-use Rattle.calls.specs.declared.answer.Target.TheVariants.{Active}
-use Rattle.calls.specs.Call.{Visit, Write, Revert, Check}
+use Rattle.calls.specs.Call.{Active, Visit, Write, Revert, Check}
 use Rattle.calls.specs.Step.{step}
 use Rattle.claims.specs.Bench.{Value, Differs, area, ones, fs, mon, tue}
 use Rattle.samples.specs.Samples.{wed, long, descriptor, phi_of, table, snapped, shared4, visits, visits1, one_block, dated, dated1, only, visiting, visiting_from, naming, naming_none}

@@ -4,30 +4,26 @@
 ghost use Rattle.std.specs.Prelude.{◌≤◌, length};
 
 use answers::print;
-use cutter::line::SHEET_BLOCKS;
+use printing::text::Text;
+use sheet::state::Sheet;
 use std::io::{Read, Write};
 use turns::next;
 
 // The most bytes of a sheet; one more is read, which tells a longer one.
 const MOST_SHEET: usize = 16384;
 
-const INPUT_SIZE: usize = 16385;
-
-// Bytes of the blocks that a sheet owns, and bytes for what one line prints.
-const AREA_SIZE: usize = 32768;
-
-const OUT_SIZE: usize = 8192;
+const INPUT_SIZE: usize = MOST_SHEET + 1;
 
 // Reads until `buf` is full, the input ends or a read fails, and returns how many bytes it put at the start of `buf`.
 fn read_full<R: Read>(from: &mut R, buf: &mut [u8]) -> usize
     ensures { result ≤ length buf.new }
 {
     let mut done = 0;
+    // no `for`: how many bytes a read brings is known after it
     while done < buf.len() {
         match from.read(&mut buf[done..]) {
-            Ok(0) => break,
+            Ok(0) | Err(_) => break,
             Ok(n) => done += n,
-            Err(_) => break,
         }
     }
     done
@@ -35,40 +31,26 @@ fn read_full<R: Read>(from: &mut R, buf: &mut [u8]) -> usize
 
 fn main(rt: HostRuntime) {
     let mut stdout = rt.stdout();
-    let mut input = [0u8; INPUT_SIZE];
-    let mut out = [0u8; OUT_SIZE];
+    let mut out = Text::new();
+    let mut input = [0; INPUT_SIZE];
     let got = read_full(&mut rt.stdin(), &mut input);
     if MOST_SHEET < got {
-        let n = print::print_too_long(&mut out);
-        let _ = stdout.write_all(&out[..n]);
+        print::print_too_long(&mut out);
+        let _ = stdout.write_all(out.as_bytes());
         return;
     }
-    let mut area = [0u8; AREA_SIZE];
-    let mut records = next::no_records();
-    let mut blocks = SHEET_BLOCKS;
-    let mut number: u32 = 1;
+    let lines = &input[..got];
+    let mut sheet = Sheet::new();
     let mut at = 0;
-    while at < got {
-        let turn = next::run_next(
-            &input[..got],
-            at,
-            number,
-            &mut area,
-            blocks,
-            records,
-            &mut out,
-        );
-        let n = turn.length;
-        // nothing is kept back: what a line prints is written before the next line runs
-        if stdout.write_all(&out[..n]).is_err() {
+    for number in 1.. {
+        if lines.len() <= at {
             return;
         }
-        if turn.ended {
+        let turn = next::run_next(lines, at, number, &mut sheet, &mut out);
+        // nothing is kept back: what a line prints is written before the next line runs
+        if stdout.write_all(out.as_bytes()).is_err() || turn.ended {
             return;
         }
         at = turn.next;
-        blocks = turn.blocks;
-        records = turn.records;
-        number += 1;
     }
 }

@@ -1,22 +1,19 @@
 -- `put_added_byte` meets its contract, case by case.
-use mathlib.Core.Path.{◌≡◌}
-use native.Mathlib.Omega.{arith}
+use Rattle.std.proofs.Common.{◌≡◌, [], ℕ, sym, refl, append-nil, arith}
+use Rattle.sheet.specs.declared.run.Addition.{Addition}
 use Rattle.sheet.specs.declared.run.Addition.TheVariants.{Nothing, Byte, FirstRecords}
 use Rattle.sheet.specs.Sheet.{added_byte}
-use Rattle.sheet.proofs.PrintLaws.{byte_put}
 use Rattle.answers.proofs.print.put_added_byte.Goals as goal
 
-pub returns-in-Byte : goal.returns-in-Byte
+no_byte : (x : Addition) → ((b : ℕ) → x ≡ Byte b → ⊥) → added_byte x ≡ []
 unfolding added_byte
-returns-in-Byte c = let e : c.args.addition ≡ Byte c.in-Byte.b = cc in
-    record { value = byte_put _ _ _ _ _ _ e c.put_byte.ensures.value; upper_bound = omega (arith, c.put_byte.ensures.upper_bound) }
+no_byte Nothing h = refl
+no_byte (Byte b) h = absurd (h b refl)
+no_byte (FirstRecords n) h = refl
 
-pub returns-in-Nothing : goal.returns-in-Nothing
+pub returns-in-Byte-clause-value : goal.returns-in-Byte-clause-value
 unfolding added_byte
-returns-in-Nothing c = let e : c.args.addition ≡ Nothing = cc in
-    record { value = byte_put _ _ _ _ _ _ e c.put_text.ensures; upper_bound = omega (arith, c.put_text.ensures.0) }
+returns-in-Byte-clause-value g c = rw c.in-Byte.is c.put_byte.ensures.value
 
-pub returns-in-FirstRecords : goal.returns-in-FirstRecords
-unfolding added_byte
-returns-in-FirstRecords c = let e : c.args.addition ≡ FirstRecords c.in-FirstRecords.field-0 = cc in
-    record { value = byte_put _ _ _ _ _ _ e c.put_text-in-FirstRecords.ensures; upper_bound = omega (arith, c.put_text-in-FirstRecords.ensures.0) }
+pub returns-in_default : goal.returns-in_default
+returns-in_default g c = record { value = rw (no_byte c.args.addition c.in_default.not-Byte) (sym (append-nil _)); upper_bound = omega arith }

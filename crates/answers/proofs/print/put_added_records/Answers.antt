@@ -1,32 +1,30 @@
 -- `put_added_records` meets its contract, case by case.
-use mathlib.Core.Path.{◌≡◌, subst}
-use Prim.Native.Nat.{◌≤◌}
-use native.Mathlib.Omega.{arith}
+use Rattle.std.proofs.Common.{◌≡◌, List, [], ℕ, ◌≤◌, length, sym, refl, subst, append-nil, arith}
+use lib.Seq.{length-take-le}
+use Rattle.calls.specs.declared.answer.Record.{Record}
 use Rattle.sheet.specs.declared.run.Addition.{Addition}
 use Rattle.sheet.specs.declared.run.Addition.TheVariants.{Nothing, Byte, FirstRecords}
 use Rattle.sheet.specs.Sheet.{count_of, added_records}
-use Rattle.sheet.proofs.PrintLaws.{records_put}
+use Rattle.answers.proofs.print.put_added_records.Given.{Over}
 use Rattle.answers.proofs.print.put_added_records.Goals as goal
+use Rattle.answers.proofs.print.put_added_records.Goals.{In-FirstRecords}
 
-pub put_records_text-requires : goal.put_records_text-requires
+no_records : (x : Addition) (records : List Record) → ((n : ℕ) → x ≡ FirstRecords n → ⊥) → added_records x records ≡ []
+unfolding added_records
+no_records Nothing records h = refl
+no_records (Byte b) records h = refl
+no_records (FirstRecords n) records h = absurd (h n refl)
+
+within : (g : Over) (c : In-FirstRecords g) → c.in-FirstRecords.n ≤ length c.args.records.now
 unfolding count_of
-put_records_text-requires c =
-    let e : c.args.addition ≡ FirstRecords c.in-FirstRecords.n = cc in
-    let h = subst (λ (x : Addition). count_of x ≤ 64) e c.requires.1 in
-    (h, omega (arith, h, c.requires.0))
+within g c = subst (λ (x : Addition). count_of x ≤ length c.args.records.now) c.in-FirstRecords.is c.requires.1
 
-pub returns-in-FirstRecords : goal.returns-in-FirstRecords
-unfolding added_records count_of
-returns-in-FirstRecords c = let e : c.args.addition ≡ FirstRecords c.in-FirstRecords.n = cc in
-    let h = subst (λ (x : Addition). count_of x ≤ 64) e c.requires.1 in
-    record { value = records_put _ _ _ _ _ _ _ e c.put_records_text.ensures.value; upper_bound = omega (arith, c.put_records_text.ensures.upper_bound, h) }
+pub slice_bounds-put_records-end : goal.slice_bounds-put_records-end
+slice_bounds-put_records-end g c = sym (length-take-le _ _ (within g (goal.at.slice_bounds-put_records-end g c).In-FirstRecords))
 
-pub returns-in-Nothing : goal.returns-in-Nothing
+pub returns-in-FirstRecords-clause-value : goal.returns-in-FirstRecords-clause-value
 unfolding added_records
-returns-in-Nothing c = let e : c.args.addition ≡ Nothing = cc in
-    record { value = records_put _ _ _ _ _ _ c.args.records e c.put_text.ensures; upper_bound = omega (arith, c.put_text.ensures.0) }
+returns-in-FirstRecords-clause-value g c = rw c.in-FirstRecords.is c.put_records.ensures.value
 
-pub returns-in-Byte : goal.returns-in-Byte
-unfolding added_records
-returns-in-Byte c = let e : c.args.addition ≡ Byte c.in-Byte.field-0 = cc in
-    record { value = records_put _ _ _ _ _ _ c.args.records e c.put_text-in-Byte.ensures; upper_bound = omega (arith, c.put_text-in-Byte.ensures.0) }
+pub returns-in_default : goal.returns-in_default
+returns-in_default g c = record { value = rw (no_records c.args.addition c.args.records.now c.in_default.not-FirstRecords) (sym (append-nil _)); upper_bound = omega arith }

@@ -1,39 +1,16 @@
--- `clear_block` meets its contract: after i turns the first i bytes are zeros.
-use mathlib.Core.Path.{refl, ◌∙◌}
+-- `clear_block` meets its contract: the bytes written are zeros.
+use mathlib.Core.Path.{◌≡◌, ◌∙◌, ap}
+use Prim.Native.Nat.{ℕ, ◌+◌, ◌-◌}
 use native.Mathlib.Omega.{arith}
-use lib.ListN.{length-set}
-use Rattle.blocks.specs.Bytes.{store_block}
-use Rattle.blocks.proofs.ByteLaws.{copied_none, copied_all, cleared_more}
+use lib.ListN.{replicate}
+use Rattle.blocks.specs.Bytes.{splice, store_block, zero_block}
+use Rattle.blocks.proofs.ByteLaws.{part_written, length_part}
 use Rattle.blocks.proofs.bytes.clear_block.Goals as goal
-
-pub overflow_cast-b : goal.overflow_cast-b
-overflow_cast-b c = omega arith
-
-pub overflow_mul-b : goal.overflow_mul-b
-overflow_mul-b c = omega arith
-
-pub loop-i-init : goal.loop-i-init
-loop-i-init c = (omega arith, refl, copied_none _ _ _)
-
-pub overflow_add-card : goal.overflow_add-card
-overflow_add-card c = omega arith
-
-pub bounds-card-b : goal.bounds-card-b
-bounds-card-b c = omega arith
-
-pub overflow_add-i : goal.overflow_add-i
-overflow_add-i c = omega arith
-
-pub loop-i-smaller : goal.loop-i-smaller
-loop-i-smaller c = omega arith
-
-pub loop-i-preserved : goal.loop-i-preserved
-loop-i-preserved c =
-    (omega arith, simp length-set c.loop-i.invariant.1, cleared_more _ _ _ _ _ c.requires (omega arith) c.loop-i.invariant.2)
-
-pub shape_of-card : goal.shape_of-card
-shape_of-card c = c.loop-i.invariant.1
 
 pub returns : goal.returns
 unfolding store_block
-returns c = c.loop-i.invariant.2 ∙ copied_all _ _ _ _ (omega arith)
+returns c =
+    let start = c.start-start.result in
+    let n : start + 512 - start ≡ 512 = omega arith in
+    let zeros = c.fill.ensures.after (λ y e. e) ∙ ap (λ (k : ℕ). replicate k 0) (length_part c.args.card.now start (start + 512 - start) (omega arith) ∙ n) in
+    part_written _ _ _ _ _ zeros (omega arith) ∙ ap (λ (k : ℕ). splice c.args.card.now k zero_block) c.start-start.ensures

@@ -1,32 +1,31 @@
--- `read_digits` meets its contract: the digits up to i say v.
-use mathlib.Core.Path.{sym, ◌∙◌}
+-- `read_digits` meets its contract: the digits so far say v.
+use mathlib.Core.Path.{◌≡◌, sym, ◌∙◌}
+use mathlib.Core.Bool.{true}
 use native.Mathlib.Omega.{arith}
-use Rattle.cutter.proofs.NumberLaws.{digits_start, digits_low, digits_high, digits_more, digits_large, digits_end}
+use lib.ListN.{get_or}
+use Rattle.cutter.specs.Grammar.{is_digit}
+use Rattle.cutter.proofs.NumberLaws.{digits_start, digits_stop, digits_more, digits_large, digits_end}
 use Rattle.cutter.proofs.number.read_digits.Goals as goal
 
-pub loop-i-init : goal.loop-i-init
-loop-i-init c = (omega arith, omega arith, digits_start _)
+pub loop-b-init : goal.loop-b-init
+loop-b-init c = (omega arith, digits_start _)
 
-pub bounds-digits-i : goal.bounds-digits-i
-bounds-digits-i c = omega arith
+pub returns-then-not-is_ascii_digit : goal.returns-then-not-is_ascii_digit
+unfolding is_digit
+returns-then-not-is_ascii_digit c =
+    sym (c.loop-b.invariant.1 ∙ digits_stop _ _ _ (omega arith) (sym c.is_ascii_digit.ensures.value ∙ c.if-not-is_ascii_digit.true))
 
-pub returns-then-b-lt48 : goal.returns-then-b-lt48
-returns-then-b-lt48 c = sym (c.loop-i.invariant.2 ∙ digits_low _ _ _ (omega arith) c.if-b-lt48.true)
+pub returns-then-v-gt-MOST_NUMBER : goal.returns-then-v-gt-MOST_NUMBER
+unfolding is_digit
+returns-then-v-gt-MOST_NUMBER c =
+    let h : is_digit (get_or c.args.digits.now c.loop-b.b-index 0) ≡ true = sym c.is_ascii_digit.ensures.value ∙ c.if-not-is_ascii_digit.false in
+    sym (c.loop-b.invariant.1 ∙ digits_more _ _ _ (omega arith) h ∙ digits_large _ _ _ (omega (arith, c.from.ensures, c.if-v-gt-MOST_NUMBER.true)))
 
-pub returns-then-b-gt57 : goal.returns-then-b-gt57
-returns-then-b-gt57 c = sym (c.loop-i.invariant.2 ∙ digits_high _ _ _ (omega arith) c.if-b-gt57.true)
-
-pub returns-then-next-gt-MOST_NUMBER : goal.returns-then-next-gt-MOST_NUMBER
-returns-then-next-gt-MOST_NUMBER c = sym (c.loop-i.invariant.2 ∙ digits_more _ _ _ (omega arith) c.if-b-lt48.false c.if-b-gt57.false ∙ digits_large _ _ _ c.if-next-gt-MOST_NUMBER.true)
-
-pub overflow_add-i : goal.overflow_add-i
-overflow_add-i c = omega arith
-
-pub loop-i-smaller : goal.loop-i-smaller
-loop-i-smaller c = omega arith
-
-pub loop-i-preserved : goal.loop-i-preserved
-loop-i-preserved c = (omega arith, omega arith, c.loop-i.invariant.2 ∙ digits_more _ _ _ (omega arith) c.if-b-lt48.false c.if-b-gt57.false)
+pub loop-b-preserved : goal.loop-b-preserved
+unfolding is_digit
+loop-b-preserved c =
+    let h : is_digit (get_or c.args.digits.now c.loop-b.b-index 0) ≡ true = sym c.is_ascii_digit.ensures.value ∙ c.if-not-is_ascii_digit.false in
+    rw c.from.ensures (omega (arith, c.from.ensures), c.loop-b.invariant.1 ∙ digits_more _ _ _ (omega arith) h)
 
 pub returns : goal.returns
-returns c = sym (c.loop-i.invariant.2 ∙ digits_end _ _ _ (omega arith) (omega arith))
+returns c = sym (c.loop-b.invariant.1 ∙ digits_end _ _ _ (omega arith) (omega arith))

@@ -1,24 +1,21 @@
 -- `name_owner` meets its contract, case by case.
-use mathlib.Core.Path.{◌∙◌}
+use mathlib.Core.Path.{refl}
+use Rattle.calls.proofs.ResultLaws.{is_passed}
 use Rattle.entries.proofs.OwnerLaws.{located_index, located_block, located_name}
 use Rattle.calls.proofs.ReadLaws.{visit_misplaced, visit_nil, visit_named}
-use borrow.Author.Rules.{rules}
 use Rattle.dating.proofs.date.name_owner.Goals as goal
 
-pub returns-then-p-eq0 : goal.returns-then-p-eq0
-returns-then-p-eq0 c = c.without_name-then-p-eq0.ensures ∙ search visit_nil
+pub returns-in_err-slot : goal.returns-in_err-slot
+returns-in_err-slot c = rw (is_passed _ _ c.from_residual.ensures.1) (search (visit_misplaced, c.in_err-slot.ensures))
 
-pub offset_bounds-starts-owner : goal.offset_bounds-starts-owner
-offset_bounds-starts-owner c = search (rules, located_index)
+pub returns-then-slot-eq0 : goal.returns-then-slot-eq0
+returns-then-slot-eq0 c = visit_nil _ _ _ _ c.in_ok-slot.ensures _ _ refl c.if-slot-eq0.true
 
-pub bounds-starts-owner : goal.bounds-starts-owner
-bounds-starts-owner c = search located_index
+pub start-start-requires : goal.start-start-requires
+start-start-requires c = located_index _ _ _ _ c.requires.0 _ _ c.in_ok-slot.ensures _ _ refl c.if-slot-eq0.false
 
-pub name_at-name-requires : goal.name_at-name-requires
-name_at-name-requires c = search located_block
+pub name_at-requires : goal.name_at-requires
+name_at-requires c = rw c.start-start.ensures (located_block _ _ _ _ c.requires.0 _ _ c.in_ok-slot.ensures _ _ refl c.if-slot-eq0.false)
 
-pub returns-in-Misplaced : goal.returns-in-Misplaced
-returns-in-Misplaced c = c.without_name.ensures ∙ search visit_misplaced
-
-pub returns-else-p-eq0 : goal.returns-else-p-eq0
-returns-else-p-eq0 c = search (visit_named, located_name)
+pub returns : goal.returns
+returns c = visit_named _ _ _ _ c.in_ok-slot.ensures _ _ refl c.if-slot-eq0.false _ (located_name _ _ _ _ c.requires.0 _ _ c.in_ok-slot.ensures _ _ refl c.if-slot-eq0.false _ (rw c.start-start.ensures at c.name_at.ensures))

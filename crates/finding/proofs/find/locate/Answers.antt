@@ -1,5 +1,7 @@
 -- `locate` meets its contract, by its tests.
 use native.Mathlib.Omega.{arith}
+use mathlib.Core.Path.{◌≡◌}
+use Rattle.std.proofs.lemmas.Result.{err_from_is_err_and}
 use Rattle.entries.proofs.RegionLaws.{through_rising}
 use Rattle.entries.proofs.EntryLaws.{table_ready, table_inside}
 use Rattle.entries.proofs.OwnerLaws.{table_on_card, locate_layout_1, locate_misplaced, locate_nil, locate_layout_2}
@@ -15,17 +17,17 @@ locate_in-requires c =
 pub returns-then-d-eq1 : goal.returns-then-d-eq1
 returns-then-d-eq1 c = search locate_layout_1
 
-pub owner_at-owner-requires : goal.owner_at-owner-requires
-owner_at-owner-requires c = search through_rising
+pub owner_at-requires : goal.owner_at-requires
+owner_at-requires c = search through_rising
 
-pub returns-then-owner-count : goal.returns-then-owner-count
-returns-then-owner-count c = search locate_misplaced
+pub returns-in_err-ok_or : goal.returns-in_err-ok_or
+returns-in_err-ok_or c = let p = err_from_is_err_and c.from_residual.result c.from_residual.ensures.1 in rw (p.1, p.2) (search (locate_misplaced, c.in_err-ok_or.was))
 
-pub returns-then-m-eq0 : goal.returns-then-m-eq0
-returns-then-m-eq0 c = search locate_nil
+pub returns-then-is_nil : goal.returns-then-is_nil
+returns-then-is_nil c = let nil : c.table_of-m.result.0 ≡ 0 = grind arith in search (locate_nil, c.in_ok-ok_or.was)
 
 pub locate_in-requires-2 : goal.locate_in-requires-2
-locate_in-requires-2 c = (c.requires.0, search table_on_card, omega arith)
+locate_in-requires-2 c = let set : c.table_of-m.result.0 ≡ 0 → ⊥ = grind arith in (c.requires.0, search (table_on_card, c.in_ok-ok_or.was), omega arith)
 
 pub returns : goal.returns
-returns c = search locate_layout_2
+returns c = let set : c.table_of-m.result.0 ≡ 0 → ⊥ = grind arith in search (locate_layout_2, c.in_ok-ok_or.was)

@@ -9,4 +9,4 @@ returns-then-d-eq1 c = search tests
 
 pub returns : goal.returns
 unfolding table_of phi_at
-returns c = search (tests, ← c.get_u32.ensures)
+returns c = search (tests, ← c.start.ensures, ← c.get_u32.ensures)

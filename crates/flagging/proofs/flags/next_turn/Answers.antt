@@ -1,15 +1,13 @@
 -- `next_turn` meets its contract, by its test.
-use native.Mathlib.Omega.{arith}
-use Rattle.entries.proofs.MarkLaws.{turn_more, turn_again}
+use Rattle.std.proofs.Common.{arith}
+use Rattle.std.proofs.lemmas.Bool.Decides.{nat_tests}
+use Rattle.entries.specs.Marks.{next_turn, next_flags}
 use Rattle.flagging.proofs.flags.next_turn.Goals as goal
 
 pub returns-then-turn-lt-OPENING : goal.returns-then-turn-lt-OPENING
-returns-then-turn-lt-OPENING c = turn_more _ _ _ _ _ c.if-turn-lt-OPENING.true
-
-pub mark_openings-requires : goal.mark_openings-requires
-mark_openings-requires c =
-    (c.requires.0, λ j h. omega (arith, c.requires.1 j h, c.clear_flags.auto.seen))
+unfolding next_turn next_flags
+returns-then-turn-lt-OPENING c = grind (arith, nat_tests)
 
 pub returns : goal.returns
-returns c =
-    turn_again _ _ _ _ _ c.if-turn-lt-OPENING.false _ _ c.clear_flags.ensures c.mark_openings.ensures
+unfolding next_turn next_flags
+returns c = grind (arith, nat_tests, c.fill.ensures.after (λ y e. e))

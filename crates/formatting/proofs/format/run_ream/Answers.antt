@@ -1,15 +1,15 @@
 -- `run_ream` meets its contract: the area with the formatted blocks put back.
-use mathlib.Core.Path.{sym}
-use native.Mathlib.Omega.{arith}
-use lib.Seq.{length-take-le}
-use Rattle.sheet.proofs.SheetLaws.{ream_refused, ream_accepted}
+use Rattle.std.proofs.Common.{refl}
+use Rattle.calls.specs.Call.{None}
+use Rattle.cutter.specs.declared.line.SheetCall.TheVariants.{Ream}
+use Rattle.sheet.specs.Sheet.{call_of, blocks_of, records_after, addition_of}
+use Rattle.sheet.proofs.SheetLaws.{call_accepted, call_refused}
 use Rattle.formatting.proofs.format.run_ream.Goals as goal
 
-pub slice_bounds-ream-end-2 : goal.slice_bounds-ream-end-2
-slice_bounds-ream-end-2 c = sym (length-take-le _ _ (omega arith))
-
-pub returns-then-refusal-ne0 : goal.returns-then-refusal-ne0
-returns-then-refusal-ne0 c = search ream_refused
+pub returns-in_err-ream : goal.returns-in_err-ream
+unfolding call_of blocks_of records_after
+returns-in_err-ream c = call_refused _ _ c.sheet.view_is (Ream c.args.layout c.args.size c.args.volume c.args.name) None _ _ c.in_err-ream.ensures _ c.from_residual.ensures.1
 
 pub returns : goal.returns
-returns c = search ream_accepted
+unfolding call_of blocks_of records_after addition_of
+returns c = call_accepted _ _ c.sheet.view_is (Ream c.args.layout c.args.size c.args.volume c.args.name) None _ c.in_ok-ream.ensures _ refl

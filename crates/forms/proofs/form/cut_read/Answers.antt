@@ -1,21 +1,21 @@
 -- `cut_read` meets its contract, by its tests.
-use Rattle.cutter.proofs.WordLaws.{key_fits}
-use Rattle.cutter.proofs.FormLaws.{read_no_key, read_is, read_no_block}
-use mathlib.Core.Path.{ap}
-use mathlib.Core.Bool.{not}
+use Rattle.cutter.specs.Words.{key_from, key_block}
+use Rattle.cutter.specs.Grammar.{line_of_read}
+use Rattle.cutter.proofs.WordLaws.{key_by}
+use Rattle.cutter.proofs.NumberLaws.{after_none, after_some}
 use Rattle.forms.proofs.form.cut_read.Goals as goal
 
-pub returns-then-not-has_key : goal.returns-then-not-has_key
-returns-then-not-has_key c = search read_no_key
+pub returns-in_err-from : goal.returns-in_err-from
+unfolding line_of_read
+returns-in_err-from c = rw (c.from_residual.ensures, key_by key_from _ _ c.in_err-from.ensures.cases)
 
-pub slice_bounds-read_from-count : goal.slice_bounds-read_from-count
-slice_bounds-read_from-count c = key_fits _ _ _ c.has_key.ensures (ap not c.if-not-has_key.false)
+pub returns-in_err-block : goal.returns-in_err-block
+unfolding line_of_read
+returns-in_err-block c = rw (c.from_residual-in_err-block.ensures, key_by key_from _ _ c.in_ok-from.ensures.cases.0, after_none key_block _ _ c.read_pair.ensures c.in_err-block.was)
 
-pub slice_bounds-read_from-start : goal.slice_bounds-read_from-start
-slice_bounds-read_from-start c = key_fits _ _ _ c.has_key.ensures (ap not c.if-not-has_key.false)
-
-pub returns-in-Is : goal.returns-in-Is
-returns-in-Is c = search read_is
-
-pub returns-in-Not : goal.returns-in-Not
-returns-in-Not c = search read_no_block
+pub returns : goal.returns
+unfolding line_of_read
+returns c =
+    let key = c.in_ok-from.ensures.cases in
+    let q = after_some key_block _ _ c.read_pair.ensures _ c.in_ok-block.was in
+    rw (key_by key_from _ _ key.0, q.0, q.1, c.read_from.ensures, key.1)

@@ -1,33 +1,23 @@
--- `index_of` meets its contract: j descriptors have passed, none of which has the name.
-use mathlib.Core.Path.{sym, ◌∙◌}
-use native.Mathlib.Omega.{arith}
-use Rattle.chains.proofs.NamedLaws.{index_start, index_stop, index_more, index_end}
+-- `index_of` meets its contract: the closure may be called at each block of `starts`, and the first that it passes is the index.
+use Rattle.std.proofs.Common.{◌≡◌, ℕ, true, false, arith, rules, sym, refl}
+use Rattle.std.proofs.lemmas.Grind.{get_or_default_zero}
+use Rattle.std.proofs.lemmas.Iterator.{YieldsList-from_slice, IsFirst-from_position, index_from_first}
+use Rattle.std.proofs.lemmas.Iterator.Adapters.{serves_from_places}
+use Rattle.blocks.specs.Pick.{same}
+use Rattle.blocks.specs.Descriptor.{descriptor_at}
+use Rattle.chains.specs.Chain.{index_of, descriptors_at}
 use Rattle.indexing.proofs.index.index_of.Goals as goal
 
-pub loop-j-init : goal.loop-j-init
-loop-j-init c = (omega arith, index_start _ _ _ _)
+pub position-requires-clause-callable : goal.position-requires-clause-callable
+position-requires-clause-callable c =
+    serves_from_places (YieldsList-from_slice c.args.starts.now c.iter.ensures.rest) (λ x q k. search rules)
+    (λ x k h e. let room = c.requires k h in let at = get_or_default_zero c.args.starts.now k x.now h in search rules)
 
-pub offset_bounds-starts-j : goal.offset_bounds-starts-j
-offset_bounds-starts-j c = omega arith
-
-pub bounds-starts-j : goal.bounds-starts-j
-bounds-starts-j c = omega arith
-
-pub has_name-requires : goal.has_name-requires
-has_name-requires c = c.requires.1 _ (omega arith)
-
-pub returns-then-has_name : goal.returns-then-has_name
-returns-then-has_name c = record { value = sym (c.loop-j.invariant.1 ∙ index_stop _ _ _ _ _ (omega arith) (omega (arith, c.requires.0)) _ c.has_name.ensures c.if-has_name.true); upper_bound = omega arith }
-
-pub overflow_add-j : goal.overflow_add-j
-overflow_add-j c = omega arith
-
-pub loop-j-smaller : goal.loop-j-smaller
-loop-j-smaller c = omega arith
-
-pub loop-j-preserved : goal.loop-j-preserved
-loop-j-preserved c =
-    (omega arith, c.loop-j.invariant.1 ∙ index_more _ _ _ _ _ (omega arith) (omega (arith, c.requires.0)) _ c.has_name.ensures c.if-has_name.false)
-
-pub returns : goal.returns
-returns c = record { value = sym (c.loop-j.invariant.1 ∙ index_end _ _ _ _ _ (omega arith)); upper_bound = omega arith }
+pub returns-clause-value : goal.returns-clause-value
+unfolding index_of descriptors_at
+returns-clause-value c =
+    let card = c.args.card.now in
+    let has = λ (p : ℕ). same (descriptor_at card p).name c.args.name in
+    let first =
+    IsFirst-from_position _ _ _ (λ p. has p ≡ true) (λ p. has p ≡ false) c.position.ensures.ran (YieldsList-from_slice c.args.starts.now c.iter.ensures.rest) (λ x q k. search rules) (λ x q k. search rules) in
+    sym (index_from_first (λ ps. index_of (descriptors_at card ps) c.args.name) (λ p. has p ≡ true) (λ p. has p ≡ false) refl (λ p ps h. rw h) (λ p ps h. rw h (omega arith)) _ _ first)

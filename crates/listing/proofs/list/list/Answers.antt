@@ -1,10 +1,10 @@
--- `list` meets its contract: the plan says how many records the call fills and from which starts, and `fill` fills them.
-use mathlib.Core.Path.{refl}
-use Rattle.calls.proofs.ListingLaws.{plan_told, plan_ready, plan_done}
+-- `list` meets its contract: few places are enough where the chain is short, and there are enough for every chain else.
+use Rattle.std.proofs.Common.{refl, ap, not, replicate}
+use Rattle.calls.proofs.CardLaws.{enough_few, enough_all}
 use Rattle.listing.proofs.list.list.Goals as goal
 
-pub fill-requires : goal.fill-requires
-fill-requires c = plan_ready c.args.card.now c.args.records.now c.make_plan-p.result (plan_told _ _ _ refl _ c.make_plan-p.ensures)
+pub list_in-requires : goal.list_in-requires
+list_in-requires c = enough_few _ (replicate 9 0) _ c.is_short.ensures (ap not c.if-is_short.true) refl
 
-pub returns : goal.returns
-returns c = plan_done c.args.card.now c.args.records.now c.make_plan-p.result (plan_told _ _ _ refl _ c.make_plan-p.ensures) _ c.fill.ensures
+pub list_in-requires-else-is_short : goal.list_in-requires-else-is_short
+list_in-requires-else-is_short c = enough_all _ (replicate 257 0) refl

@@ -1,13 +1,13 @@
 -- `table_block` meets its contract, by its test.
-use borrow.Author.Tests.{eq-eqb, ne_eqb}
+use mathlib.Core.Path.{sym, ◌∙◌}
 use Rattle.blocks.specs.Bytes.{block_at}
 use Rattle.entries.specs.Entry.{table_with}
 use Rattle.making.proofs.block.table_block.Goals as goal
-
-pub returns-then-m-eq0 : goal.returns-then-m-eq0
-unfolding table_with
-returns-then-m-eq0 c = rw (eq-eqb _ _ c.if-m-eq0.true) c.put_u32.ensures
+use Rattle.making.proofs.block.table_block.Goals.{then-is_nil, else-is_nil}
 
 pub returns : goal.returns
 unfolding table_with block_at
-returns c = rw (ne_eqb _ _ c.if-m-eq0.false, ← c.get_bytes.ensures) c.put_u32-2.ensures
+returns c = elim c.if-is_nil.branch [
+  | then-is_nil w ↦ rw (sym c.is_nil.ensures ∙ w.if-is_nil.true, ← w.b-is) c.put_u32.ensures
+  | else-is_nil w ↦ rw (sym c.is_nil.ensures ∙ w.if-is_nil.false, ← w.start.ensures, ← w.array_at-b.ensures, ← w.b-is) c.put_u32.ensures
+]

@@ -1,26 +1,14 @@
--- `name_length` meets its contract: i bytes have passed, all such as a name may have.
-use mathlib.Core.Path.{sym, ◌∙◌}
-use native.Mathlib.Omega.{arith}
-use Rattle.blocks.proofs.ListLaws.{name_start_lem, name_more, name_stop, name_end}
+-- `name_length` meets its contract: what the chain counts is how many bytes of a name come first.
+use mathlib.Core.Path.{◌∙◌}
+use borrow.Author.Rules.{rules}
+use Rattle.std.proofs.lemmas.Iterator.{YieldsList-from_slice}
+use Rattle.std.proofs.lemmas.Iterator.Consumers.{YieldsList-at, count_from_yields_List}
+use Rattle.std.proofs.lemmas.Iterator.Search.{YieldsList-from_take_while}
+use Rattle.blocks.specs.Name.{name_byte}
+use Rattle.names.proofs.TestLaws.{name_taken}
 use Rattle.names.proofs.name.name_length.Goals as goal
 
-pub loop-i-init : goal.loop-i-init
-loop-i-init c = (omega arith, name_start_lem _)
-
-pub bounds-text-i : goal.bounds-text-i
-bounds-text-i c = omega arith
-
-pub returns-then-not-is_name_byte : goal.returns-then-not-is_name_byte
-returns-then-not-is_name_byte c = record { value = sym (c.loop-i.invariant.1 ∙ name_stop _ _ (omega arith) (sym c.is_name_byte.ensures ∙ c.if-not-is_name_byte.true)); upper_bound = omega arith }
-
-pub overflow_add-i : goal.overflow_add-i
-overflow_add-i c = omega arith
-
-pub loop-i-smaller : goal.loop-i-smaller
-loop-i-smaller c = omega arith
-
-pub loop-i-preserved : goal.loop-i-preserved
-loop-i-preserved c = (omega arith, c.loop-i.invariant.1 ∙ name_more _ _ (omega arith) (sym c.is_name_byte.ensures ∙ c.if-not-is_name_byte.false))
-
-pub returns : goal.returns
-returns c = record { value = sym (c.loop-i.invariant.1 ∙ name_end _ _ (omega arith)); upper_bound = omega arith }
+pub returns-clause-value : goal.returns-clause-value
+returns-clause-value c =
+    let bytes = YieldsList-at c.take_while.ensures.source (YieldsList-from_slice c.args.text.now c.iter.ensures.rest) in
+    count_from_yields_List _ _ c.count.ensures.ran (YieldsList-from_take_while _ name_byte bytes c.take_while.ensures.closure c.take_while.ensures.done (λ x b q k. search rules)) ∙ name_taken _

@@ -3,20 +3,14 @@ use native.Mathlib.Omega.{arith}
 use Rattle.entries.proofs.PlaceLaws.{owner_nil, owner_past, owner_opening, owner_found}
 use Rattle.owning.proofs.place.owner_at.Goals as goal
 
-pub returns-then-q-eq0 : goal.returns-then-q-eq0
-returns-then-q-eq0 c = search owner_nil
+pub returns-then-is_nil-clause-value : goal.returns-then-is_nil-clause-value
+returns-then-is_nil-clause-value c = owner_nil _ _ _ _ _ (grind arith)
 
-pub returns-then-d-q : goal.returns-then-d-q
-returns-then-d-q c = search owner_past
+pub returns-then-le-clause-value : goal.returns-then-le-clause-value
+returns-then-le-clause-value c = owner_past _ _ _ _ _ (grind arith) (grind arith)
 
-pub overflow_cast-start : goal.overflow_cast-start
-overflow_cast-start c = omega (arith, c.shared_slice_known-2-1.given c.region_of-k.result)
+pub returns-then-p-starts-clause-value : goal.returns-then-p-starts-clause-value
+returns-then-p-starts-clause-value c = owner_opening _ _ _ _ _ (grind arith) (grind arith) _ c.region_of-k.ensures.value _ c.opening_cost-cost.ensures c.if-p-starts.true
 
-pub overflow_add-start : goal.overflow_add-start
-overflow_add-start c = omega (arith, c.shared_slice_known-2-1.given c.region_of-k.result)
-
-pub returns-then-q-start : goal.returns-then-q-start
-returns-then-q-start c = search owner_opening
-
-pub returns : goal.returns
-returns c = search owner_found
+pub returns-clause-value : goal.returns-clause-value
+returns-clause-value c = owner_found _ _ _ _ _ (grind arith) (grind arith) _ c.region_of-k.ensures.value _ c.opening_cost-cost.ensures (omega arith)

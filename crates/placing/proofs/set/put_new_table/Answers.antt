@@ -1,11 +1,12 @@
 -- `put_new_table` meets its contract, by its test.
+use mathlib.Core.Path.{sym, ◌∙◌}
+use borrow.Author.Tests.{eqb-true, eqb-false}
 use Rattle.entries.proofs.SetLaws.{table_cleared, table_copied}
 use Rattle.placing.proofs.set.put_new_table.Goals as goal
-
-pub returns-then-m-eq0 : goal.returns-then-m-eq0
-returns-then-m-eq0 c =
-    table_cleared _ _ _ _ _ _ c.requires.0 c.requires.2 c.put_entry.ensures _ c.if-m-eq0.true c.clear_block.ensures
+use Rattle.placing.proofs.set.put_new_table.Goals.{then-is_nil, else-is_nil}
 
 pub returns : goal.returns
-returns c =
-    table_copied _ _ _ _ _ _ c.requires.0 c.requires.2 c.put_entry-2.ensures _ c.if-m-eq0.false c.requires.1 c.copy_block.ensures
+returns c = elim c.if-is_nil.branch [
+  | then-is_nil w ↦ table_cleared _ _ _ _ _ _ c.requires.0 c.requires.2 c.put_entry.ensures _ (eqb-true _ _ (sym c.is_nil.ensures ∙ w.if-is_nil.true)) (w.card-is ∙ w.clear_block.ensures)
+  | else-is_nil w ↦ table_copied _ _ _ _ _ _ c.requires.0 c.requires.2 c.put_entry.ensures _ (eqb-false _ _ (sym c.is_nil.ensures ∙ w.if-is_nil.false)) c.requires.1 (w.card-is ∙ w.copy_block.ensures)
+]

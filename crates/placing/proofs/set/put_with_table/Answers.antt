@@ -2,5 +2,5 @@
 use Rattle.entries.proofs.SetLaws.{phi_put_in}
 use Rattle.placing.proofs.set.put_with_table.Goals as goal
 
-pub returns : goal.returns
-returns c = record { card_after = phi_put_in _ _ _ _ _ _ _ c.requires.0 c.requires.1 c.put_descriptor.ensures.d_len c.put_descriptor.ensures.card_after c.put_u32.ensures; d_len = c.put_descriptor.ensures.d_len }
+pub returns-clause-card_after : goal.returns-clause-card_after
+returns-clause-card_after c = phi_put_in _ _ _ _ _ _ _ c.requires.0 c.requires.1 c.put_descriptor.ensures.d_len c.put_descriptor.ensures.card_after (rw (← c.start.ensures) c.put_u32.ensures)

@@ -2,13 +2,10 @@
 use mathlib.Core.Path.{◌≡◌}
 use lib.ListN.{length}
 use borrow.Author.Rules.{rules}
-use Rattle.regions.proofs.OpenedLaws.{region_opened, none_copied}
+use Rattle.regions.proofs.OpenedLaws.{region_opened}
 use Rattle.regions.proofs.region.open_region.Goals as goal
 
-pub returns-then-cost-eq1 : goal.returns-then-cost-eq1
-returns-then-cost-eq1 c = let name_long : length c.args.d.name ≡ 16 = search rules in
-    region_opened _ _ c.args.d _ c.requires.4 c.requires.1 c.requires.2 (none_copied _ _ _ _ c.if-cost-eq1.true) _ _ name_long c.requires.0 c.reopened-opened.ensures c.store_descriptor_upto.ensures
-
 pub returns : goal.returns
-returns c = let name_long : length c.args.d.name ≡ 16 = search rules in
-    region_opened _ _ c.args.d _ c.requires.4 c.requires.1 c.requires.2 c.copy_blocks.ensures _ _ name_long c.requires.0 c.reopened-opened.ensures c.store_descriptor_upto-2.ensures
+returns c =
+    let name_long : length c.args.d.name ≡ 16 = search rules in
+    region_opened _ _ c.args.d _ c.requires.4 c.requires.1 c.requires.2 c.copy_blocks.ensures _ _ name_long c.requires.0 c.reopened.ensures c.store_descriptor_upto.ensures

@@ -1,8 +1,8 @@
 -- `put_byte` meets its contract, by what `put_field` ensures.
-use native.Mathlib.Omega.{arith}
+use Rattle.std.proofs.Common.{append_assoc}
 use Rattle.printing.specs.Text.{byte_text}
 use Rattle.reporting.proofs.report.put_byte.Goals as goal
 
-pub returns : goal.returns
+pub returns-clause-value : goal.returns-clause-value
 unfolding byte_text
-returns c = record { value = c.put_field.ensures.value; upper_bound = omega (arith, c.put_field.ensures.upper_bound) }
+returns-clause-value g c = rw (c.put_field.ensures.value, c.from.ensures) (simp append_assoc)

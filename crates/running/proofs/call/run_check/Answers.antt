@@ -1,12 +1,15 @@
--- `run_check` meets its contract: the area as it was.
-use mathlib.Core.Path.{sym}
-use native.Mathlib.Omega.{arith}
-use lib.Seq.{length-take-le}
-use Rattle.sheet.proofs.SheetLaws.{check_done}
+-- `run_check` meets its contract: the sheet as it was.
+use Rattle.std.proofs.Common.{refl}
+use Rattle.calls.specs.Call.{None}
+use Rattle.cutter.specs.declared.line.SheetCall.TheVariants.{Check}
+use Rattle.sheet.specs.Sheet.{call_of, blocks_of, records_after, addition_of}
+use Rattle.sheet.proofs.SheetLaws.{kept_accepted, kept_refused}
 use Rattle.running.proofs.call.run_check.Goals as goal
 
-pub slice_bounds-check-end : goal.slice_bounds-check-end
-slice_bounds-check-end c = sym (length-take-le _ _ (omega arith))
+pub returns-in_err-check : goal.returns-in_err-check
+unfolding call_of blocks_of records_after
+returns-in_err-check c = kept_refused _ _ refl Check refl None _ c.card.ensures _ c.in_err-check.ensures _ c.from_residual.ensures.1
 
 pub returns : goal.returns
-returns c = search check_done
+unfolding call_of blocks_of records_after addition_of
+returns c = kept_accepted _ _ refl Check refl None _ c.card.ensures c.in_ok-check.ensures _ refl

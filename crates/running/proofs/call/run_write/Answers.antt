@@ -1,12 +1,15 @@
 -- `run_write` meets its contract: the area with the card put back.
-use mathlib.Core.Path.{sym}
-use native.Mathlib.Omega.{arith}
-use lib.Seq.{length-take-le}
-use Rattle.sheet.proofs.SheetLaws.{write_done}
+use Rattle.std.proofs.Common.{refl}
+use Rattle.calls.specs.Call.{Block}
+use Rattle.cutter.specs.declared.line.SheetCall.TheVariants.{Write}
+use Rattle.sheet.specs.Sheet.{call_of, blocks_of, records_after, addition_of}
+use Rattle.sheet.proofs.SheetLaws.{card_accepted, card_refused}
 use Rattle.running.proofs.call.run_write.Goals as goal
 
-pub slice_bounds-write-end-2 : goal.slice_bounds-write-end-2
-slice_bounds-write-end-2 c = sym (length-take-le _ _ (omega arith))
+pub returns-in_err-write : goal.returns-in_err-write
+unfolding call_of blocks_of records_after
+returns-in_err-write c = card_refused _ _ c.sheet.view_is _ c.card_size-end.ensures.value (Write c.args.l c.args.fill) refl (Block _) _ _ c.in_err-write.ensures _ c.from_residual.ensures.1
 
 pub returns : goal.returns
-returns c = search write_done
+unfolding call_of blocks_of records_after addition_of
+returns c = card_accepted _ _ c.sheet.view_is _ c.card_size-end.ensures.value (Write c.args.l c.args.fill) refl (Block _) _ c.in_ok-write.ensures _ refl

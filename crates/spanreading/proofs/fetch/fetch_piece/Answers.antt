@@ -2,18 +2,16 @@
 use Rattle.entries.proofs.EntryLaws.{through_end}
 use Rattle.calls.proofs.AimLaws.{entry_is}
 use Rattle.calls.proofs.CellLaws.{found_long}
-use Rattle.spanreading.proofs.FillLaws.{block_found_lem, fill_ready, piece_put}
+use Rattle.spanreading.proofs.FillLaws.{slot_block, fill_ready, piece_put}
 use Rattle.spanreading.proofs.fetch.fetch_piece.Goals as goal
 
-pub entry_of-found-requires : goal.entry_of-found-requires
-entry_of-found-requires c = (c.requires.0, c.requires.1, (_, _, entry_is _ c.requires.2))
+pub entry_of-slot-requires : goal.entry_of-slot-requires
+entry_of-slot-requires c = (c.requires.0, c.requires.1, (_, _, entry_is _ c.requires.2))
 
 pub fill_piece-requires : goal.fill_piece-requires
-fill_piece-requires c =
-    let p = block_found_lem _ _ _ _ c.entry_of-found.ensures _ c.block_of-p.ensures in
-    fill_ready _ _ _ _ c.requires.0.2 _ _ _ c.requires.3 c.requires.4 _ c.piece_in-q.ensures.value _ p
+fill_piece-requires c = fill_ready _ _ _ _ c.requires.0.2 _ _ _ c.requires.3 c.requires.4 _ c.piece_in-q.ensures.value _ (slot_block _ _ _ _ c.entry_of-slot.ensures)
 
 pub returns : goal.returns
 returns c =
-    let p = block_found_lem _ _ _ _ c.entry_of-found.ensures _ c.block_of-p.ensures in
-    piece_put _ _ _ _ _ _ _ p c.requires.3 c.requires.4 _ c.piece_in-q.ensures.value c.fill_piece.ensures (found_long _ _ _ (through_end _ _ _ _ c.requires.0.2) _)
+    piece_put _ _ _ _ _ _ _ (slot_block _ _ _ _ c.entry_of-slot.ensures) c.requires.3 c.requires.4 _ c.piece_in-q.ensures.value c.fill_piece.ensures
+    (found_long _ _ _ (through_end _ _ _ _ c.requires.0.2) _)

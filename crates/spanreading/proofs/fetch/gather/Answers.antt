@@ -10,40 +10,25 @@ use Rattle.pieces.proofs.SpanLaws.{begins, inside}
 use Rattle.entries.proofs.EntryLaws.{through_end, through_volume}
 use Rattle.spanreading.proofs.fetch.gather.Goals as goal
 
-pub blocks_touched-blocks-requires : goal.blocks_touched-blocks-requires
-blocks_touched-blocks-requires c = omega (arith, c.requires.1, through_volume _ _ _ _ c.requires.0.2)
-
 pub loop-i-init : goal.loop-i-init
-loop-i-init c = (omega arith, refl, gathered_none _ _ _ _ (through_end _ _ _ _ c.requires.0.2) _)
-
-pub overflow_add-first : goal.overflow_add-first
-overflow_add-first c = omega (arith, c.blocks_touched-blocks.ensures.result_bound, c.requires.1, through_volume _ _ _ _ c.requires.0.2)
+loop-i-init c = (refl, gathered_none _ _ _ _ (through_end _ _ _ _ c.requires.0.2) _)
 
 pub fetch_piece-requires : goal.fetch_piece-requires
 fetch_piece-requires c =
-    let i : c.loop-i.i < touched c.args.offset (length c.args.out.now) = omega (arith, c.blocks_touched-blocks.ensures.value) in
+    let i : c.loop-i.i < touched c.args.offset (length c.args.out.now) = omega (arith, c.blocks_touched-i-end.ensures.value) in
     let e = begins _ _ _ i in (
       c.requires.0,
       inside _ _ _ _ c.requires.1 i,
       placed_each _ _ _ _ c.requires.2 _ i,
-      omega (arith, e, c.loop-i.invariant.1),
+      omega (arith, e, c.loop-i.invariant.0),
       omega arith,
-      omega (arith, c.requires.1, c.loop-i.invariant.1, through_volume _ _ _ _ c.requires.0.2),
+      omega (arith, c.requires.1, c.loop-i.invariant.0, through_volume _ _ _ _ c.requires.0.2),
     )
-
-pub overflow_add-i : goal.overflow_add-i
-overflow_add-i c = omega (arith, c.blocks_touched-blocks.ensures.result_bound, c.requires.1, through_volume _ _ _ _ c.requires.0.2)
-
-pub loop-i-smaller : goal.loop-i-smaller
-loop-i-smaller c = omega arith
 
 pub loop-i-preserved : goal.loop-i-preserved
 loop-i-preserved c =
-    let i : c.loop-i.i < touched c.args.offset (length c.args.out.now) = omega (arith, c.blocks_touched-blocks.ensures.value) in
-    (omega arith, c.fetch_piece.auto.out ∙ c.loop-i.invariant.1, gathered_more _ _ _ _ (through_end _ _ _ _ c.requires.0.2) _ i _ _ _ refl c.loop-i.invariant.2 c.loop-i.invariant.1 c.fetch_piece.ensures)
-
-pub shape_of-out : goal.shape_of-out
-shape_of-out c = c.loop-i.invariant.1
+    let i : c.loop-i.i < touched c.args.offset (length c.args.out.now) = omega (arith, c.blocks_touched-i-end.ensures.value) in
+    (c.fetch_piece.auto.out ∙ c.loop-i.invariant.0, gathered_more _ _ _ _ (through_end _ _ _ _ c.requires.0.2) _ i _ _ _ refl c.loop-i.invariant.1 c.loop-i.invariant.0 c.fetch_piece.ensures)
 
 pub returns : goal.returns
-returns c = gathered_all _ _ _ _ (through_end _ _ _ _ c.requires.0.2) c.loop-i.i _ c.blocks_touched-blocks.ensures.value c.loop-i.invariant.0 (omega arith) _ _ refl c.loop-i.invariant.2
+returns c = gathered_all _ _ _ _ (through_end _ _ _ _ c.requires.0.2) c.loop-i.i _ c.blocks_touched-i-end.ensures.value (omega arith) (omega arith) _ _ refl c.loop-i.invariant.1

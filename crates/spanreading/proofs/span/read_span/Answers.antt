@@ -1,60 +1,24 @@
--- `read_span` meets its contract, row by row up to that of the chain; then by the index of the target.
-use mathlib.Core.Path.{refl, sym, ◌∙◌}
-use native.Mathlib.Omega.{arith}
+-- `read_span` meets its contract, row by row up to that of the chain.
+use mathlib.Core.Path.{ap, refl}
+use mathlib.Core.Bool.{not}
 use lib.ListN.{replicate}
 use Rattle.calls.specs.Meaning.{lent_of}
-use Rattle.calls.proofs.StepLaws.{step_barred, step_refused}
-use Rattle.calls.proofs.CardLaws.{enough_few, card_ready, places_long, places_card}
-use Rattle.calls.proofs.RowLaws.{admitted_card}
-use Rattle.spanreading.proofs.ReadSpanLaws.{span_4, span_6}
-use mathlib.Core.Path.{ap}
-use mathlib.Core.Bool.{not}
+use Rattle.calls.proofs.StepLaws.{step_refused}
+use Rattle.calls.proofs.ResultLaws.{barred_on}
+use Rattle.calls.proofs.CardLaws.{enough_few, enough_all}
+use Rattle.spanreading.proofs.ReadSpanLaws.{span_4}
 use Rattle.spanreading.proofs.span.read_span.Goals as goal
 
-pub returns-then-admitted-ne0 : goal.returns-then-admitted-ne0
+pub returns-in_err-admit : goal.returns-in_err-admit
 unfolding lent_of
-returns-then-admitted-ne0 c = step_barred _ _ _ c.admit-admitted.ensures c.if-admitted-ne0.true
+returns-in_err-admit c = barred_on _ _ _ _ c.from_residual.ensures.1 c.in_err-admit.ensures
 
 pub returns-then-is_unnamed : goal.returns-then-is_unnamed
 unfolding lent_of
-returns-then-is_unnamed c = step_refused _ _ _ _ (search span_4) refl
+returns-then-is_unnamed c = step_refused _ _ _ _ (search (span_4, c.in_ok-admit.ensures)) refl
 
-pub read_long-requires : goal.read_long-requires
-read_long-requires c = (admitted_card _ _ c.admit-admitted.ensures c.if-admitted-ne0.false, sym c.is_unnamed.ensures ∙ c.if-is_unnamed.false)
+pub read_in-requires-clause-places : goal.read_in-requires-clause-places
+read_in-requires-clause-places c = enough_few _ (replicate 9 0) _ c.is_short.ensures (ap not c.if-is_short.true) refl
 
-pub returns-then-not-is_short : goal.returns-then-not-is_short
-returns-then-not-is_short c = c.read_long.ensures
-
-pub walk_chain-found-requires : goal.walk_chain-found-requires
-walk_chain-found-requires c = enough_few _ (replicate 9 0) _ c.is_short.ensures (ap not c.if-not-is_short.false) refl
-
-pub returns-then-not-found : goal.returns-then-not-found
-unfolding lent_of
-returns-then-not-found c = step_refused _ _ _ _ (search span_6) refl
-
-pub overflow_add-starts : goal.overflow_add-starts
-overflow_add-starts c = omega (arith, c.walk_chain-found.ensures.count_in_bounds)
-
-pub slice_bounds-starts-end : goal.slice_bounds-starts-end
-slice_bounds-starts-end c = omega (arith, c.walk_chain-found.ensures.count_in_bounds)
-
-pub slice_bounds-target_index-end : goal.slice_bounds-target_index-end
-slice_bounds-target_index-end c = places_long _ _ c.walk_chain-found.ensures.value c.if-not-found.false _ c.walk_chain-found.ensures.starts_after
-
-pub target_index-k-requires : goal.target_index-k-requires
-target_index-k-requires c = card_ready _ _ _ (places_card _ _ c.walk_chain-found.ensures.value c.if-not-found.false _ c.walk_chain-found.ensures.starts_after (admitted_card _ _ c.admit-admitted.ensures c.if-admitted-ne0.false))
-
-pub overflow_add-starts-2 : goal.overflow_add-starts-2
-overflow_add-starts-2 c = omega (arith, c.walk_chain-found.ensures.count_in_bounds)
-
-pub slice_bounds-starts-end-2 : goal.slice_bounds-starts-end-2
-slice_bounds-starts-end-2 c = omega (arith, c.walk_chain-found.ensures.count_in_bounds)
-
-pub slice_bounds-read_at-end : goal.slice_bounds-read_at-end
-slice_bounds-read_at-end c = places_long _ _ c.walk_chain-found.ensures.value c.if-not-found.false _ c.walk_chain-found.ensures.starts_after
-
-pub read_at-requires : goal.read_at-requires
-read_at-requires c = (places_card _ _ c.walk_chain-found.ensures.value c.if-not-found.false _ c.walk_chain-found.ensures.starts_after (admitted_card _ _ c.admit-admitted.ensures c.if-admitted-ne0.false), c.target_index-k.ensures.upper_bound)
-
-pub returns : goal.returns
-returns c = c.read_at.ensures _ _ (sym c.is_unnamed.ensures ∙ c.if-is_unnamed.false) c.target_index-k.ensures.value
+pub read_in-requires-else-is_short-clause-places : goal.read_in-requires-else-is_short-clause-places
+read_in-requires-else-is_short-clause-places c = enough_all _ (replicate 257 0) refl

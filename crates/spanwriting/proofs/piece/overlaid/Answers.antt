@@ -1,13 +1,13 @@
 -- `overlaid` meets its contract, by its test.
-use mathlib.Core.Path.{refl}
+use mathlib.Core.Path.{ap, ◌∙◌}
+use Prim.Native.Nat.{ℕ}
+use Rattle.blocks.specs.Bytes.{part}
 use Rattle.spanwriting.proofs.PieceLaws.{overlaid_nil, overlaid_block}
 use Rattle.spanwriting.proofs.piece.overlaid.Goals as goal
-
-pub returns-then-p-eq0 : goal.returns-then-p-eq0
-returns-then-p-eq0 c = overlaid_nil _ _ _ _ _ _ c.if-p-eq0.true refl c.put_bytes.ensures
-
-pub get_bytes-requires : goal.get_bytes-requires
-get_bytes-requires c = c.requires.1 c.if-p-eq0.false
+use Rattle.spanwriting.proofs.piece.overlaid.Goals.{then-is_nil, else-is_nil}
 
 pub returns : goal.returns
-returns c = overlaid_block _ _ _ _ _ _ c.if-p-eq0.false c.get_bytes.ensures c.put_bytes-2.ensures
+returns c = elim c.if-is_nil.branch [
+  | then-is_nil w ↦ overlaid_nil _ _ _ _ _ _ w.if-is_nil.ensures w.block-is c.put_bytes.ensures
+  | else-is_nil w ↦ overlaid_block _ _ _ _ _ _ w.if-is_nil.ensures (w.block-is ∙ w.array_at-block.ensures ∙ ap (λ (n : ℕ). part c.args.card.now n 512) w.start.ensures) c.put_bytes.ensures
+]

@@ -1,30 +1,19 @@
--- `span_need` meets its contract: after i turns the first i blocks are counted.
+-- `span_need` meets its contract: the sum over the blocks is what is planned for all of them.
+use mathlib.Core.Path.{refl, ◌∙◌}
 use native.Mathlib.Omega.{arith}
+use Rattle.std.proofs.Common.{rules}
+use Rattle.std.proofs.lemmas.Iterator.{YieldsList-from_map, YieldsList-from_range}
+use Rattle.std.proofs.lemmas.Iterator.Consumers.{sum_from_yields_List, fits_from_yields_list}
 use Rattle.entries.proofs.EntryLaws.{through_volume}
+use Rattle.spanwriting.specs.Planned.{counted_at}
 use Rattle.spanwriting.proofs.ActiveCards.{active_ready}
-use Rattle.spanwriting.proofs.PlanLaws.{planned_none, planned_more, planned_all}
+use Rattle.spanwriting.proofs.PlanLaws.{planned_sum, planned_most}
 use Rattle.spanwriting.proofs.plan.span_need.Goals as goal
 
-pub loop-i-init : goal.loop-i-init
-loop-i-init c = (omega arith, planned_none _ _, omega arith)
-
-pub block_need-taken-requires : goal.block_need-taken-requires
-block_need-taken-requires c = (c.requires.0, c.requires.1, omega (arith, c.requires.2))
-
-pub overflow_cast-total : goal.overflow_cast-total
-overflow_cast-total c = omega (arith, c.block_need-taken.ensures.upper_bound)
-
-pub overflow_add-total : goal.overflow_add-total
-overflow_add-total c = omega (arith, c.block_need-taken.ensures.upper_bound, c.loop-i.invariant.2, c.requires.2, through_volume _ _ _ _ (active_ready _ _ _ _ c.requires.0.2))
-
-pub overflow_add-i : goal.overflow_add-i
-overflow_add-i c = omega (arith, c.requires.2, through_volume _ _ _ _ (active_ready _ _ _ _ c.requires.0.2))
-
-pub loop-i-smaller : goal.loop-i-smaller
-loop-i-smaller c = omega arith
-
-pub loop-i-preserved : goal.loop-i-preserved
-loop-i-preserved c = (omega arith, planned_more _ _ _ _ _ c.loop-i.invariant.1 c.block_need-taken.ensures.value, omega (arith, c.loop-i.invariant.2, c.block_need-taken.ensures.upper_bound))
+pub sum-requires-clause-fits : goal.sum-requires-clause-fits
+sum-requires-clause-fits c = fits_from_yields_list c.map.result _ (YieldsList-from_map _ (counted_at c.args.card.now c.args.offset) (YieldsList-from_range 0 c.args.blocks c.args.blocks c.map.ensures.source (omega arith)) c.map.ensures.closure (λ x r q k. search rules)) (omega (arith, planned_sum c.args.card.now c.args.offset c.args.blocks, planned_most c.args.card.now c.args.offset c.args.blocks, c.requires.2, through_volume _ _ _ _ (active_ready _ _ _ _ c.requires.0.2)))
 
 pub returns : goal.returns
-returns c = record { value = planned_all _ _ c.loop-i.i _ _ c.loop-i.invariant.0 (omega arith) c.loop-i.invariant.1; upper_bound = omega (arith, c.loop-i.invariant.0, c.loop-i.invariant.2) }
+returns c =
+    let is = sum_from_yields_List c.map.result _ c.sum.ensures.ran (YieldsList-from_map _ (counted_at c.args.card.now c.args.offset) (YieldsList-from_range 0 c.args.blocks c.args.blocks c.map.ensures.source (omega arith)) c.map.ensures.closure (λ x r q k. search rules)) ∙ planned_sum c.args.card.now c.args.offset c.args.blocks in
+    record { value = is; upper_bound = omega (arith, is, planned_most c.args.card.now c.args.offset c.args.blocks) }

@@ -1,18 +1,20 @@
 -- `target_index` meets its contract, case by case.
-use mathlib.Core.Path.{◌≡◌}
-use Rattle.calls.specs.declared.answer.Target.TheVariants.{Active, Snapshot}
+use Prim.Native.Nat.{◌-◌, ◌<◌}
 use native.Mathlib.Omega.{arith}
-use Rattle.chains.proofs.NamedLaws.{descriptors_counted}
-use Rattle.calls.proofs.ReadLaws.{index_active}
+use lib.ListN.{length, length-take}
+use lib.Seq.{get_or-take}
+use Rattle.chains.proofs.NamedLaws.{length_descriptors, descriptors_counted}
+use Rattle.calls.proofs.ReadLaws.{index_active, index_found}
 use Rattle.targets.proofs.target.target_index.Goals as goal
 
-pub snapshot_index-requires : goal.snapshot_index-requires
-snapshot_index-requires c = (omega (arith, c.requires.0, c.requires.1), λ j h. c.requires.2 j (omega arith))
+pub index_of-requires : goal.index_of-requires
+index_of-requires c j h =
+    let below : j < length c.args.starts.now - 1 = omega (arith, length-take (length c.args.starts.now - 1) c.args.starts.now) in
+    rw (get_or-take (length c.args.starts.now - 1) c.args.starts.now j 0 below) (c.requires.1 j (omega arith))
 
-pub returns-in-Active : goal.returns-in-Active
-returns-in-Active c = let e : c.args.target ≡ Active = cc in
-    record { value = rw e (index_active _ _ _ (descriptors_counted _ _ _ (omega (arith, c.requires.1)))); upper_bound = omega (arith, c.requires.0) }
+pub returns-in-Active-clause-value : goal.returns-in-Active-clause-value
+returns-in-Active-clause-value c = rw c.in-Active.is (index_active _ _ _ (descriptors_counted _ _ _ (omega arith)))
 
-pub returns-in-Snapshot : goal.returns-in-Snapshot
-returns-in-Snapshot c = let e : c.args.target ≡ Snapshot = cc in
-    record { value = rw e c.snapshot_index.ensures.value; upper_bound = omega (arith, c.snapshot_index.ensures.upper_bound, c.requires.0) }
+pub returns-in-Snapshot-clause-value : goal.returns-in-Snapshot-clause-value
+returns-in-Snapshot-clause-value c =
+    rw c.in-Snapshot.is (index_found _ _ _ (length_descriptors _ _) _ (omega (arith, length-take (length c.args.starts.now - 1) c.args.starts.now, c.requires.0)) _ c.index_of.ensures.value c.index_of.ensures.upper_bound)

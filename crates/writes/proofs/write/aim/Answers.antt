@@ -1,20 +1,12 @@
--- `aim` meets its contract: a short chain by the walk with few places, any other by `aim_long`.
-use mathlib.Core.Path.{refl, ◌∙◌}
-use lib.ListN.{replicate}
-use Rattle.calls.proofs.CardLaws.{enough_few, places_long, places_card}
-use Rattle.calls.proofs.AimLaws.{aim_6}
-use mathlib.Core.Path.{ap}
+-- `aim` meets its contract: the few places are enough for a short chain, the many for any.
+use mathlib.Core.Path.{refl, ap}
 use mathlib.Core.Bool.{not}
+use lib.ListN.{replicate}
+use Rattle.calls.proofs.CardLaws.{enough_all, enough_few}
 use Rattle.writes.proofs.write.aim.Goals as goal
 
-pub walk_chain-found-requires : goal.walk_chain-found-requires
-walk_chain-found-requires c = enough_few _ (replicate 9 0) _ c.is_short.ensures (ap not c.if-not-is_short.false) refl
+pub aim_in-requires : goal.aim_in-requires
+aim_in-requires c = (c.requires, enough_few _ (replicate 9 0) _ c.is_short.ensures (ap not c.if-is_short.true) refl)
 
-pub returns-then-not-found : goal.returns-then-not-found
-returns-then-not-found c = c.no_aim.ensures ∙ aim_6 _ _ _ c.walk_chain-found.ensures.value c.if-not-found.true
-
-pub slice_bounds-aim_through-end : goal.slice_bounds-aim_through-end
-slice_bounds-aim_through-end c = places_long _ _ c.walk_chain-found.ensures.value c.if-not-found.false _ c.walk_chain-found.ensures.starts_after
-
-pub aim_through-requires : goal.aim_through-requires
-aim_through-requires c = places_card _ _ c.walk_chain-found.ensures.value c.if-not-found.false _ c.walk_chain-found.ensures.starts_after c.requires
+pub aim_in-requires-else-is_short : goal.aim_in-requires-else-is_short
+aim_in-requires-else-is_short c = (c.requires, enough_all _ (replicate 257 0) refl)

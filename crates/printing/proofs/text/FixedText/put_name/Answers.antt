@@ -1,0 +1,7 @@
+-- `put_name` meets its contract: the first bytes, as many as `name_length` says.
+use Rattle.printing.specs.Text.{name_text}
+use Rattle.printing.proofs.text.FixedText.put_name.Goals as goal
+
+pub returns-clause-value : goal.returns-clause-value
+unfolding name_text
+returns-clause-value g c = rw (c.put.ensures, c.name_length.ensures.value)

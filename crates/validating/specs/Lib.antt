@@ -1,0 +1,2 @@
+-- The definitions of the tests of a descriptor.
+pub mod Range
