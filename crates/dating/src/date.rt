@@ -1,9 +1,10 @@
 // The name of the region that contains the block of a logical number, through a descriptor of the chain.
-ghost use Rattle.std.specs.Prelude.{◌≡◌, ◌-◌, ◌<◌, length};
+ghost use Rattle.std.specs.Prelude.{◌≡◌, ◌-◌, ◌<◌, length, IfOk};
 ghost use Rattle.chains.specs.Chain.{chain as chain_of, descriptors};
 ghost use Rattle.entries.specs.Through.{Through};
 ghost use Rattle.entries.specs.Entry.{locate as locating};
-ghost use Rattle.calls.specs.Effect.{visited, visited_as};
+ghost use Rattle.dating.specs.Given.{given_as};
+ghost use Rattle.calls.specs.Effect.{given_at, visited, visited_as};
 
 use blocks::descriptor;
 use blocks::descriptor::Descriptor;
@@ -21,7 +22,8 @@ pub fn name_owner(
     l: Logical,
 ) -> Result<Option<[u8; NAME_SIZE]>, Refusal>
     requires { Through chain.card.now chain.starts.now (length chain.starts.now - 1) d × (l.0 < d.volume) }
-    ensures { visited_as result ≡ visited (descriptors (chain_of chain.entry.card.now)) (locating chain.entry.card.now (descriptors (chain_of chain.entry.card.now)) d l.0) }
+    ensures value { visited_as result ≡ visited (descriptors (chain_of chain.entry.card.now)) (locating chain.entry.card.now (descriptors (chain_of chain.entry.card.now)) d l.0) }
+    ensures given { IfOk result (λ name. given_as name ≡ given_at (descriptors (chain_of chain.entry.card.now)) (locating chain.entry.card.now (descriptors (chain_of chain.entry.card.now)) d l.0)) }
 {
     let (slot, owner) = find::locate(chain, d, l)?;
     if slot.entry.0 == 0 {

@@ -1,11 +1,12 @@
 // The visit that a block dates from: the name of the region that holds what a read of the target gives.
-ghost use Rattle.std.specs.Prelude.{◌≡◌, false, not, ◌&&◌, replicate};
+ghost use Rattle.std.specs.Prelude.{◌≡◌, false, not, ◌&&◌, replicate, IfOk};
 ghost use Rattle.blocks.specs.Name.{is_name};
 ghost use Rattle.chains.specs.Walk.{Enough};
 ghost use Rattle.calls.specs.Call.{Visit, target_as, name_as};
 ghost use Rattle.calls.specs.Parts.{area_bad, is_snapshot};
 ghost use Rattle.calls.specs.Effect.{as_visited, visited_as};
 ghost use Rattle.calls.specs.Step.{step};
+ghost use Rattle.dating.specs.Given.{given_as};
 
 use admitting::area;
 use blocks::numbers::Logical;
@@ -18,7 +19,8 @@ use walking::chain;
 
 // Names the visit that a block dates from, of the active store or of the snapshot that has the name.
 pub fn visit(card: &[u8], target: Target, l: Logical) -> Result<Option<[u8; NAME_SIZE]>, Refusal>
-    ensures { visited_as result ≡ as_visited (step (Visit (target_as target) (name_as target) l.0) card.now).outcome }
+    ensures value { visited_as result ≡ as_visited (step (Visit (target_as target) (name_as target) l.0) card.now).outcome }
+    ensures given { IfOk result (λ given. given_as given ≡ (step (Visit (target_as target) (name_as target) l.0) card.now).outcome.given) }
 {
     area::admit(card)?;
     if target::is_unnamed(target) {
@@ -41,7 +43,8 @@ fn visit_in<const PLACES: usize>(
     requires area { area_bad card.now ≡ false }
     requires called { (is_snapshot (target_as target) && not (is_name (name_as target))) ≡ false }
     requires places { Enough card.now (replicate PLACES 0) }
-    ensures { visited_as result ≡ as_visited (step (Visit (target_as target) (name_as target) l.0) card.now).outcome }
+    ensures value { visited_as result ≡ as_visited (step (Visit (target_as target) (name_as target) l.0) card.now).outcome }
+    ensures given { IfOk result (λ given. given_as given ≡ (step (Visit (target_as target) (name_as target) l.0) card.now).outcome.given) }
 {
     let mut starts = [0u32; PLACES];
     let count = chain::walk_chain(card, &mut starts)?;

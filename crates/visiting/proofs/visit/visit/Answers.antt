@@ -7,11 +7,11 @@ use Rattle.calls.proofs.CardLaws.{enough_few, enough_all}
 use Rattle.calls.proofs.ReadLaws.{visit_barred, visit_4, visit_refused}
 use Rattle.visiting.proofs.visit.visit.Goals as goal
 
-pub returns-in_err-admit : goal.returns-in_err-admit
-returns-in_err-admit c = rw (is_passed _ _ c.from_residual.ensures.1) (visit_barred _ _ _ _ _ c.in_err-admit.ensures (refused_set _))
+pub returns-in_err-admit-clause-value : goal.returns-in_err-admit-clause-value
+returns-in_err-admit-clause-value c = rw (is_passed _ _ c.from_residual.ensures.1) (visit_barred _ _ _ _ _ c.in_err-admit.ensures (refused_set _))
 
-pub returns-then-is_unnamed : goal.returns-then-is_unnamed
-returns-then-is_unnamed c = visit_refused _ _ _ _ _ _ (search (visit_4, c.in_ok-admit.ensures)) refl
+pub returns-then-is_unnamed-clause-value : goal.returns-then-is_unnamed-clause-value
+returns-then-is_unnamed-clause-value c = visit_refused _ _ _ _ _ _ (search (visit_4, c.in_ok-admit.ensures)) refl
 
 pub visit_in-requires-clause-area : goal.visit_in-requires-clause-area
 visit_in-requires-clause-area c = admitted _ c.in_ok-admit.ensures

@@ -1,0 +1,2 @@
+-- What the code of a visit gives, as the definitions have it.
+pub mod Given

@@ -1,0 +1,2 @@
+-- The law of what a visit gives.
+pub mod GivenLaws
