@@ -42,15 +42,15 @@ fn main(rt: HostRuntime) {
     let lines = &input[..got];
     let mut sheet = Sheet::new();
     let mut at = 0;
-    for number in 1.. {
-        if lines.len() <= at {
-            return;
-        }
+    let mut number: u32 = 1;
+    // no `for`: that each turn starts further on is why the sheet ends
+    while at < lines.len() {
         let turn = next::run_next(lines, at, number, &mut sheet, &mut out);
         // nothing is kept back: what a line prints is written before the next line runs
         if stdout.write_all(out.as_bytes()).is_err() || turn.ended {
             return;
         }
         at = turn.next;
+        number += 1;
     }
 }
