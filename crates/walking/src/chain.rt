@@ -35,7 +35,6 @@ fn set_flag(words: &mut [u32], h: usize)
 
 // Whether one of the descriptors in the blocks of `starts` has the name, where `words` has a flag for the hash of each of their names: a hash without one is of
 // no name among them.
-#[tactic(auto, using(links::proofs::ChainLaws::hash_unnamed))]
 fn is_repeated(card: &[u8], starts: &[u32], words: &[u32], name: [u8; NAME_SIZE]) -> bool
     requires { Hashed card.now starts.now (length starts.now) words.now × ((j : ℕ) → j < length starts.now → block_size * get_or starts.now j 0 + block_size ≤ length card.now) }
     ensures { result ≡ named (descriptors_at card.now starts.now) name }
