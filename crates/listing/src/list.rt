@@ -1,14 +1,15 @@
 // A listing of the chain.
-ghost use Rattle.std.specs.Prelude.{◌≡◌, List, ℕ, ◌+◌, ◌*◌, ◌-◌, ◌≤◌, ◌<◌, length, take, replicate, get_or, IfOk};
+ghost use Rattle.std.specs.Prelude.{◌≡◌, true, List, ℕ, ◌+◌, ◌*◌, ◌-◌, ◌≤◌, ◌<◌, length, take, replicate, get_or, IfOk};
 ghost use Rattle.blocks.specs.Pick.{pick};
 ghost use Rattle.blocks.specs.Bytes.{block_size};
+ghost use Rattle.chains.specs.Chain.{chain, starts_size, walk_of};
 ghost use Rattle.chains.specs.Walk.{Enough, places_left};
 ghost use Rattle.calls.specs.declared.answer.Record.{Record as RecordOf};
 ghost use Rattle.calls.specs.Call.{Listing, Records, answered};
 ghost use Rattle.calls.specs.Parts.{SoundCard};
 ghost use Rattle.calls.specs.Ladder.{admission, first_row};
 ghost use Rattle.calls.specs.Step.{is_accepted, step, done};
-ghost use Rattle.calls.specs.Listing.{filling_as, filling_of, record_by, record_count};
+ghost use Rattle.calls.specs.Listing.{filling_as, filling_of, filling_by, plan_of, record_by, filled, record_count};
 
 use admitting::area;
 use blocks::descriptor;
@@ -23,6 +24,8 @@ use walking::chain;
 pub fn count_listed(card: &[u8], starts: &mut [u32], room: usize) -> Result<usize, Refusal>
     requires { Enough card.now starts.old }
     ensures value { (records : List RecordOf) → length records ≡ room → filling_as result ≡ filling_of card.now records }
+    ensures filling { let w = walk_of (chain card.now) in filling_as result ≡ filling_by card.now w.sound w.place.0 w.count room }
+    ensures plan { is_accepted (first_row (admission card.now)) ≡ true → starts.old ≡ replicate starts_size 0 → let f = filling_as result in record { answer = f.answer; count = f.count; starts = starts.new } ≡ plan_of card.now room }
     ensures starts_after { starts.new ≡ pick (is_accepted (first_row (admission card.now))) (places_left card.now starts.old) starts.old }
     ensures sound { IfOk result (λ n. SoundCard card.now n (take (n + 1) starts.new)) }
     ensures upper_bound { IfOk result (λ n. (n ≤ room) × (n < length starts.old)) }
@@ -50,6 +53,16 @@ pub fn record_of(card: &[u8], starts: &[u32], k: usize) -> Record
     }
 }
 
+// The first `n` records are now those of the `n` regions.
+fn fill(card: &[u8], starts: &[u32], records: &mut [Record], n: usize)
+    requires { (n ≤ length records.old) × (n < length starts.now) × ((j : ℕ) → j < n → block_size * get_or starts.now j 0 + block_size ≤ length card.now) }
+    ensures { records.new ≡ filled card.now starts.now records.old n }
+{
+    for (k, r) in records[..n].iter_mut().enumerate() {
+        *r = record_of(card, &starts[..n + 1], k);
+    }
+}
+
 // Lists the chain: the first records are those of its descriptors, in chain order, and the others are unchanged.
 pub fn list(card: &[u8], records: &mut [Record]) -> Result<(), Refusal>
     ensures { done (answered result) (Records records.new) card.now ≡ step (Listing records.old) card.now }
@@ -69,9 +82,7 @@ fn list_in<const PLACES: usize>(card: &[u8], records: &mut [Record]) -> Result<(
 {
     let mut starts = [0u32; PLACES];
     let count = count_listed(card, &mut starts, records.len())?;
-    for (k, r) in records[..count].iter_mut().enumerate() {
-        *r = record_of(card, &starts[..count + 1], k);
-    }
+    fill(card, &starts, records, count);
     Ok(())
 }
 

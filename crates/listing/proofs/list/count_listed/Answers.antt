@@ -5,6 +5,7 @@ use lib.ListN.{take}
 use Rattle.calls.specs.Parts.{SoundCard}
 use Rattle.calls.proofs.ResultLaws.{refused_test, is_passed, admitted, walk_card}
 use Rattle.calls.proofs.ListingLaws.{list_1, list_6, list_14, filling_refused, filling_accepted}
+use Rattle.listing.proofs.PlanLaws.{found_1, found_6, found_14, found_0, plan_is}
 use Rattle.listing.proofs.list.count_listed.Goals as goal
 use Rattle.listing.proofs.list.count_listed.Goals.{In_ok-count}
 
@@ -25,6 +26,19 @@ returns-then-room-count-clause-value c records long = filling_refused _ _ _ _ (l
 pub returns-clause-value : goal.returns-clause-value
 returns-clause-value c records long = filling_accepted _ _ _ _ (sound (goal.at.returns-clause-value c).In_ok-count) (rw long c.if-room-count.false)
 
+-- the same by what the walk found
+pub returns-in_err-admit-clause-filling : goal.returns-in_err-admit-clause-filling
+returns-in_err-admit-clause-filling c = rw (is_passed _ _ c.from_residual.ensures.1) (found_1 _ _ _ c.in_err-admit.ensures)
+
+pub returns-in_err-count-clause-filling : goal.returns-in_err-count-clause-filling
+returns-in_err-count-clause-filling c = rw (is_passed _ _ c.from_residual-in_err-count.ensures.1) (found_6 _ _ c.in_ok-admit.ensures _ c.in_err-count.ensures.value refl)
+
+pub returns-then-room-count-clause-filling : goal.returns-then-room-count-clause-filling
+returns-then-room-count-clause-filling c = found_14 _ _ c.in_ok-admit.ensures _ c.in_ok-count.ensures.value refl c.if-room-count.true
+
+pub returns-clause-filling : goal.returns-clause-filling
+returns-clause-filling c = found_0 _ _ c.in_ok-admit.ensures _ c.in_ok-count.ensures.value refl c.if-room-count.false
+
 pub returns-clause-sound : goal.returns-clause-sound
 returns-clause-sound c = sound (goal.at.returns-clause-sound c).In_ok-count
 
@@ -40,3 +54,16 @@ returns-then-room-count-clause-starts_after c = rw (← c.in_ok-admit.ensures) c
 
 pub returns-clause-starts_after : goal.returns-clause-starts_after
 returns-clause-starts_after c = rw (← c.in_ok-admit.ensures) c.walk_chain.ensures.starts_after_2
+
+-- so these and the places are the plan, where all places were lent as zeros
+pub returns-in_err-admit-clause-plan : goal.returns-in_err-admit-clause-plan
+returns-in_err-admit-clause-plan c = plan_is _ _ _ (returns-in_err-admit-clause-filling c) _ _ (returns-in_err-admit-clause-starts_after c)
+
+pub returns-in_err-count-clause-plan : goal.returns-in_err-count-clause-plan
+returns-in_err-count-clause-plan c = plan_is _ _ _ (returns-in_err-count-clause-filling c) _ _ (returns-in_err-count-clause-starts_after c)
+
+pub returns-then-room-count-clause-plan : goal.returns-then-room-count-clause-plan
+returns-then-room-count-clause-plan c = plan_is _ _ _ (returns-then-room-count-clause-filling c) _ _ (returns-then-room-count-clause-starts_after c)
+
+pub returns-clause-plan : goal.returns-clause-plan
+returns-clause-plan c = plan_is _ _ _ (returns-clause-filling c) _ _ (returns-clause-starts_after c)

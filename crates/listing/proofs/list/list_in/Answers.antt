@@ -1,32 +1,17 @@
--- `list_in` meets its contract: each turn sets one record more, to what `record_of` gives.
-use Rattle.std.proofs.Common.{◌≡◌, ◌+◌, ◌-◌, length, take, refl, ap, arith, length-take}
-use Rattle.std.proofs.lemmas.Grind.{common_steps}
-use Rattle.blocks.specs.Bytes.{store_all}
-use Rattle.calls.specs.declared.answer.Record.{Record}
-use Rattle.calls.specs.Call.{Records}
-use Rattle.calls.specs.Meaning.{lent_of, filled_of, stores_of, given_of}
-use Rattle.calls.proofs.StepLaws.{step_accepted}
-use Rattle.calls.proofs.ResultLaws.{refused_on}
-use Rattle.calls.proofs.ListingLaws.{filling_answer, sound_count, sound_long, sound_inside, sound_listed}
+-- `list_in` meets its contract: what the tests leave is a plan for the records, and `fill` fills them by it.
+use Rattle.std.proofs.Common.{refl, arith}
+use Rattle.calls.proofs.PlanLaws.{plan_done}
+use Rattle.calls.proofs.ResultLaws.{passed_on}
+use Rattle.listing.proofs.PlanLaws.{fill_ready, plan_refused, none_filled, plan_accepted}
 use Rattle.listing.proofs.list.list_in.Goals as goal
 
 pub returns-in_err-count : goal.returns-in_err-count
-unfolding lent_of
-returns-in_err-count g c = refused_on _ _ _ _ c.from_residual.ensures.1 (filling_answer _ _ _ (c.in_err-count.ensures.value _ refl))
+returns-in_err-count g c =
+    rw (passed_on _ _ c.from_residual.ensures.1)
+    (plan_done _ _ _ (plan_refused _ c.count_listed.new.starts _ _ (c.in_err-count.ensures.value _ refl) (omega (arith, c.requires.0))) _ (none_filled _ c.count_listed.new.starts _))
 
-pub record_of-requires : goal.record_of-requires
-record_of-requires g c = sound_inside _ _ _ c.in_ok-count.ensures.sound _ (omega (arith, length-take {A = Record}))
-
-pub loop-k-preserved : goal.loop-k-preserved
-loop-k-preserved g c =
-    let e : length (take (c.in_ok-count.count + 1) c.count_listed.new.starts) - 1 ≡ c.in_ok-count.count = omega (arith, sound_long _ _ _ c.in_ok-count.ensures.sound) in
-    let r = rw e at c.record_of.ensures in
-    grind (arith, common_steps, r)
+pub fill-requires : goal.fill-requires
+fill-requires g c = let ready = fill_ready _ _ _ c.in_ok-count.ensures.sound in (omega (arith, c.in_ok-count.ensures.upper_bound), ready.0, ready.1)
 
 pub returns : goal.returns
-unfolding filled_of stores_of given_of store_all
-returns g c =
-    let n = sound_count _ _ _ c.in_ok-count.ensures.sound in
-    let long : length (take c.in_ok-count.count c.args.records.now) ≡ c.in_ok-count.count = omega (arith, length-take {A = Record}, c.in_ok-count.ensures.upper_bound) in
-    step_accepted _ _ (filling_answer _ _ _ (c.in_ok-count.ensures.value _ refl)) _
-    (rw (← n) (ap Records (sound_listed _ _ _ c.in_ok-count.ensures.sound _ _ (omega (arith, long)) (λ k h. c.loop-k.invariant k (omega (arith, long)))))) _ refl refl
+returns g c = plan_done _ _ _ (plan_accepted _ _ _ _ c.in_ok-count.ensures.sound (c.in_ok-count.ensures.value _ refl)) _ c.fill.ensures

@@ -1,0 +1,2 @@
+-- The laws of what a listing plans and fills.
+pub mod PlanLaws
