@@ -20,7 +20,7 @@ use Rattle.calls.specs.Meaning.{answer_of}
 use Rattle.calls.specs.Effect.{no_record, record_of, listed}
 use Rattle.calls.proofs.StepLaws.{step_answer}
 use Rattle.calls.proofs.ListingLaws.{sound_count, sound_inside, sound_record}
-use Rattle.boundary.specs.RecordBytes.{record_bytes, records_bytes, room_in, listing_of, filled_bytes_to}
+use Rattle.boundary.specs.RecordBytes.{record_bytes, records_bytes, room_in, listing_of, filled_bytes_to, filled_bytes}
 
 pub record_length : (r : Record) → length r.name ≡ 16 → length (record_bytes r) ≡ 28
 unfolding record_bytes le32
@@ -43,7 +43,7 @@ record_put c₀ c₁ c₂ c₃ c₄ at r h n e₁ e₂ e₃ e₄ =
     let f₃ = put_next c₀ at x₂ (at + 20) (le32 r.beta.0) f₂ e₃ (omega (arith, l₂)) (omega (arith, length_le32 r.beta.0)) in
     put_next c₀ at x₃ (at + 24) (le32 r.next.0) f₃ e₄ (omega (arith, l₃)) (omega (arith, length_le32 r.next.0))
 
--- filling none and one more
+-- filling none, one more and all
 module _ (c starts b : List ℕ) (n : ℕ) where
   pub bytes_none : b ≡ filled_bytes_to c starts b n 0
   unfolding filled_bytes_to
@@ -52,6 +52,10 @@ module _ (c starts b : List ℕ) (n : ℕ) where
   pub bytes_more : (i : ℕ) (x y : List ℕ) (r : Record) → r ≡ record_by c starts n i → x ≡ filled_bytes_to c starts b n i → y ≡ splice x (28 * i) (record_bytes r) → y ≡ filled_bytes_to c starts b n (i + 1)
   unfolding filled_bytes_to
   bytes_more i x y r is e f = rw (add-one, f, e, is)
+
+  pub bytes_all : (i : ℕ) (x : List ℕ) → i ≡ n → x ≡ filled_bytes_to c starts b n i → x ≡ filled_bytes c starts b n
+  unfolding filled_bytes
+  bytes_all i x q e = e ∙ rw q
 
 -- one more record after those of a list of descriptors
 records_more : (ds : List Descriptor) (d : Descriptor) → records_bytes (listed (ds ++ (d ∷ [])) []) ≡ records_bytes (listed ds []) ++ record_bytes (record_of d)
@@ -90,11 +94,12 @@ module _ (c starts : List ℕ) (n : ℕ) (s : SoundCard c n starts) (b : List �
       )
 
   -- all of them, and the bytes after them
-  bytes_listed : filled_bytes_to c starts b n n ≡ records_bytes (listed ds []) ++ drop (28 * length ds) b
+  bytes_listed : filled_bytes c starts b n ≡ records_bytes (listed ds []) ++ drop (28 * length ds) b
   bytes_listed =
       let all = bytes_from n (omega arith) in
       let whole : take n ds ≡ ds = ap (λ (k : ℕ). take k ds) (sound_count c starts n s) ∙ take-length ds in
-      all.0
+      sym (bytes_all c starts b n n _ refl refl)
+      ∙ all.0
       ∙ splice_start b (first n)
       ∙ ap (λ (k : ℕ). first n ++ drop k b) (all.1 ∙ ap (λ (k : ℕ). 28 * k) (sound_count c starts n s))
       ∙ ap (λ (l : List Descriptor). records_bytes (listed l []) ++ drop (28 * length ds) b) whole
@@ -109,7 +114,7 @@ module _ (c b : List ℕ) where
   unfolding listing_of
   listing_barred n p e z = rw (step_answer (Listing (room_in b)) c, e, z)
 
-  pub listing_filled : answer_of (Listing (room_in b)) c ≡ accepted → (starts : List ℕ) (n : ℕ) → SoundCard c n starts → 28 * n ≤ length b → (x : List ℕ) → x ≡ filled_bytes_to c starts b n n
+  pub listing_filled : answer_of (Listing (room_in b)) c ≡ accepted → (starts : List ℕ) (n : ℕ) → SoundCard c n starts → 28 * n ≤ length b → (x : List ℕ) → x ≡ filled_bytes c starts b n
       → record { answer = accepted; bytes = x } ≡ listing_of c b
   unfolding listing_of
   listing_filled e starts n s room x is = rw (step_answer (Listing (room_in b)) c, e, is, bytes_listed c starts n s b room)
