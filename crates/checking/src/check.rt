@@ -53,7 +53,9 @@ fn check_within<const FLAGS: usize>(chain: Chain) -> Result<(), Misplaced>
     check_chain(chain, &mut seen)
 }
 
-// The same, with the smallest of the three numbers of flags that suffices: on a small card to clear more would be most of the work.
+// The same, with the smallest of the three numbers of flags that suffices: on a small card to clear more would be most of the work. It is a call of its own, so that
+// the stack for the flags is taken by a check that comes to them, and not by one that is refused before.
+#[inline(never)]
 pub fn check_regions(chain: Chain) -> Result<(), Misplaced>
     ensures { verdict_as result ≡ check_card chain.entry.card.now }
 {
