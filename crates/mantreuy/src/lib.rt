@@ -164,8 +164,11 @@ pub extern "C" fn mantreuy_check(card: &[u8], place: &mut u32) -> u32
 pub extern "C" fn mantreuy_pad_name(text: &[u8], name: &mut [u8]) -> u32
     ensures { record { number = result; name = name.new } ≡ padding_of text.now name.old }
 {
+    if name.len() != NAME_SIZE {
+        return Refusal::BadName.number();
+    }
     let padded = name::pad_name(text);
-    if name.len() != NAME_SIZE || !name::is_name(padded) {
+    if !name::is_name(padded) {
         return Refusal::BadName.number();
     }
     name.copy_from_slice(&padded);
