@@ -1,13 +1,13 @@
 -- Laws of the words of a line, of `==` and of keys.
 use mathlib.Core.Path.{◌≡◌, refl, sym, ap, ◌∙◌, subst}
-use mathlib.Core.Bool.{Bool, true, false, ◌&&◌, cond}
+use mathlib.Core.Bool.{Bool, true, false, not, ◌&&◌, cond}
 use mathlib.Core.List.{List, [], ◌∷◌, ◌++◌}
-use Prim.Native.Nat.{ℕ}
+use Prim.Native.Nat.{ℕ, ◌≤◌, ◌<◌}
 use native.Mathlib.Omega.{arith}
 use lib.ListN.{length, take, get_or}
 use lib.Dec.{eqb}
 use lib.Pointwise.{pointwise}
-use borrow.Author.Tests.{eq-eqb, ne_eqb, eqb-true, eqb-false}
+use borrow.Author.Tests.{eq-eqb, ne_eqb, eqb-true, eqb-false, not-false}
 use denote.Param.Members.{Mut}
 use denote.Ref.{Bor}
 use Rattle.std.proofs.Common.{Some}
@@ -87,3 +87,20 @@ key_is (k ∷ ks) (b ∷ bs) = by (eqb k b) refl (key_is ks bs)
 
 pub key_by : (k w : List ℕ) (t : Bool) → pointwise eqb (take (length k) w) k ≡ t → has_key k w ≡ t
 key_by k w t e = sym (key_is k w) ∙ e
+
+-- a word that is shorter than a key does not begin with it, and one that begins with it is at least as long
+pub key_short : (k w : List ℕ) → length w < length k → has_key k w ≡ false
+unfolding has_key
+key_short [] w h = absurd (omega arith)
+key_short (k ∷ ks) [] h = refl
+key_short (k ∷ ks) (b ∷ bs) h = by (eqb k b) (key_short ks bs (omega arith))
+  where
+    by : (t : Bool) → has_key ks bs ≡ false → (t && has_key ks bs) ≡ false
+    by true more = more
+    by false more = refl
+
+pub key_fits : (k w : List ℕ) (r : Bool) → r ≡ has_key k w → not r ≡ false → length k ≤ length w
+key_fits k w r e f = omega (arith, by)
+  where
+    by : length w < length k → ⊥
+    by h = let z : true ≡ false = sym (not-false r f) ∙ e ∙ key_short k w h in let y : ◌≡◌ {A = ℕ} 0 1 = cc in absurd (omega arith)

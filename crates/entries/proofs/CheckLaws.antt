@@ -410,7 +410,7 @@ module _ (c : List ℕ) (d : Descriptor) (turn m n : ℕ) (w : Taken) (seen : Li
     run_stop = walk_stop d turn run_later run w seen run_split seen'
 
 -- entries before left are counted, as all 128 are in a full table
-entries_counted : (c : List ℕ) (m left : ℕ) (k j : ℕ) → j + k ≤ left → j + k ≤ 128 → entry_namings c m left k j ≡ entry_namings c m 128 k j
+pub entries_counted : (c : List ℕ) (m left : ℕ) (k j : ℕ) → j + k ≤ left → j + k ≤ 128 → entry_namings c m left k j ≡ entry_namings c m 128 k j
 unfolding entry_namings
 entries_counted c m left zero j h l = refl
 entries_counted c m left (suc k) j h l = rw (lt-ltb j left (omega arith), lt-ltb j 128 (omega arith), entries_counted c m left k (suc j) (omega arith) (omega arith))

@@ -254,13 +254,13 @@ module _ (c starts : List ℕ) (count : ℕ) (d : Descriptor) (t : Through c sta
     placed_is : is_in_place ds d p.0 ≡ not (eqb k count)
     placed_is = sym (in_place_region c starts count d t p.0) ∙ sym (ap not told_both.0 ∙ not_not (in_place_at starts (cost_of d) d.beta.0 p.0))
 
-    told_misplaced : k ≡ count → is_in_place ds d p.0 ≡ false
+    pub told_misplaced : k ≡ count → is_in_place ds d p.0 ≡ false
     told_misplaced e = placed_is ∙ ap not (eq-eqb k count e)
 
-    told_placed : (k ≡ count → ⊥) → is_in_place ds d p.0 ≡ true
+    pub told_placed : (k ≡ count → ⊥) → is_in_place ds d p.0 ≡ true
     told_placed n = placed_is ∙ ap not (ne_eqb k count n)
 
-    told_owner : (k ≡ count → ⊥) → k ≡ pick (eqb p.0 0) 0 (owner_index ds p.0)
+    pub told_owner : (k ≡ count → ⊥) → k ≡ pick (eqb p.0 0) 0 (owner_index ds p.0)
     told_owner n = told_both.1 (in_place_region c starts count d t p.0 ∙ told_placed n)
 
   -- the same as an option, and what the code makes of none

@@ -203,7 +203,7 @@ Gives c lent r starts = record {
   count_in_bounds : IfOk r (λ n. n < length lent);
 }
 
-gives_fault : (c lent starts : List ℕ) (p : ℕ) → chain c ≡ Unsound p → places_left c lent ≡ starts → Gives c lent (Err (record { 0 = physical p })) starts
+pub gives_fault : (c lent starts : List ℕ) (p : ℕ) → chain c ≡ Unsound p → places_left c lent ≡ starts → Gives c lent (Err (record { 0 = physical p })) starts
 unfolding walk_of regions_of
 gives_fault c lent starts p found left = record { value = rw found; starts_after = tt; starts_after_2 = sym left; count_in_bounds = tt }
 
@@ -280,7 +280,7 @@ hash_low : (name : List ℕ) → hash_of name < 1024
 unfolding hash_of
 hash_low name = omega arith
 
-hashed_none : (c starts words : List ℕ) → length words ≡ 32 → Hashed c starts 0 words
+pub hashed_none : (c starts words : List ℕ) → length words ≡ 32 → Hashed c starts 0 words
 hashed_none c starts words long = record { long = long; each = λ j h. absurd (omega arith) }
 
 pub hashed_more : (c starts : List ℕ) (k : ℕ) (words : List ℕ) → Hashed c starts k words → (d : Descriptor) → d ≡ descriptor_at c (get_or starts k 0) → (hash : ℕ) → hash ≡ hash_of d.name

@@ -26,7 +26,7 @@ use Rattle.sheet.specs.declared.run.Addition.TheVariants.{Nothing}
 use Rattle.sheet.specs.State.{State}
 use Rattle.sheet.specs.Sheet.{LineResult, left_by, added, card_of, with_card, call_of, blocks_of, addition_of, count_of, records_after, after_call, after_line}
 
-abbrev line_result : Answer → ℕ → Addition → List Record → List ℕ → LineResult
+abbrev pub line_result : Answer → ℕ → Addition → List Record → List ℕ → LineResult
 line_result a blocks addition records area = record { ran = record { answer = a; blocks = blocks; addition = addition; records = records; ended = false }; area = area }
 
 -- a call that was made on the first n blocks of the area: s is the sheet as the code sees its parts, and w as it was given

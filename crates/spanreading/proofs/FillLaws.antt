@@ -56,6 +56,9 @@ pub slot_block : (c : List ℕ) (d : Descriptor) (l : ℕ) (s : Slot) → entry_
 unfolding found_block
 slot_block c d l s e = ap (λ (x : Found). physical (found_block x)) e
 
+pub block_found_lem : (c : List ℕ) (d : Descriptor) (l : ℕ) (f : Found) → f ≡ found_through c d l → (p : Physical) → p ≡ physical (found_block f) → p ≡ physical (found_block (found_through c d l))
+block_found_lem c d l f is p e = e ∙ ap (λ (x : Found). physical (found_block x)) is
+
 -- a piece put where it stands
 pub piece_put : (c : List ℕ) (f : Found) (o l : ℕ) (out y : List ℕ) (p : Physical) → p ≡ physical (found_block f) → 512 * l < o + length out → o < 512 * l + 512
     → (q : Piece) → q ≡ piece_of o (length out) l

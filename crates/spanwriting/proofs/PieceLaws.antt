@@ -173,7 +173,7 @@ module _ (c starts : List ℕ) (count : ℕ) (d : Descriptor) (l o : ℕ) (bytes
     unfolding merged_on block_found
     merged_is = rw (← a.active, found_entry)
 
-    piece_room : d.beta.0 + n ≤ length c / 512
+    pub piece_room : d.beta.0 + n ≤ length c / 512
     unfolding block_count
     piece_room = omega (arith, ready.room, written_is)
 
