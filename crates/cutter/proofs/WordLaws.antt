@@ -88,6 +88,17 @@ key_is (k ∷ ks) (b ∷ bs) = by (eqb k b) refl (key_is ks bs)
 pub key_by : (k w : List ℕ) (t : Bool) → pointwise eqb (take (length k) w) k ≡ t → has_key k w ≡ t
 key_by k w t e = sym (key_is k w) ∙ e
 
+-- there is a first word
+pub words_first : (l : List ℕ) → words_of l ≡ [] → ⊥
+unfolding words_of with_byte
+words_first [] e = let z : ◌≡◌ {A = ℕ} 0 1 = cc in absurd (omega arith)
+words_first (b ∷ bs) e = by (eqb b 32) (words_of bs) e
+  where
+    by : (t : Bool) (ws : List (List ℕ)) → pick t ([] ∷ ws) (with_byte b ws) ≡ [] → ⊥
+    by true ws e = let z : ◌≡◌ {A = ℕ} 0 1 = cc in absurd (omega arith)
+    by false [] e = let z : ◌≡◌ {A = ℕ} 0 1 = cc in absurd (omega arith)
+    by false (w ∷ ws) e = let z : ◌≡◌ {A = ℕ} 0 1 = cc in absurd (omega arith)
+
 -- a word that is shorter than a key does not begin with it, and one that begins with it is at least as long
 pub key_short : (k w : List ℕ) → length w < length k → has_key k w ≡ false
 unfolding has_key
