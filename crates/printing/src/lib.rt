@@ -1,4 +1,4 @@
 // The bytes that a work sheet prints: definitions, and the code of what they are made of.
 #![tactic(auto)]
 
-pub mod text; // a text in fixed memory, and numbers and names put at its end
+pub mod text; // a text in lent memory, and numbers and names put at its end

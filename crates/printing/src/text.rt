@@ -1,98 +1,97 @@
-// What a line prints, as text in fixed memory.
+// What a line prints, as text put into lent memory.
+ghost use Rattle.std.specs.Prelude.{◌≡◌, ◌∷◌, [], ◌++◌, ◌+◌, ◌*◌, ◌≤◌, ◌<◌, length, take};
+ghost use Rattle.blocks.specs.Bytes.{splice};
+ghost use Rattle.blocks.specs.Name.{name_size};
+ghost use Rattle.printing.specs.Text.{most_digits, decimal, name_text};
+
+use blocks::bytes;
 use blocks::sizes::NAME_SIZE;
 use names::name;
-use std::marker::Model;
 
 // Bytes that are enough for what a line prints.
 pub const LINE_ROOM: usize = 8192;
 
-// A text of at most `N` bytes: the first `length` of its bytes. Its methods put the parts, and no `Display`: `fmt::Write` promises the text where it gives `Ok`, and what a
-// line prints is stated of every line.
+// A text in lent bytes: the first `length` of them. What is put stands after these, and every other byte stays as it was. Its methods put the parts, and no `Display`:
+// `fmt::Write` promises the text where it gives `Ok`, and what a line prints is stated of every line.
 #[derive(Drop)]
-pub struct FixedText<const N: usize> {
-    bytes: [u8; N],
-    length: usize,
+pub struct Text<'a> {
+    pub bytes: &'a mut [u8],
+    pub length: usize,
 }
 
-// A text with room for what a line prints.
-pub type Text = FixedText<LINE_ROOM>;
-
-// A contract sees a text as the list of its bytes.
-impl<const N: usize> Model for FixedText<N> {
-    ghost use Rattle.std.specs.Prelude.{List, ℕ, ◌≤◌, take};
-
-    ghost Value = { List ℕ };
-
-    ghost view = { λ t. take t.length t.bytes };
-
-    ghost invariant = { λ t. t.length ≤ N };
-}
-
-impl<const N: usize> FixedText<N> {
-    ghost use Rattle.std.specs.Prelude.{◌≡◌, ◌∷◌, [], ◌++◌, ◌+◌, ◌≤◌, ◌<◌, length};
-    ghost use Rattle.blocks.specs.Name.{name_size};
-    ghost use Rattle.printing.specs.Text.{most_digits, decimal, name_text};
-
+impl<'a> Text<'a> {
     // The empty text.
-    pub fn new() -> Self
-        ensures { result ≡ [] }
+    pub fn new(bytes: &'a mut [u8]) -> Text<'a>
+        ensures value { (result.length ≡ 0) × (result.bytes.now ≡ bytes.old) }
+        ensures lent { result.bytes.ghost_name ≡ bytes.entry.ghost_name }
     {
-        FixedText {
-            bytes: [0; N],
-            length: 0,
-        }
+        Text { bytes, length: 0 }
+    }
+
+    // The text of the bytes before index `at`, so that what is put stands from there on.
+    pub fn after(bytes: &'a mut [u8], at: usize) -> Text<'a>
+        ensures value { (result.length ≡ at) × (result.bytes.now ≡ bytes.old) }
+        ensures lent { result.bytes.ghost_name ≡ bytes.entry.ghost_name }
+    {
+        Text { bytes, length: at }
     }
 
     // The bytes of the text.
     pub fn as_bytes(&self) -> &[u8]
-        ensures { result.now ≡ self.now }
+        requires { self.now.length ≤ length self.now.bytes.now }
+        ensures { result.now ≡ take self.now.length self.now.bytes.now }
     {
         &self.bytes[..self.length]
     }
 
     // Takes all bytes off.
     pub fn clear(&mut self)
-        ensures { self.new ≡ [] }
+        ensures value { (self.new.length ≡ 0) × (self.new.bytes.now ≡ self.old.bytes.now) }
+        ensures lent { self.new.bytes.ghost_name ≡ self.old.bytes.ghost_name }
     {
         self.length = 0;
     }
 
     // Puts bytes at the end as they are.
     pub fn put(&mut self, text: &[u8])
-        requires { length self.old + length text.now ≤ N }
-        ensures { self.new ≡ self.old ++ text.now }
+        requires { self.old.length + length text.now ≤ length self.old.bytes.now }
+        ensures value { (self.new.length ≡ self.old.length + length text.now) × (self.new.bytes.now ≡ splice self.old.bytes.now self.old.length text.now) }
+        ensures lent { (self.new.bytes.ghost_name ≡ self.old.bytes.ghost_name) × (length self.new.bytes.now ≡ length self.old.bytes.now) }
     {
-        let end = self.length + text.len();
-        let bytes = &mut self.bytes[..];
-        bytes[self.length..end].copy_from_slice(text);
-        self.length = end;
+        bytes::put_bytes(self.bytes, self.length, text);
+        self.length += text.len();
     }
 
     // Puts one decimal digit at the end.
     fn put_digit(&mut self, d: u32)
-        requires { (d < 10) × (length self.old + 1 ≤ N) }
-        ensures { self.new ≡ self.old ++ ((48 + d) ∷ []) }
+        requires { (d < 10) × (self.old.length + 1 ≤ length self.old.bytes.now) }
+        ensures value { (self.new.length ≡ self.old.length + 1) × (self.new.bytes.now ≡ splice self.old.bytes.now self.old.length ((48 + d) ∷ [])) }
+        ensures lent { (self.new.bytes.ghost_name ≡ self.old.bytes.ghost_name) × (length self.new.bytes.now ≡ length self.old.bytes.now) }
     {
         self.put(&[b'0' + d as u8]);
     }
 
     // Puts a number in decimal at the end: the digits of a tenth of it, then its last digit.
     fn put_decimal(&mut self, v: u32)
-        requires { length self.old + most_digits ≤ N }
-        ensures value { self.new ≡ self.old ++ decimal v }
-        ensures upper_bound { length self.new ≤ length self.old + most_digits }
+        requires { self.old.length + most_digits ≤ length self.old.bytes.now }
+        ensures value { (self.new.length ≡ self.old.length + length (decimal v)) × (self.new.bytes.now ≡ splice self.old.bytes.now self.old.length (decimal v)) }
+        ensures upper_bound { self.new.length ≤ self.old.length + most_digits }
+        ensures lent { (self.new.bytes.ghost_name ≡ self.old.bytes.ghost_name) × (length self.new.bytes.now ≡ length self.old.bytes.now) }
     {
-        if 10 <= v {
+        if v < 10 {
+            self.put_digit(v);
+        } else {
             self.put_decimal(v / 10);
+            self.put_digit(v % 10);
         }
-        self.put_digit(v % 10);
     }
 
     // Puts a key and a number in decimal at the end.
     pub fn put_field(&mut self, key: &[u8], v: u32)
-        requires { length self.old + length key.now + most_digits ≤ N }
-        ensures value { self.new ≡ self.old ++ key.now ++ decimal v }
-        ensures upper_bound { length self.new ≤ length self.old + length key.now + most_digits }
+        requires { self.old.length + length key.now + most_digits ≤ length self.old.bytes.now }
+        ensures value { (self.new.length ≡ self.old.length + length (key.now ++ decimal v)) × (self.new.bytes.now ≡ splice self.old.bytes.now self.old.length (key.now ++ decimal v)) }
+        ensures upper_bound { self.new.length ≤ self.old.length + length key.now + most_digits }
+        ensures lent { (self.new.bytes.ghost_name ≡ self.old.bytes.ghost_name) × (length self.new.bytes.now ≡ length self.old.bytes.now) }
     {
         self.put(key);
         self.put_decimal(v);
@@ -100,9 +99,10 @@ impl<const N: usize> FixedText<N> {
 
     // Puts a name at the end, without the zero bytes that pad it.
     pub fn put_name(&mut self, name: [u8; NAME_SIZE])
-        requires { length self.old + name_size ≤ N }
-        ensures value { self.new ≡ self.old ++ name_text name }
-        ensures upper_bound { length self.new ≤ length self.old + name_size }
+        requires { self.old.length + name_size ≤ length self.old.bytes.now }
+        ensures value { (self.new.length ≡ self.old.length + length (name_text name)) × (self.new.bytes.now ≡ splice self.old.bytes.now self.old.length (name_text name)) }
+        ensures upper_bound { self.new.length ≤ self.old.length + name_size }
+        ensures lent { (self.new.bytes.ghost_name ≡ self.old.bytes.ghost_name) × (length self.new.bytes.now ≡ length self.old.bytes.now) }
     {
         self.put(&name[..name::name_length(&name)]);
     }

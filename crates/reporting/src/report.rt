@@ -1,34 +1,38 @@
 // What a call answered, put at the end of a text.
-ghost use Rattle.std.specs.Prelude.{◌≡◌, ◌++◌, ◌+◌, ◌*◌, ◌≤◌, length};
+ghost use Rattle.std.specs.Prelude.{◌≡◌, ◌+◌, ◌*◌, ◌≤◌, length};
+ghost use Rattle.blocks.specs.Bytes.{splice};
 ghost use Rattle.printing.specs.Text.{answer_room, byte_room, record_room, answer_text, byte_text, record_text, records_text};
 
 use calls::answer::{Answer, Record};
-use printing::text::FixedText;
+use printing::text::Text;
 
 // The number and the place of an answer.
-pub fn put_answer<const N: usize>(out: &mut FixedText<N>, a: Answer)
-    requires { length out.old + answer_room ≤ N }
-    ensures value { out.new ≡ out.old ++ answer_text a }
-    ensures upper_bound { length out.new ≤ length out.old + answer_room }
+pub fn put_answer(out: &mut Text<'_>, a: Answer)
+    requires { out.old.length + answer_room ≤ length out.old.bytes.now }
+    ensures value { (out.new.length ≡ out.old.length + length (answer_text a)) × (out.new.bytes.now ≡ splice out.old.bytes.now out.old.length (answer_text a)) }
+    ensures upper_bound { out.new.length ≤ out.old.length + answer_room }
+    ensures lent { (out.new.bytes.ghost_name ≡ out.old.bytes.ghost_name) × (length out.new.bytes.now ≡ length out.old.bytes.now) }
 {
     out.put_field(b"answer=", a.number);
     out.put_field(b" place=", a.place);
 }
 
 // The byte that a read adds to its answer.
-pub fn put_byte<const N: usize>(out: &mut FixedText<N>, b: u8)
-    requires { length out.old + byte_room ≤ N }
-    ensures value { out.new ≡ out.old ++ byte_text b }
-    ensures upper_bound { length out.new ≤ length out.old + byte_room }
+pub fn put_byte(out: &mut Text<'_>, b: u8)
+    requires { out.old.length + byte_room ≤ length out.old.bytes.now }
+    ensures value { (out.new.length ≡ out.old.length + length (byte_text b)) × (out.new.bytes.now ≡ splice out.old.bytes.now out.old.length (byte_text b)) }
+    ensures upper_bound { out.new.length ≤ out.old.length + byte_room }
+    ensures lent { (out.new.bytes.ghost_name ≡ out.old.bytes.ghost_name) × (length out.new.bytes.now ≡ length out.old.bytes.now) }
 {
     out.put_field(b" byte=", u32::from(b));
 }
 
 // A record of a listing, with the line feed that ends it.
-fn put_record<const N: usize>(out: &mut FixedText<N>, r: Record)
-    requires { length out.old + record_room ≤ N }
-    ensures value { out.new ≡ out.old ++ record_text r }
-    ensures upper_bound { length out.new ≤ length out.old + record_room }
+fn put_record(out: &mut Text<'_>, r: Record)
+    requires { out.old.length + record_room ≤ length out.old.bytes.now }
+    ensures value { (out.new.length ≡ out.old.length + length (record_text r)) × (out.new.bytes.now ≡ splice out.old.bytes.now out.old.length (record_text r)) }
+    ensures upper_bound { out.new.length ≤ out.old.length + record_room }
+    ensures lent { (out.new.bytes.ghost_name ≡ out.old.bytes.ghost_name) × (length out.new.bytes.now ≡ length out.old.bytes.now) }
 {
     out.put(b"name=");
     out.put_name(r.name);
@@ -39,10 +43,11 @@ fn put_record<const N: usize>(out: &mut FixedText<N>, r: Record)
 }
 
 // The records, one after the other.
-pub fn put_records<const N: usize>(out: &mut FixedText<N>, records: &[Record])
-    requires { length out.old + record_room * length records.now ≤ N }
-    ensures value { out.new ≡ out.old ++ records_text records.now }
-    ensures upper_bound { length out.new ≤ length out.old + record_room * length records.now }
+pub fn put_records(out: &mut Text<'_>, records: &[Record])
+    requires { out.old.length + record_room * length records.now ≤ length out.old.bytes.now }
+    ensures value { (out.new.length ≡ out.old.length + length (records_text records.now)) × (out.new.bytes.now ≡ splice out.old.bytes.now out.old.length (records_text records.now)) }
+    ensures upper_bound { out.new.length ≤ out.old.length + record_room * length records.now }
+    ensures lent { (out.new.bytes.ghost_name ≡ out.old.bytes.ghost_name) × (length out.new.bytes.now ≡ length out.old.bytes.now) }
 {
     for r in records {
         put_record(out, *r);

@@ -4,7 +4,7 @@
 ghost use Rattle.std.specs.Prelude.{◌≤◌, length};
 
 use answers::print;
-use printing::text::Text;
+use printing::text::{LINE_ROOM, Text};
 use sheet::state::Sheet;
 use std::io::{Read, Write};
 use turns::next;
@@ -31,7 +31,8 @@ fn read_full<R: Read>(from: &mut R, buf: &mut [u8]) -> usize
 
 fn main(rt: HostRuntime) {
     let mut stdout = rt.stdout();
-    let mut out = Text::new();
+    let mut room = [0; LINE_ROOM];
+    let mut out = Text::new(&mut room);
     let mut input = [0; INPUT_SIZE];
     let got = read_full(&mut rt.stdin(), &mut input);
     if MOST_SHEET < got {

@@ -1,11 +1,11 @@
--- `print_line` meets its contract: its four parts, one after the other.
-use Rattle.std.proofs.Common.{◌≡◌, Result, Ok, Err, refl, ap, append_assoc}
+-- `print_line` meets its contract: its answer and its addition are those of what the line returned.
+use Rattle.std.proofs.Common.{◌≡◌, Result, Ok, Err, refl, ap}
 use Rattle.std.specs.Result.{MatchResult, IsOkAnd, result_unwrap_or}
 use Rattle.calls.specs.declared.answer.Refusal.{Refusal}
 use Rattle.calls.specs.Call.{answered}
 use Rattle.sheet.specs.declared.run.Addition.{Addition}
 use Rattle.sheet.specs.declared.run.Addition.TheVariants.{Nothing}
-use Rattle.sheet.specs.Sheet.{added, line_text}
+use Rattle.sheet.specs.Sheet.{added}
 use Rattle.answers.proofs.print.print_line.Goals as goal
 
 -- what `map` and `unwrap_or` give
@@ -19,7 +19,5 @@ taken (Ok a) = refl
 taken (Err e) = refl
 
 pub returns-clause-value : goal.returns-clause-value
-unfolding line_text
-returns-clause-value g c =
-    rw (c.put_added_records.ensures.value, c.put.ensures, c.put_added_byte.ensures.value, c.put_answer.ensures.value, c.clear.ensures, c.from.ensures, c.unwrap_or-addition.ensures, taken c.args.outcome, mapped _ c.args.outcome c.map.result c.map.ensures.cases)
-    (simp append_assoc)
+returns-clause-value c =
+    rw (c.from.ensures, c.unwrap_or-addition.ensures, taken c.args.outcome, mapped _ c.args.outcome c.map.result c.map.ensures.cases) at c.print_answered.ensures.value

@@ -1,5 +1,6 @@
 -- `put_added_byte` meets its contract, case by case.
-use Rattle.std.proofs.Common.{◌≡◌, [], ℕ, sym, refl, append-nil, arith}
+use Rattle.std.proofs.Common.{◌≡◌, [], ℕ, refl, arith}
+use Rattle.printing.proofs.TextLaws.{put_none}
 use Rattle.sheet.specs.declared.run.Addition.{Addition}
 use Rattle.sheet.specs.declared.run.Addition.TheVariants.{Nothing, Byte, FirstRecords}
 use Rattle.sheet.specs.Sheet.{added_byte}
@@ -13,7 +14,7 @@ no_byte (FirstRecords n) h = refl
 
 pub returns-in-Byte-clause-value : goal.returns-in-Byte-clause-value
 unfolding added_byte
-returns-in-Byte-clause-value g c = rw c.in-Byte.is c.put_byte.ensures.value
+returns-in-Byte-clause-value c = rw c.in-Byte.is c.put_byte.ensures.value
 
 pub returns-in_default : goal.returns-in_default
-returns-in_default g c = record { value = rw (no_byte c.args.addition c.in_default.not-Byte) (sym (append-nil _)); upper_bound = omega arith }
+returns-in_default c = record { value = rw (no_byte c.args.addition c.in_default.not-Byte) (put_none _ _); upper_bound = omega arith; lent = (refl, refl) }

@@ -1,15 +1,19 @@
 -- `put_records` meets its contract: after i turns the text of the first i records is put.
-use Rattle.std.proofs.Common.{sym, append-nil, arith}
-use Rattle.printing.specs.Text.{records_text}
-use Rattle.printing.proofs.TextLaws.{records_more}
+use Rattle.std.proofs.Common.{◌+◌, ◌*◌, ◌≤◌, ◌∙◌, refl, arith}
+use Rattle.printing.proofs.TextLaws.{records_none, records_more, records_all}
 use Rattle.reporting.proofs.report.put_records.Goals as goal
 
 pub loop-r-init : goal.loop-r-init
-unfolding records_text
-loop-r-init g c = record { put = sym (append-nil _); short = omega arith }
+loop-r-init c = record { put = records_none _ _ _; short = omega arith; lent = (refl, refl) }
 
 pub loop-r-preserved : goal.loop-r-preserved
-loop-r-preserved g c = record {
-  put = records_more _ _ _ c.loop-r-test.true _ _ _ c.loop-r.invariant.put c.put_record.ensures.value;
-  short = omega (arith, c.put_record.ensures.upper_bound);
-}
+loop-r-preserved c =
+    let far : c.put_record.new.out.length ≤ c.args.out.now.length + 80 * (c.loop-r.r-index + 1) = omega (arith, c.put_record.ensures.upper_bound, c.loop-r.invariant.short) in
+    record {
+      put = records_more _ _ _ _ _ _ _ _ _ c.loop-r-test.true c.loop-r.invariant.put c.put_record.ensures.value (omega (arith, far, c.requires, c.loop-r-test.true));
+      short = far;
+      lent = (c.put_record.ensures.lent.0 ∙ c.loop-r.invariant.lent.0, c.put_record.ensures.lent.1 ∙ c.loop-r.invariant.lent.1);
+    }
+
+pub returns-clause-value : goal.returns-clause-value
+returns-clause-value c = records_all _ _ _ _ _ _ (omega (arith, c.loop-r-test.false, c.loop-r.auto.r-index-end)) c.loop-r.invariant.put

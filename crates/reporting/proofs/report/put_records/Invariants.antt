@@ -1,10 +1,11 @@
 -- `put_records` meets its contract: after i turns the text of the first i records is put.
-use Rattle.std.proofs.Common.{◌≡◌, ◌++◌, ◌+◌, ◌*◌, ◌≤◌, length, take}
-use Rattle.printing.specs.Text.{records_text}
+use Rattle.std.proofs.Common.{◌≡◌, ◌+◌, ◌*◌, ◌≤◌, length}
+use Rattle.printing.proofs.TextLaws.{Put, first_text}
 use Rattle.reporting.proofs.report.put_records.Given as goal
 
 abbrev pub invariant-loop-r : goal.invariant-loop-r
-invariant-loop-r g l = record {
-  put : l.out ≡ l.initial.out ++ records_text (take l.r-index l.records);
-  short : length l.out ≤ length l.initial.out + 80 * l.r-index;
+invariant-loop-r l = record {
+  put : Put l.initial.out.bytes.now l.initial.out.length (first_text l.records l.r-index) l.out.length l.out.bytes.now;
+  short : l.out.length ≤ l.initial.out.length + 80 * l.r-index;
+  lent : (l.out.bytes.ghost_name ≡ l.initial.out.bytes.ghost_name) × (length l.out.bytes.now ≡ length l.initial.out.bytes.now);
 }

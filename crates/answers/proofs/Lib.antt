@@ -1,0 +1,2 @@
+-- Laws of what a line prints.
+pub mod PrintLaws
