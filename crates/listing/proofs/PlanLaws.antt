@@ -17,7 +17,7 @@ use Rattle.calls.specs.Call.{accepted, refused}
 use Rattle.calls.specs.Parts.{descriptors_of, SoundCard}
 use Rattle.calls.specs.Ladder.{admission, first_row}
 use Rattle.calls.specs.Step.{is_accepted}
-use Rattle.calls.specs.Listing.{Filling, Plan, filling_as, filling_with, filling_of, filling_by, plan_of, record_by, filled}
+use Rattle.calls.specs.Listing.{Filling, Plan, filling_as, filling_with, filling_of, filling_by, plan_of, ListReady, record_by, filled}
 use Rattle.calls.proofs.CardLaws.{card_sound, chain_is}
 use Rattle.calls.proofs.ResultLaws.{refused_test}
 use Rattle.calls.proofs.ListingLaws.{sound_long, sound_inside}
@@ -62,6 +62,11 @@ module _ (c starts : List ℕ) (n : ℕ) (s : SoundCard c n (take (n + 1) starts
   places_are : take (n + 1) starts ≡ starts_of (descriptors_of c)
   unfolding regions_of
   places_are = sym (ap (λ (r : Regions). r.starts) s.regions) ∙ ap (λ (ch : Chain). (regions_of ch).starts) (chain_is (chain c) (card_sound c _ (sym s.regions) refl))
+
+  -- so the code knows of the walk what a listing must know
+  pub walk_ready : ListReady c true 0 n (take (n + 1) starts)
+  unfolding walk_of
+  walk_ready = record { sound_is = rw s.regions; place_is = rw s.regions; count_is = rw s.regions; starts_are = λ whole. places_are; long = omega (arith, sound_long c (take (n + 1) starts) n s) }
 
   pub fill_ready : (n < length starts) × ((j : ℕ) → j < n → 512 * get_or starts j 0 + 512 ≤ length c)
   fill_ready = (places_long, λ j h. omega (arith, (sound_inside c (take (n + 1) starts) n s j h).1, get_or-take (n + 1) starts j 0 (omega arith)))

@@ -9,7 +9,7 @@ ghost use Rattle.calls.specs.Call.{Listing, Records, answered};
 ghost use Rattle.calls.specs.Parts.{SoundCard};
 ghost use Rattle.calls.specs.Ladder.{admission, first_row};
 ghost use Rattle.calls.specs.Step.{is_accepted, step, done};
-ghost use Rattle.calls.specs.Listing.{filling_as, filling_of, filling_by, plan_of, record_by, filled, record_count};
+ghost use Rattle.calls.specs.Listing.{filling_as, filling_of, filling_by, plan_of, ListReady, record_by, filled, record_count};
 
 use admitting::area;
 use blocks::descriptor;
@@ -28,6 +28,7 @@ pub fn count_listed(card: &[u8], starts: &mut [u32], room: usize) -> Result<usiz
     ensures plan { is_accepted (first_row (admission card.now)) ≡ true → starts.old ≡ replicate starts_size 0 → let f = filling_as result in record { answer = f.answer; count = f.count; starts = starts.new } ≡ plan_of card.now room }
     ensures starts_after { starts.new ≡ pick (is_accepted (first_row (admission card.now))) (places_left card.now starts.old) starts.old }
     ensures sound { IfOk result (λ n. SoundCard card.now n (take (n + 1) starts.new)) }
+    ensures ready { IfOk result (λ n. ListReady card.now true 0 n (take (n + 1) starts.new)) }
     ensures upper_bound { IfOk result (λ n. (n ≤ room) × (n < length starts.old)) }
 {
     area::admit(card)?;

@@ -5,7 +5,7 @@ use lib.ListN.{take}
 use Rattle.calls.specs.Parts.{SoundCard}
 use Rattle.calls.proofs.ResultLaws.{refused_test, is_passed, admitted, walk_card}
 use Rattle.calls.proofs.ListingLaws.{list_1, list_6, list_14, filling_refused, filling_accepted}
-use Rattle.listing.proofs.PlanLaws.{found_1, found_6, found_14, found_0, plan_is}
+use Rattle.listing.proofs.PlanLaws.{found_1, found_6, found_14, found_0, plan_is, walk_ready}
 use Rattle.listing.proofs.list.count_listed.Goals as goal
 use Rattle.listing.proofs.list.count_listed.Goals.{In_ok-count}
 
@@ -41,6 +41,9 @@ returns-clause-filling c = found_0 _ _ c.in_ok-admit.ensures _ c.in_ok-count.ens
 
 pub returns-clause-sound : goal.returns-clause-sound
 returns-clause-sound c = sound (goal.at.returns-clause-sound c).In_ok-count
+
+pub returns-clause-ready : goal.returns-clause-ready
+returns-clause-ready c = walk_ready _ _ _ (sound (goal.at.returns-clause-ready c).In_ok-count)
 
 -- the places: as they were where the area is no card, else as the walk leaves them
 pub returns-in_err-admit-clause-starts_after : goal.returns-in_err-admit-clause-starts_after

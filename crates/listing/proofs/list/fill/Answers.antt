@@ -10,7 +10,10 @@ pub loop-k-init : goal.loop-k-init
 loop-k-init c = take-append-drop _ _ ∙ sym (filled_none _ _ _ _)
 
 pub record_of-requires : goal.record_of-requires
-record_of-requires c = record_ready _ _ _ c.requires.1 _ (omega (arith, length-take-le _ _ c.requires.0)) c.requires.2
+record_of-requires c =
+    let inside : c.loop-k.k < c.args.n = omega (arith, length-take-le _ _ c.requires.0) in
+    let ready = record_ready c.args.card.now c.args.starts.now c.args.n c.requires.1 c.loop-k.k inside c.requires.2 in
+    (omega (arith, inside, c.requires.1, ready.0), omega (arith, c.requires.2 c.loop-k.k inside, ready.1))
 
 pub loop-k-preserved : goal.loop-k-preserved
 loop-k-preserved c =
