@@ -108,7 +108,10 @@ impl<'a> Walked<'a> {
                 return Err(Misplaced(alpha));
             }
             if !table.is_nil() {
-                self.take_table(i, table, seen)?;
+                // the fault is the table's, and not the descriptor's, which named it
+                if let Err(fault) = self.take_table(i, table, seen) {
+                    return Err(fault);
+                }
             }
         }
         if !is_clear_from(self.card, alpha, PHI_START + 4 * (n as usize)) {

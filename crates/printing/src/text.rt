@@ -1,5 +1,5 @@
 // What a line prints, as text put into lent memory.
-ghost use Rattle.std.specs.Prelude.{◌≡◌, ◌∷◌, [], ◌++◌, ◌+◌, ◌*◌, ◌≤◌, ◌<◌, length, take};
+ghost use Rattle.std.specs.Prelude.{◌≡◌, ◌∷◌, [], ◌++◌, ◌+◌, ◌≤◌, ◌<◌, length, take};
 ghost use Rattle.blocks.specs.Bytes.{splice};
 ghost use Rattle.blocks.specs.Name.{name_size};
 ghost use Rattle.printing.specs.Text.{most_digits, decimal, name_text};
