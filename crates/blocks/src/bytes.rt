@@ -17,12 +17,12 @@ pub fn array_at<const N: usize>(area: &[u8], at: usize) -> [u8; N]
 }
 
 // The number of 32 bits at `at`, lowest byte first.
-#[tactic(auto, using(crate::proofs::ByteLaws::u32_read))]
+#[tactic(auto, unfolding(crate::specs::Bytes::u32_at))]
 pub fn get_u32(area: &[u8], at: usize) -> u32
     requires { at + 4 ≤ length area.now }
     ensures { result ≡ u32_at area.now at }
 {
-    u32::from_le_bytes(array_at(area, at))
+    u32::from_le_bytes([area[at], area[at + 1], area[at + 2], area[at + 3]])
 }
 
 // The two numbers of 32 bits at `at` and after it, as one.

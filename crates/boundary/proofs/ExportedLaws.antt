@@ -1,14 +1,15 @@
 -- Laws of names as a caller gives them, of the padding of a name, and of the name that a visit stores.
-use mathlib.Core.Path.{◌≡◌, refl, ap}
+use mathlib.Core.Path.{◌≡◌, refl, sym, ap, ◌∙◌}
 use mathlib.Core.Bool.{Bool, true, false}
 use mathlib.Core.List.{List}
 use Prim.Native.Nat.{ℕ}
-use lib.ListN.{length}
+use lib.ListN.{length, take}
+use lib.Seq.{take-length}
 use borrow.Author.Tests.{eq-eqb, ne_eqb}
-use Rattle.std.specs.Prelude.{Option, Some, None, Result, Ok, Err, MatchResult, ⊤, ◌≢◌, is_ok, unwrap_or}
+use Rattle.std.specs.Prelude.{Option, Some, None, Result, Ok, Err, MatchResult, ⊤, is_ok, unwrap_or}
 use Rattle.std.specs.Option.{option_flatten}
-use Rattle.std.specs.Result.{result_ok, result_unwrap_or}
-use Rattle.std.specs.Array.{IsWholeChunk}
+use Rattle.std.specs.Result.{result_ok}
+use Rattle.blocks.specs.Bytes.{part}
 use Rattle.blocks.specs.Name.{is_name, is_text, padded, no_name}
 use Rattle.blocks.proofs.NameLaws.{padded_name}
 use Rattle.calls.specs.declared.answer.Refusal.{Refusal}
@@ -17,10 +18,13 @@ use Rattle.calls.specs.Effect.{visited_as}
 use Rattle.boundary.specs.Exported.{name_in, Padding, padding_of}
 
 -- the name in lent bytes, by whether they are sixteen
-pub name_taken : {E : Type 0} (lent : List ℕ) (r : Result (List ℕ) E) → MatchResult r (λ name. IsWholeChunk lent name 16) (λ e. length lent ≢ 16) → result_unwrap_or r no_name ≡ name_in lent
+pub name_other : (lent : List ℕ) → (length lent ≡ 16 → ⊥) → no_name ≡ name_in lent
 unfolding name_in
-name_taken lent (Ok name) h = rw (eq-eqb (length lent) 16 h.long, h.same)
-name_taken lent (Err e) h = rw (ne_eqb (length lent) 16 h)
+name_other lent h = rw (ne_eqb (length lent) 16 h)
+
+pub name_whole : (lent name : List ℕ) → length lent ≡ 16 → name ≡ part lent 0 16 → name ≡ name_in lent
+unfolding name_in
+name_whole lent name h e = rw (eq-eqb (length lent) 16 h, e) (ap (λ (n : ℕ). take n lent) (sym h) ∙ take-length lent)
 
 -- the padding of a name, by the tests of the code
 module _ (text name : List ℕ) where

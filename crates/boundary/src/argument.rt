@@ -3,14 +3,19 @@ ghost use Rattle.std.specs.Prelude.{◌≡◌};
 ghost use Rattle.calls.specs.Call.{Snapshot, target_as, name_as};
 ghost use Rattle.boundary.specs.Exported.{name_in, target_in};
 
+use blocks::bytes;
 use blocks::sizes::NAME_SIZE;
 use calls::answer::Target;
 
 // The name in lent bytes, sixteen zeros where they are not sixteen.
+#[tactic(auto, using(crate::proofs::ExportedLaws::name_other, crate::proofs::ExportedLaws::name_whole))]
 pub fn name_in(lent: &[u8]) -> [u8; NAME_SIZE]
     ensures { result ≡ name_in lent.now }
 {
-    <[u8; NAME_SIZE]>::try_from(lent).unwrap_or([0; NAME_SIZE])
+    if lent.len() != NAME_SIZE {
+        return [0; NAME_SIZE];
+    }
+    bytes::array_at(lent, 0)
 }
 
 // The active store at 0, else the snapshot of the name.

@@ -29,7 +29,11 @@ pub fn run_ream(
         revision: 0,
         name,
     };
-    ream::ream(&mut sheet.area[..end], format)?;
-    sheet.blocks = size;
+    let outcome = ream::ream(&mut sheet.area[..end], format);
+    // a refusal, whichever it is, leaves the card what it was
+    if !matches!(outcome, Err(_)) {
+        sheet.blocks = size;
+    }
+    outcome?;
     Ok(Addition::Nothing)
 }

@@ -7,21 +7,22 @@ use native.Mathlib.Omega.{arith}
 use lib.ListN.{length, take, get_or, replicate, length-take}
 use lib.Seq.{length-take-le, get_or-take}
 use borrow.Author.Tests.{lt-ltb, le-ltb}
-use Rattle.std.specs.Prelude.{Ok, Err}
+use Rattle.std.specs.Prelude.{Result, Ok, Err, IfOk}
+use Rattle.std.specs.Result.{IfErr}
 use Rattle.blocks.specs.Pick.{pick}
 use Rattle.chains.specs.Chain.{Chain, Walk, Regions, chain, walk_of, regions_of, starts_of}
 use Rattle.chains.specs.Walk.{places_left}
 use Rattle.calls.specs.declared.answer.Refusal.{Refusal}
 use Rattle.calls.specs.declared.answer.Record.{Record}
-use Rattle.calls.specs.Call.{accepted, refused}
+use Rattle.calls.specs.Call.{accepted, refused, answered}
 use Rattle.calls.specs.Parts.{descriptors_of, SoundCard}
 use Rattle.calls.specs.Ladder.{admission, first_row}
 use Rattle.calls.specs.Step.{is_accepted}
-use Rattle.calls.specs.Listing.{Filling, Plan, filling_as, filling_with, filling_of, filling_by, plan_of, ListReady, record_by, filled}
+use Rattle.calls.specs.Listing.{Filling, Plan, filling_as, filling_with, filling_of, filling_by, plan_of, ListReady, record_by}
 use Rattle.calls.proofs.CardLaws.{card_sound, chain_is}
 use Rattle.calls.proofs.ResultLaws.{refused_test}
 use Rattle.calls.proofs.ListingLaws.{sound_long, sound_inside}
-use Rattle.calls.proofs.PlanLaws.{PlanFor, filled_none, filled_all}
+use Rattle.calls.proofs.PlanLaws.{PlanFor}
 
 -- what a listing answers and fills, by what the walk finds
 abbrev pub walk_filling : List ℕ → ℕ → Filling
@@ -82,11 +83,25 @@ module _ (c starts : List ℕ) (records : List Record) where
           let z : ◌≡◌ {A = ℕ} 0 1 = cc in
           absurd (omega arith)
 
-  pub none_filled : records ≡ filled c starts records 0
-  none_filled = sym (filled_none c starts records 0) ∙ filled_all c starts records 0 0 refl
-
   pub plan_accepted : (n : ℕ) → SoundCard c n (take (n + 1) starts) → filling_as (Ok n) ≡ filling_of c records → PlanFor c records (record { answer = accepted; count = n; starts = starts })
   plan_accepted n s told = record { filling = told; starts_are = λ ok. places_are c starts n s; some = omega (arith, places_long c starts n s) }
+
+-- the same of an answer and a number of records to fill, and what is asked to fill them
+module _ (c starts : List ℕ) {X : Type 0} (r : Result X Refusal) (n : ℕ) (told : IfOk r (λ x. SoundCard c n (take (n + 1) starts))) (none : IfErr r (λ e. n ≡ 0)) (some : n < length starts) where
+  pub plan_ready : (n < length starts) × ((j : ℕ) → j < n → 512 * get_or starts j 0 + 512 ≤ length c)
+  plan_ready = by r told none
+    where
+      by : (q : Result X Refusal) → IfOk q (λ x. SoundCard c n (take (n + 1) starts)) → IfErr q (λ e. n ≡ 0) → (n < length starts) × ((j : ℕ) → j < n → 512 * get_or starts j 0 + 512 ≤ length c)
+      by (Ok x) s z = fill_ready c starts n s
+      by (Err e) s z = (some, λ j h. absurd (omega (arith, h, z)))
+
+  pub plan_made : (records : List Record) → record { answer = answered r; count = n } ≡ filling_of c records → PlanFor c records (record { answer = answered r; count = n; starts = starts })
+  plan_made records = by r told none
+    where
+      by : (q : Result X Refusal) → IfOk q (λ x. SoundCard c n (take (n + 1) starts)) → IfErr q (λ e. n ≡ 0) → record { answer = answered q; count = n } ≡ filling_of c records
+          → PlanFor c records (record { answer = answered q; count = n; starts = starts })
+      by (Ok x) s z e = plan_accepted c starts records n s e
+      by (Err f) s z e = rw z (plan_refused c starts records f (rw z at e) (omega (arith, some)))
 
 -- the record of region k of n by the first places alone, and what is asked for it
 module _ (c starts : List ℕ) (n : ℕ) (long : n < length starts) (k : ℕ) (h : k < n) where

@@ -1,5 +1,6 @@
 // A listing of the chain.
 ghost use Rattle.std.specs.Prelude.{◌≡◌, true, List, ℕ, ◌+◌, ◌*◌, ◌-◌, ◌≤◌, ◌<◌, length, take, replicate, get_or, IfOk};
+ghost use Rattle.std.specs.Result.{IfErr};
 ghost use Rattle.blocks.specs.Pick.{pick};
 ghost use Rattle.blocks.specs.Bytes.{block_size};
 ghost use Rattle.chains.specs.Chain.{chain, starts_size, walk_of};
@@ -19,8 +20,31 @@ use calls::answer::{Record, Refusal};
 use indexing::index;
 use walking::chain;
 
-// All tests of a listing into `room` records, in their order: how many records it fills. The first of the places, one more than that, are then set to where the
-// regions start and where the last one ends.
+// What a listing into `room` records answers, by all its tests in their order, and how many records it fills: none where it is refused. Where it is accepted the
+// first of the places, one more than that, are then set to where the regions start and where the last one ends.
+fn make_plan(card: &[u8], starts: &mut [u32], room: usize) -> (Result<(), Refusal>, usize)
+    requires { Enough card.now starts.old }
+    ensures value { (records : List RecordOf) → length records ≡ room → record { answer = answered result.0; count = result.1 } ≡ filling_of card.now records }
+    ensures filling { let w = walk_of (chain card.now) in record { answer = answered result.0; count = result.1 } ≡ filling_by card.now w.sound w.place.0 w.count room }
+    ensures starts_after { starts.new ≡ pick (is_accepted (first_row (admission card.now))) (places_left card.now starts.old) starts.old }
+    ensures sound { IfOk result.0 (λ u. SoundCard card.now result.1 (take (result.1 + 1) starts.new)) }
+    ensures none { IfErr result.0 (λ r. result.1 ≡ 0) }
+    ensures upper_bound { (result.1 ≤ room) × (result.1 < length starts.old) }
+{
+    if let Err(refusal) = area::admit(card) {
+        return (Err(refusal), 0);
+    }
+    let count = match chain::walk_chain(card, starts) {
+        Ok(count) => count,
+        Err(unsound) => return (Err(Refusal::from(unsound)), 0),
+    };
+    if room < count {
+        return (Err(Refusal::TooFewRecords), 0);
+    }
+    (Ok(()), count)
+}
+
+// How many records a listing into `room` records fills, or its refusal: the plan for a caller that fills none where it is refused. The places are as the plan leaves them.
 pub fn count_listed(card: &[u8], starts: &mut [u32], room: usize) -> Result<usize, Refusal>
     requires { Enough card.now starts.old }
     ensures value { (records : List RecordOf) → length records ≡ room → filling_as result ≡ filling_of card.now records }
@@ -31,11 +55,8 @@ pub fn count_listed(card: &[u8], starts: &mut [u32], room: usize) -> Result<usiz
     ensures ready { IfOk result (λ n. ListReady card.now true 0 n (take (n + 1) starts.new)) }
     ensures upper_bound { IfOk result (λ n. (n ≤ room) × (n < length starts.old)) }
 {
-    area::admit(card)?;
-    let count = chain::walk_chain(card, starts)?;
-    if room < count {
-        return Err(Refusal::TooFewRecords);
-    }
+    let (answer, count) = make_plan(card, starts, room);
+    answer?;
     Ok(count)
 }
 
@@ -82,9 +103,9 @@ fn list_in<const PLACES: usize>(card: &[u8], records: &mut [Record]) -> Result<(
     ensures { done (answered result) (Records records.new) card.now ≡ step (Listing records.old) card.now }
 {
     let mut starts = [0u32; PLACES];
-    let count = count_listed(card, &mut starts, records.len())?;
+    let (answer, count) = make_plan(card, &mut starts, records.len());
     fill(card, &starts, records, count);
-    Ok(())
+    answer
 }
 
 // How many of the records a listing has filled: up to the first whose next is 0, that one too.

@@ -87,7 +87,10 @@ pub extern "C" fn mantreuy_visit(
     let target = argument::target_in(snapshot, name);
     let visited = visit::visit(card, target, Logical(block));
     *visit = visited.ok().flatten().unwrap_or([0; NAME_SIZE]);
-    give(visited.map(|_| ()), place)
+    // as `give` does, in this call alone
+    let outcome = Answer::from(visited.map(|_| ()));
+    *place = outcome.place;
+    outcome.number
 }
 
 // Writes a block of the active store.

@@ -27,19 +27,20 @@ pub fn put_byte(out: &mut Text<'_>, b: u8)
     out.put_field(b" byte=", u32::from(b));
 }
 
-// A record of a listing, with the line feed that ends it.
-fn put_record(out: &mut Text<'_>, r: Record)
-    requires { out.old.length + record_room ≤ length out.old.bytes.now }
-    ensures value { (out.new.length ≡ out.old.length + length (record_text r)) × (out.new.bytes.now ≡ splice out.old.bytes.now out.old.length (record_text r)) }
-    ensures upper_bound { out.new.length ≤ out.old.length + record_room }
-    ensures lent { (out.new.bytes.ghost_name ≡ out.old.bytes.ghost_name) × (length out.new.bytes.now ≡ length out.old.bytes.now) }
+// A record of a listing, with the line feed that ends it, put at index `at` of the lent bytes: the index after it.
+fn put_record(bytes: &mut [u8], at: usize, r: Record) -> usize
+    requires { at + record_room ≤ length bytes.old }
+    ensures value { (result ≡ at + length (record_text r)) × (bytes.new ≡ splice bytes.old at (record_text r)) }
+    ensures upper_bound { result ≤ at + record_room }
 {
+    let mut out = Text::after(bytes, at);
     out.put(b"name=");
     out.put_name(r.name);
     out.put_field(b" alpha=", r.alpha.0);
     out.put_field(b" beta=", r.beta.0);
     out.put_field(b" next=", r.next.0);
     out.put(b"\n");
+    out.length
 }
 
 // The records, one after the other.
@@ -49,7 +50,9 @@ pub fn put_records(out: &mut Text<'_>, records: &[Record])
     ensures upper_bound { out.new.length ≤ out.old.length + record_room * length records.now }
     ensures lent { (out.new.bytes.ghost_name ≡ out.old.bytes.ghost_name) × (length out.new.bytes.now ≡ length out.old.bytes.now) }
 {
+    let mut next = out.length;
     for r in records {
-        put_record(out, *r);
+        next = put_record(out.bytes, next, *r);
     }
+    out.length = next;
 }

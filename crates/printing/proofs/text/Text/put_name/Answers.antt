@@ -4,4 +4,4 @@ use Rattle.printing.proofs.text.Text.put_name.Goals as goal
 
 pub returns-clause-value : goal.returns-clause-value
 unfolding name_text
-returns-clause-value c = rw (← c.name_length.ensures.value) c.put.ensures.value
+returns-clause-value c = rw c.name_length.ensures.value at c.put.ensures.value

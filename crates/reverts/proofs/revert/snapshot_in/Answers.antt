@@ -1,4 +1,4 @@
--- `activated_in` meets its contract: the walk with the places that it has, and the snapshot by its index.
+-- `snapshot_in` meets its contract: the walk with the places that it has, and the snapshot by its index.
 use mathlib.Core.Path.{refl, sym, ◌∙◌}
 use Prim.Native.Nat.{◌+◌}
 use lib.ListN.{take}
@@ -7,9 +7,9 @@ use Rattle.calls.specs.Parts.{SoundCard}
 use Rattle.calls.proofs.CardLaws.{card_ready, card_first}
 use Rattle.calls.proofs.ResultLaws.{passed_on, walk_card, walk_places}
 use Rattle.calls.proofs.RevertLaws.{revert_6, revert_7, revert_0, snapshot_found}
-use Rattle.reverts.proofs.revert.activated_in.Goals as goal
-use Rattle.reverts.proofs.revert.activated_in.Goals.{In_ok-count}
-use Rattle.reverts.proofs.revert.activated_in.Given.{Over}
+use Rattle.reverts.proofs.revert.snapshot_in.Goals as goal
+use Rattle.reverts.proofs.revert.snapshot_in.Goals.{In_ok-count}
+use Rattle.reverts.proofs.revert.snapshot_in.Given.{Over}
 
 -- what is known past the walk
 sound : (g : Over) (c : In_ok-count g) → SoundCard c.args.card.now c.in_ok-count.count (take (c.in_ok-count.count + 1) c.walk_chain.new.starts)
@@ -34,4 +34,7 @@ pub returns-clause-answer : goal.returns-clause-answer
 returns-clause-answer g c = sym (revert_0 _ _ c.requires.0 c.requires.1 _ _ (sound g (goal.at.returns-clause-answer g c).In_ok-count) _ c.index_of.ensures.value c.index_of.ensures.upper_bound _ c.ok_or.ensures.value _ c.in_ok-k.was)
 
 pub returns-clause-value : goal.returns-clause-value
-returns-clause-value g c = rw (c.linked.ensures, c.renamed.ensures, c.descriptor-d.ensures, c.active.ensures.value, snapshot_found _ _ c.requires.0 c.requires.1 _ _ (sound g (goal.at.returns-clause-value g c).In_ok-count) _ c.index_of.ensures.value c.index_of.ensures.upper_bound _ c.ok_or.ensures.value _ c.in_ok-k.was)
+returns-clause-value g c = (
+  c.descriptor.ensures ∙ sym (snapshot_found _ _ c.requires.0 c.requires.1 _ _ (sound g (goal.at.returns-clause-value g c).In_ok-count) _ c.index_of.ensures.value c.index_of.ensures.upper_bound _ c.ok_or.ensures.value _ c.in_ok-k.was),
+  c.active.ensures.value,
+)
