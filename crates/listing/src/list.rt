@@ -26,6 +26,7 @@ fn make_plan(card: &[u8], starts: &mut [u32], room: usize) -> (Result<(), Refusa
     requires { Enough card.now starts.old }
     ensures value { (records : List RecordOf) → length records ≡ room → record { answer = answered result.0; count = result.1 } ≡ filling_of card.now records }
     ensures filling { let w = walk_of (chain card.now) in record { answer = answered result.0; count = result.1 } ≡ filling_by card.now w.sound w.place.0 w.count room }
+    ensures plan { is_accepted (first_row (admission card.now)) ≡ true → starts.old ≡ replicate starts_size 0 → record { answer = answered result.0; count = result.1; starts = starts.new } ≡ plan_of card.now room }
     ensures starts_after { starts.new ≡ pick (is_accepted (first_row (admission card.now))) (places_left card.now starts.old) starts.old }
     ensures sound { IfOk result.0 (λ u. SoundCard card.now result.1 (take (result.1 + 1) starts.new)) }
     ensures none { IfErr result.0 (λ r. result.1 ≡ 0) }

@@ -1,11 +1,12 @@
 -- `make_plan` meets its contract, test by test.
 use mathlib.Core.Path.{refl}
+use borrow.Author.Rules.{rules}
 use Prim.Native.Nat.{◌+◌}
 use lib.ListN.{take}
 use Rattle.calls.specs.Parts.{SoundCard}
 use Rattle.calls.proofs.ResultLaws.{refused_test, admitted, walk_card}
 use Rattle.calls.proofs.ListingLaws.{list_1, list_6, list_14, filling_refused, filling_accepted}
-use Rattle.listing.proofs.PlanLaws.{found_1, found_6, found_14, found_0}
+use Rattle.listing.proofs.PlanLaws.{found_1, found_6, found_14, found_0, plan_is}
 use Rattle.listing.proofs.list.make_plan.Goals as goal
 use Rattle.listing.proofs.list.make_plan.Goals.{In-Ok}
 
@@ -40,3 +41,16 @@ returns-clause-filling c = found_0 _ _ c.in_default.ensures _ c.in-Ok.ensures.va
 
 pub returns-clause-sound : goal.returns-clause-sound
 returns-clause-sound c = sound (goal.at.returns-clause-sound c).In-Ok
+
+-- so these and the places are the plan, where all places were lent as zeros
+pub returns-in-Err-clause-plan : goal.returns-in-Err-clause-plan
+returns-in-Err-clause-plan c = plan_is _ _ _ (returns-in-Err-clause-filling c) _ _ (search rules)
+
+pub returns-in-Err-walk_chain-clause-plan : goal.returns-in-Err-walk_chain-clause-plan
+returns-in-Err-walk_chain-clause-plan c = plan_is _ _ _ (returns-in-Err-walk_chain-clause-filling c) _ _ (search rules)
+
+pub returns-then-room-count-clause-plan : goal.returns-then-room-count-clause-plan
+returns-then-room-count-clause-plan c = plan_is _ _ _ (returns-then-room-count-clause-filling c) _ _ (search rules)
+
+pub returns-clause-plan : goal.returns-clause-plan
+returns-clause-plan c = plan_is _ _ _ (returns-clause-filling c) _ _ (search rules)

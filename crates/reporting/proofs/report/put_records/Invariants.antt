@@ -1,4 +1,4 @@
--- `put_records` meets its contract: after i turns the text of the first i records is put.
+-- `put_records` meets its contract: after i turns the text of the first i records is put, up to `next`, and the length of the text is not yet set.
 use Rattle.std.proofs.Common.{◌≡◌, ◌+◌, ◌*◌, ◌≤◌, length}
 use Rattle.printing.proofs.TextLaws.{Put, first_text}
 use Rattle.reporting.proofs.report.put_records.Given as goal

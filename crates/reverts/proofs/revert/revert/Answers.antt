@@ -18,16 +18,17 @@ use Rattle.calls.proofs.RowLaws.{named_4}
 use Rattle.calls.proofs.RevertLaws.{revert_ready, revert_inside, reopened, reverted}
 use Rattle.reverts.proofs.revert.revert.Goals as goal
 
--- the snapshot with a nil next: its region and its block are its own whatever name it gets, and with the active name it is what is gone back to
-module _ (c name n : List ℕ) (ok : accepted ≡ answer_of (Revert name) c) (d r v : Descriptor) (found : d ≡ with_name (snapshots_of (descriptors_of c)) name) (named : r ≡ renamed_of d n) (linked : v ≡ linked_of r (physical 0)) where
-  ready : (k : ℕ) → k ≡ cost_of v → (k ≡ cost_of v) × (v.alpha.0 + k ≤ v.beta.0) × (512 * (v.beta.0 + k) ≤ length c) × (v.beta.0 + k < 4294967296) × (1 ≤ k)
-  ready k e = rw (e, linked, named, found) (revert_ready c name ok _ refl _ refl)
-
-  inside : 512 * v.alpha.0 + 512 ≤ length c
-  inside = rw (linked, named, found) (revert_inside c name ok _ refl)
-
+-- the snapshot with a nil next: with the active name it is what is gone back to, and its region and its block are its own whatever name it gets
+module _ (c name n : List ℕ) (d r v : Descriptor) (found : d ≡ with_name (snapshots_of (descriptors_of c)) name) (named : r ≡ renamed_of d n) (linked : v ≡ linked_of r (physical 0)) where
   gone_back : n ≡ (active_of (descriptors_of c)).name → v ≡ activated c name
   gone_back e = rw (linked, named, found, e)
+
+  module _ (ok : accepted ≡ answer_of (Revert name) c) where
+    ready : (k : ℕ) → k ≡ cost_of v → (k ≡ cost_of v) × (v.alpha.0 + k ≤ v.beta.0) × (512 * (v.beta.0 + k) ≤ length c) × (v.beta.0 + k < 4294967296) × (1 ≤ k)
+    ready k e = rw (e, linked, named, found) (revert_ready c name ok _ refl _ refl)
+
+    inside : 512 * v.alpha.0 + 512 ≤ length c
+    inside = rw (linked, named, found) (revert_inside c name ok _ refl)
 
 pub returns-in_err-admit : goal.returns-in_err-admit
 unfolding lent_of
@@ -45,20 +46,20 @@ unfolding lent_of
 returns-in_err-v c = refused_on _ _ _ _ c.from_residual-in_err-v.ensures.1 (sym c.in_err-v.ensures.answer)
 
 pub revision_at-requires : goal.revision_at-requires
-revision_at-requires c = omega (arith, inside _ _ _ c.in_ok-v.ensures.answer _ _ _ c.in_ok-v.ensures.value.0 c.renamed.ensures c.linked-v.ensures)
+revision_at-requires c = omega (arith, inside _ _ _ _ _ _ c.in_ok-v.ensures.value.0 c.renamed.ensures c.linked-v.ensures c.in_ok-v.ensures.answer)
 
 pub open_region-requires : goal.open_region-requires
-open_region-requires c = ready _ _ _ c.in_ok-v.ensures.answer _ _ _ c.in_ok-v.ensures.value.0 c.renamed.ensures c.linked-v.ensures _ c.cost.ensures
+open_region-requires c = ready _ _ _ _ _ _ c.in_ok-v.ensures.value.0 c.renamed.ensures c.linked-v.ensures c.in_ok-v.ensures.answer _ c.cost.ensures
 
 pub put_descriptor-requires : goal.put_descriptor-requires
-put_descriptor-requires c = inside _ _ _ c.in_ok-v.ensures.answer _ _ _ c.in_ok-v.ensures.value.0 c.renamed.ensures c.linked-v.ensures
+put_descriptor-requires c = inside _ _ _ _ _ _ c.in_ok-v.ensures.value.0 c.renamed.ensures c.linked-v.ensures c.in_ok-v.ensures.answer
 
 pub returns-in-1 : goal.returns-in-1
 returns-in-1 c =
-    let back = gone_back _ _ _ c.in_ok-v.ensures.answer _ _ _ c.in_ok-v.ensures.value.0 c.renamed.ensures c.linked-v.ensures (ap (λ (a : Descriptor). a.name) c.in_ok-v.ensures.value.1) in
+    let back = gone_back _ _ _ _ _ _ c.in_ok-v.ensures.value.0 c.renamed.ensures c.linked-v.ensures (ap (λ (a : Descriptor). a.name) c.in_ok-v.ensures.value.1) in
     reopened _ _ c.in_ok-v.ensures.answer _ back _ c.revision_at.ensures _ c.in-1.is c.open_region.ensures
 
 pub returns-in_default : goal.returns-in_default
 returns-in_default c =
-    let back = gone_back _ _ _ c.in_ok-v.ensures.answer _ _ _ c.in_ok-v.ensures.value.0 c.renamed.ensures c.linked-v.ensures (ap (λ (a : Descriptor). a.name) c.in_ok-v.ensures.value.1) in
+    let back = gone_back _ _ _ _ _ _ c.in_ok-v.ensures.value.0 c.renamed.ensures c.linked-v.ensures (ap (λ (a : Descriptor). a.name) c.in_ok-v.ensures.value.1) in
     search (reverted, c.in_ok-v.ensures.answer, back, c.put_descriptor.ensures.card_after)
