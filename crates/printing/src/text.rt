@@ -36,12 +36,22 @@ impl<'a> Text<'a> {
         Text { bytes, length: at }
     }
 
-    // The bytes of the text.
-    pub fn as_bytes(&self) -> &[u8]
+    // The bytes of a text that is within the lent bytes.
+    pub fn bytes_within(&self) -> &[u8]
         requires { self.now.length ≤ length self.now.bytes.now }
         ensures { result.now ≡ take self.now.length self.now.bytes.now }
     {
         &self.bytes[..self.length]
+    }
+
+    // The bytes of the text: of one that is said to be longer than the lent bytes, all of these.
+    pub fn as_bytes(&self) -> &[u8]
+        ensures { result.now ≡ take self.now.length self.now.bytes.now }
+    {
+        if self.bytes.len() < self.length {
+            return self.bytes;
+        }
+        self.bytes_within()
     }
 
     // Takes all bytes off.
@@ -105,5 +115,26 @@ impl<'a> Text<'a> {
         ensures lent { (self.new.bytes.ghost_name ≡ self.old.bytes.ghost_name) × (length self.new.bytes.now ≡ length self.old.bytes.now) }
     {
         self.put(&name[..name::name_length(&name)]);
+    }
+}
+
+#[cfg(test)]
+mod tests {
+    use super::*;
+
+    #[test]
+    fn bytes_of_a_text(rt: HostRuntime) {
+        let wanted: [(usize, &[u8]); 5] = [
+            (0, b""),
+            (2, b"ab"),
+            (3, b"abc"),
+            (4, b"abc"),
+            (usize::MAX, b"abc"),
+        ];
+        for (length, want) in wanted {
+            let mut bytes = *b"abc";
+            let text = Text::after(&mut bytes, length);
+            assert_eq!(rt; text.as_bytes(), want, "at {length}");
+        }
     }
 }

@@ -37,7 +37,7 @@ fn main(rt: HostRuntime) {
     let got = read_full(&mut rt.stdin(), &mut input);
     if MOST_SHEET < got {
         print::print_too_long(&mut out);
-        let _ = stdout.write_all(out.as_bytes());
+        let _ = stdout.write_all(out.bytes_within());
         return;
     }
     let lines = &input[..got];
@@ -48,7 +48,7 @@ fn main(rt: HostRuntime) {
     while at < lines.len() {
         let turn = next::run_next(lines, at, number, &mut sheet, &mut out);
         // nothing is kept back: what a line prints is written before the next line runs
-        if stdout.write_all(out.as_bytes()).is_err() || turn.ended {
+        if stdout.write_all(out.bytes_within()).is_err() || turn.ended {
             return;
         }
         at = turn.next;
